@@ -1,0 +1,56 @@
+-- What stands at a place of a list of bytes, and the classes of bytes that document 01 names under "Lexing rules".
+-- Past the last byte stands `end`, which is no byte and in no class, so that no rule needs a case for it.
+use Prim.Native.Nat.{ℕ}
+use Prim.Native.Char.{code}
+use mathlib.Core.Bool.{Bool, _&&_, _||_, not}
+use mathlib.Core.List.{List}
+use lib.ListN.{getD}
+use lib.Dec.{leb, eqb}
+use Rattle.scan.specs.declared.Class.{Class}
+use Rattle.scan.specs.declared.Class.the-variants.{Space, Alpha, Digit, HexDigit, AlphaNumeric, Word, Comment}
+
+abbrev pub end : ℕ
+end = 256
+
+abbrev pub peekAt : List ℕ → ℕ → ℕ
+peekAt s i = getD s i end
+
+unfoldable pub isWithin : ℕ → ℕ → ℕ → Bool
+isWithin lo hi c = leb lo c && leb c hi
+
+-- "White space is bytes 9, 10, 12, 13, 32."
+unfoldable pub isSpace : ℕ → Bool
+isSpace c = eqb c 9 || (eqb c 10 || (eqb c 12 || (eqb c 13 || eqb c 32)))
+
+-- "Letters are ASCII letters and `_`."
+unfoldable pub isAlpha : ℕ → Bool
+isAlpha c =
+    isWithin (code "a") (code "z") c || (isWithin (code "A") (code "Z") c || eqb c (code "_"))
+
+abbrev pub isDigit : ℕ → Bool
+isDigit c = isWithin (code "0") (code "9") c
+
+unfoldable pub isHexDigit : ℕ → Bool
+isHexDigit c =
+    isDigit c || (isWithin (code "a") (code "f") c || isWithin (code "A") (code "F") c)
+
+-- inside braces a word has no colon
+unfoldable pub isAlphaNumeric : ℕ → Bool
+isAlphaNumeric c = isAlpha c || isDigit c
+
+-- "Outside braces a word .. goes on with letters, digits, `:`."
+unfoldable pub isWord : ℕ → Bool
+isWord c = isAlphaNumeric c || eqb c (code ":")
+
+-- "A comment runs from `#` through the first CR or LF, or to the end."
+unfoldable pub isComment : ℕ → Bool
+isComment c = not (eqb c 13) && (not (eqb c 10) && not (eqb c end))
+
+unfoldable pub isIn : Class → ℕ → Bool
+isIn Space c = isSpace c
+isIn Alpha c = isAlpha c
+isIn Digit c = isDigit c
+isIn HexDigit c = isHexDigit c
+isIn AlphaNumeric c = isAlphaNumeric c
+isIn Word c = isWord c
+isIn Comment c = isComment c

@@ -1,0 +1,117 @@
+// The bytes of a query: what stands at a place, the classes of document 01, and where a run of a class ends.
+ghost use mathlib.Core.Path.{_≡_};
+ghost use Rattle.scan.specs.Byte.{peekAt, isWithin, isSpace, isAlpha, isDigit, isHexDigit, isAlphaNumeric, isWord, isComment, isIn};
+ghost use Rattle.scan.specs.Run.{runEnd};
+
+// What stands past the last byte: no byte, and in no class.
+pub const END: usize = 256;
+
+const TAB: usize = 9;
+
+const LF: usize = 10;
+
+const FORM_FEED: usize = 12;
+
+const CR: usize = 13;
+
+const SPACE: usize = 32;
+
+// The classes of bytes that runs are made of.
+pub enum Class {
+    Space,
+    Alpha,
+    Digit,
+    HexDigit,
+    AlphaNumeric,
+    Word,
+    Comment,
+}
+
+// What stands at i: a byte, or END past the last.
+pub fn peek(s: &[u8], i: usize) -> usize
+    ensures { λ r. ⌜ r ≡ peekAt (now (s .entry)) i ⌝ }
+{
+    if i < s.len() { s[i] as usize } else { END }
+}
+
+// From lo to hi, both included.
+pub fn is_within(lo: u8, hi: u8, c: usize) -> bool
+    ensures { λ r. ⌜ r ≡ isWithin lo hi c ⌝ }
+{
+    lo as usize <= c && c <= hi as usize
+}
+
+// White space.
+pub fn is_space(c: usize) -> bool
+    ensures { λ r. ⌜ r ≡ isSpace c ⌝ }
+{
+    c == TAB || (c == LF || (c == FORM_FEED || (c == CR || c == SPACE)))
+}
+
+// A letter: an ASCII letter or the underscore.
+pub fn is_alpha(c: usize) -> bool
+    ensures { λ r. ⌜ r ≡ isAlpha c ⌝ }
+{
+    is_within(b'a', b'z', c) || (is_within(b'A', b'Z', c) || c == b'_' as usize)
+}
+
+// A decimal digit.
+pub fn is_digit(c: usize) -> bool
+    ensures { λ r. ⌜ r ≡ isDigit c ⌝ }
+{
+    is_within(b'0', b'9', c)
+}
+
+// A hexadecimal digit, in either case.
+pub fn is_hex_digit(c: usize) -> bool
+    ensures { λ r. ⌜ r ≡ isHexDigit c ⌝ }
+{
+    is_digit(c) || (is_within(b'a', b'f', c) || is_within(b'A', b'F', c))
+}
+
+// A letter or a digit: what a label and a word in braces go on with.
+pub fn is_alpha_numeric(c: usize) -> bool
+    ensures { λ r. ⌜ r ≡ isAlphaNumeric c ⌝ }
+{
+    is_alpha(c) || is_digit(c)
+}
+
+// What a word outside braces goes on with.
+pub fn is_word(c: usize) -> bool
+    ensures { λ r. ⌜ r ≡ isWord c ⌝ }
+{
+    is_alpha_numeric(c) || c == b':' as usize
+}
+
+// What a comment goes on with: any byte but CR and LF.
+pub fn is_comment(c: usize) -> bool
+    ensures { λ r. ⌜ r ≡ isComment c ⌝ }
+{
+    c != CR && (c != LF && c != END)
+}
+
+// Whether a class has the byte.
+pub fn is_in(k: Class, c: usize) -> bool
+    ensures { λ r. ⌜ r ≡ isIn k c ⌝ }
+{
+    match k {
+        Class::Space => is_space(c),
+        Class::Alpha => is_alpha(c),
+        Class::Digit => is_digit(c),
+        Class::HexDigit => is_hex_digit(c),
+        Class::AlphaNumeric => is_alpha_numeric(c),
+        Class::Word => is_word(c),
+        Class::Comment => is_comment(c),
+    }
+}
+
+// Where the run of the class that starts at `from` ends.
+pub fn run_end(k: Class, s: &[u8], from: usize) -> usize
+    ensures { λ r. ⌜ r ≡ runEnd (isIn k) (now (s .entry)) from ⌝ }
+{
+    let mut n = from;
+    while is_in(k, peek(s, n)) {
+        n += 1;
+    }
+    n
+}
