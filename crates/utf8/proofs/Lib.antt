@@ -1,0 +1,6 @@
+pub mod Choice
+pub mod Below
+pub mod Lead
+pub mod Chars
+pub mod Codes
+pub mod Texts

@@ -1,0 +1,39 @@
+-- `utf8::admit` meets its contract: past the limit it is refusal 1, and otherwise it is what `validate` says.
+use borrow.Author.Tests.{lt-ltb, le-ltb}
+use mathlib.Core.Path.{_≡_, sym, ap, _∙_}
+use denote.Ref.{now}
+use lib.ListN.{length}
+use Rattle.utf8.specs.Answers.{admittedAs, admitted}
+use borrow.Author.Needs.{needs}
+use Rattle.utf8.proofs.admit.Statement.{statement}
+use Rattle.utf8.proofs.admit.Tie as tie
+
+returns : tie.Need-returns
+unfolding admitted
+returns c = simp (lt-ltb _ _ (c .if1 .taken))
+
+validate-requires : tie.Need-validate-requires
+validate-requires c κs = search needs
+
+enum-known-v : tie.Need-enum-known-v
+enum-known-v c = search needs
+
+enum-known-v-2 : tie.Need-enum-known-v-2
+enum-known-v-2 c = search needs
+
+-- within the limit the answer is what `validate` says of the text
+within : (c : tie.After-validate) → let a = c .before .before .before .args in admitted (a .limit) (now (a .text)) ≡ admittedAs (c .validate .result)
+unfolding admitted
+within c =
+    let a = c .before .before .before .args in
+    rw (le-ltb (a .limit) (length (now (a .text))) (c .before .if1 .left), ← c .validate .ensures)
+
+returns-2 : tie.Need-returns-2
+returns-2 c = sym (within (c .before .before .before) ∙ ap admittedAs (c .before .v .given .1))
+
+returns-3 : tie.Need-returns-3
+returns-3 c = sym (within (c .before .before .before) ∙ ap admittedAs (c .before .v2 .given .1))
+
+pub admit-spec : {M : Type 1} → statement M
+admit-spec =
+    tie.close (tie.spec returns validate-requires enum-known-v enum-known-v-2 returns-2 returns-3)

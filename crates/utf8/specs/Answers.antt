@@ -1,0 +1,70 @@
+-- What the functions answer, and document 01's refusals 1 and 2, which every reader of a text has.
+use Prim.Native.Nat.{ℕ, _+_}
+use mathlib.Core.Bool.{cond}
+use mathlib.Core.List.{List, _++_}
+use lib.Dec.{leb, ltb, eqb}
+use lib.ListN.{length, take, drop}
+use Rattle.utf8.specs.declared.ByteOffset.{ByteOffset}
+use Rattle.utf8.specs.declared.CharNumber.{CharNumber}
+use Rattle.utf8.specs.declared.Place.{Place}
+use Rattle.utf8.specs.declared.Refusal.{Refusal}
+use Rattle.utf8.specs.declared.Validity.{Validity}
+use Rattle.utf8.specs.declared.Validity.the-variants.{Valid, Invalid}
+use Rattle.utf8.specs.declared.Admission.{Admission}
+use Rattle.utf8.specs.declared.Admission.the-variants.{Admitted, Refused}
+use Rattle.utf8.specs.declared.Character.{Character}
+use Rattle.utf8.specs.declared.Character.the-variants.{Scalar, Nothing, IllFormed}
+use Rattle.utf8.specs.declared.Encoding.{Encoding}
+use Rattle.utf8.specs.declared.Encoding.the-variants.{Written, NotScalar, NoRoom}
+use Rattle.utf8.specs.Table.{charLength}
+use Rattle.utf8.specs.Code.{codeOf, isScalar, encoded}
+use Rattle.utf8.specs.Text.{charsOf, sizeOf, startOf, charNumber}
+
+abbrev pub characters : ℕ → CharNumber
+characters n = record { 0 = n }
+
+abbrev pub place : ℕ → ℕ → Place
+place b n = record { byte = record { 0 = b }; character = characters n }
+
+-- where the first character begins that is not before an offset
+abbrev pub nextStart : ℕ → List ℕ → Place
+nextStart to xs = let k = charNumber xs to in place (startOf k xs) k
+
+-- the number of characters, or the end of the longest well-formed prefix
+unfoldable pub validityOf : List ℕ → Validity
+validityOf xs =
+    let cs = charsOf xs in
+    cond (eqb (sizeOf cs) (length xs)) (Valid (characters (length cs))) (Invalid (place (sizeOf cs) (length cs)))
+
+-- 1: "too long", at 0, 0; 2: "not UTF-8", at the "end of the longest well-formed prefix"; in this order
+abbrev pub tooLong : Refusal
+tooLong = record { number = 1; place = place 0 0 }
+
+abbrev pub notUtf8 : Place → Refusal
+notUtf8 p = record { number = 2; place = p }
+
+abbrev pub admittedAs : Validity → Admission
+admittedAs (Valid n) = Admitted n
+admittedAs (Invalid p) = Refused (notUtf8 p)
+
+unfoldable pub admitted : ℕ → List ℕ → Admission
+admitted limit xs = cond (ltb limit (length xs)) (Refused tooLong) (admittedAs (validityOf xs))
+
+-- the character that a list begins with, and the one at an offset of a text
+abbrev pub characterOf : List ℕ → Character
+characterOf xs = let n = charLength xs in cond (eqb n 0) IllFormed (Scalar (codeOf n xs) n)
+
+unfoldable pub characterAt : List ℕ → ℕ → Character
+characterAt xs at = cond (leb (length xs) at) Nothing (characterOf (drop at xs))
+
+-- how many bytes of a code point a buffer takes at an offset
+unfoldable pub encodingOf : ℕ → ℕ → ℕ → Encoding
+encodingOf c room at =
+    let n = length (encoded c) in
+    cond (isScalar c) (cond (leb (at + n) room) (Written n) NoRoom) NotScalar
+
+-- what the buffer holds then
+abbrev pub leftBy : Encoding → ℕ → ℕ → List ℕ → List ℕ
+leftBy (Written n) c at d = take at d ++ encoded c ++ drop (at + n) d
+leftBy NotScalar c at d = d
+leftBy NoRoom c at d = d

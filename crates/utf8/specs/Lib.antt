@@ -1,0 +1,6 @@
+pub mod Table
+pub mod Code
+pub mod Text
+pub mod Answers
+pub mod Lead
+pub mod Laws

@@ -1,0 +1,320 @@
+// UTF-8 text (RFC 3629): whether bytes are text, the character at an offset, the number of characters before one, and
+// the bytes of a code point; and the places and refusals that every reader answers with.
+ghost use mathlib.Core.Path.{_≡_};
+ghost use Prim.Native.Nat.{_+_, _≤_};
+ghost use lib.ListN.{length};
+ghost use lib.Seq.{sets};
+ghost use Rattle.utf8.specs.Table.{isTail, charLength};
+ghost use Rattle.utf8.specs.Lead.{sizeBy, lowSecond, highSecond, withTails};
+ghost use Rattle.utf8.specs.Text.{charNumber};
+ghost use Rattle.utf8.specs.Code.{codeOf, isScalar, sixBits, encoded};
+ghost use Rattle.utf8.specs.Answers.{characters, nextStart, validityOf, admitted, characterAt, encodingOf, leftBy};
+
+// How many bytes of a text come before a place.
+pub struct ByteOffset(pub usize);
+
+// How many characters of a text begin before a place.
+pub struct CharNumber(pub usize);
+
+// A place in a text, by bytes and by characters.
+pub struct Place {
+    pub byte: ByteOffset,
+    pub character: CharNumber,
+}
+
+// Why a reader gives no result: document 01's number, and where.
+pub struct Refusal {
+    pub number: usize,
+    pub place: Place,
+}
+
+// The most bytes of a query, a literal or a text.
+pub const TEXT_LIMIT: usize = 65535;
+
+// The refusals that every reader has.
+pub const TOO_LONG: usize = 1;
+
+pub const NOT_UTF8: usize = 2;
+
+pub const NO_ROOM: usize = 3;
+
+// Whether bytes are UTF-8: how many characters they are, or where the longest well-formed prefix ends.
+pub enum Validity {
+    Valid(CharNumber),
+    Invalid(Place),
+}
+
+// A text that a reader takes up, or its refusal.
+pub enum Admission {
+    Admitted(CharNumber),
+    Refused(Refusal),
+}
+
+// What stands at an offset: a character, nothing more, or bytes that begin none.
+pub enum Character {
+    Scalar { code: u32, size: usize },
+    Nothing,
+    IllFormed,
+}
+
+// How many bytes of a code point were written, or why none were.
+pub enum Encoding {
+    Written(usize),
+    NotScalar,
+    NoRoom,
+}
+
+// How many bytes a character has that begins with a, or 0 where none does.
+fn size_by(a: usize) -> usize
+    ensures { λ r. ⌜ r ≡ sizeBy a ⌝ }
+{
+    if a <= 0x7f {
+        return 1;
+    }
+    if a <= 0xc1 {
+        return 0;
+    }
+    if a <= 0xdf {
+        return 2;
+    }
+    if a <= 0xef {
+        return 3;
+    }
+    if a <= 0xf4 { 4 } else { 0 }
+}
+
+// The least second byte after the first byte a.
+fn low_second(a: usize) -> u8
+    ensures { λ r. ⌜ r ≡ lowSecond a ⌝ }
+{
+    if a == 0xe0 {
+        return 0xa0;
+    }
+    if a == 0xf0 { 0x90 } else { 0x80 }
+}
+
+// The greatest second byte after the first byte a.
+fn high_second(a: usize) -> u8
+    ensures { λ r. ⌜ r ≡ highSecond a ⌝ }
+{
+    if a == 0xed {
+        return 0x9f;
+    }
+    if a == 0xf4 { 0x8f } else { 0xbf }
+}
+
+// A byte that goes on with a character.
+fn is_tail(c: usize) -> bool
+    ensures { λ r. ⌜ r ≡ isTail c ⌝ }
+{
+    scan::is_within(0x80, 0xbf, c)
+}
+
+// The size n of a character where its third byte and its fourth, so far as it has them, go on with it, else 0.
+fn with_tails(n: usize, s: &[u8]) -> usize
+    ensures { λ r. ⌜ r ≡ withTails n (now (s .entry)) ⌝ }
+{
+    if n <= 2 {
+        return n;
+    }
+    if !is_tail(scan::peek(s, 2)) {
+        return 0;
+    }
+    if n <= 3 {
+        return n;
+    }
+    if is_tail(scan::peek(s, 3)) { n } else { 0 }
+}
+
+// The length of the character that s begins with, or 0 where none does.
+fn char_length(s: &[u8]) -> usize
+    ensures { λ r. ⌜ r ≡ charLength (now (s .entry)) ⌝ }
+{
+    let a = scan::peek(s, 0);
+    let n = size_by(a);
+    if n <= 1 {
+        return n;
+    }
+    if scan::is_within(low_second(a), high_second(a), scan::peek(s, 1)) {
+        with_tails(n, s)
+    } else {
+        0
+    }
+}
+
+// Where the first character begins that is not before an offset, or the longest well-formed prefix ends.
+fn next_start(text: &[u8], to: usize) -> Place
+    ensures { λ r. ⌜ r ≡ nextStart to (now (text .entry)) ⌝ }
+{
+    let mut at = 0;
+    let mut count = 0;
+    while at < to {
+        let n = char_length(&text[at..]);
+        if n == 0 {
+            break;
+        }
+        at += n;
+        count += 1;
+    }
+    Place {
+        byte: ByteOffset(at),
+        character: CharNumber(count),
+    }
+}
+
+// Whether bytes are UTF-8 text.
+pub fn validate(text: &[u8]) -> Validity
+    ensures { λ r. ⌜ r ≡ validityOf (now (text .entry)) ⌝ }
+{
+    let end = next_start(text, text.len());
+    let count = end.character;
+    let byte = end.byte;
+    if byte.0 == text.len() {
+        Validity::Valid(count)
+    } else {
+        Validity::Invalid(end)
+    }
+}
+
+// Takes up a text of at most `limit` bytes: refusals 1 and 2 of every reader.
+pub fn admit(text: &[u8], limit: usize) -> Admission
+    ensures { λ r. ⌜ r ≡ admitted limit (now (text .entry)) ⌝ }
+{
+    if limit < text.len() {
+        let place = Place {
+            byte: ByteOffset(0),
+            character: CharNumber(0),
+        };
+        return Admission::Refused(Refusal {
+            number: TOO_LONG,
+            place,
+        });
+    }
+    let v = validate(text);
+    match v {
+        Validity::Valid(n) => Admission::Admitted(n),
+        Validity::Invalid(place) => Admission::Refused(Refusal {
+            number: NOT_UTF8,
+            place,
+        }),
+    }
+}
+
+// How many characters begin before an offset: one that the offset lies inside counts, and what is not text has none.
+pub fn char_number(text: &[u8], to: ByteOffset) -> CharNumber
+    ensures { λ r. ⌜ r ≡ characters (charNumber (now (text .entry)) (to .0)) ⌝ }
+{
+    let start = next_start(text, to.0);
+    start.character
+}
+
+// The code point of the character of n bytes that s begins with.
+fn code_of(s: &[u8], n: usize) -> u32
+    ensures { λ r. ⌜ r ≡ codeOf n (now (s .entry)) ⌝ }
+{
+    let a = scan::peek(s, 0);
+    if n <= 1 {
+        return (a % 128) as u32;
+    }
+    let b = scan::peek(s, 1);
+    if n <= 2 {
+        return (a % 32 * 64 + b % 64) as u32;
+    }
+    let c = scan::peek(s, 2);
+    if n <= 3 {
+        return ((a % 16 * 64 + b % 64) * 64 + c % 64) as u32;
+    }
+    let d = scan::peek(s, 3);
+    (((a % 8 * 64 + b % 64) * 64 + c % 64) * 64 + d % 64) as u32
+}
+
+// The character at an offset.
+pub fn char_at(text: &[u8], at: ByteOffset) -> Character
+    ensures { λ r. ⌜ r ≡ characterAt (now (text .entry)) (at .0) ⌝ }
+{
+    let from = at.0;
+    if text.len() <= from {
+        return Character::Nothing;
+    }
+    let s = &text[from..];
+    let size = char_length(s);
+    if size == 0 {
+        return Character::IllFormed;
+    }
+    let code = code_of(s, size);
+    Character::Scalar { code, size }
+}
+
+// Whether a code point is a character: not a surrogate, and at most 10FFFF.
+fn is_scalar(code: u32) -> bool
+    ensures { λ r. ⌜ r ≡ isScalar code ⌝ }
+{
+    code <= 0x10ffff && (code < 0xd800 || 0xdfff < code)
+}
+
+// The last six bits of x, as a byte that goes on with a character.
+fn six_bits(x: u32) -> u8
+    ensures { λ r. ⌜ r ≡ sixBits x ⌝ }
+{
+    (0x80 + x % 64) as u8
+}
+
+// How many bytes the character of a code point has.
+fn encoded_size(code: u32) -> usize
+    ensures { λ r. ⌜ r ≡ length (encoded code) ⌝ }
+{
+    if code <= 0x7f {
+        return 1;
+    }
+    if code <= 0x7ff {
+        return 2;
+    }
+    if code <= 0xffff { 3 } else { 4 }
+}
+
+// Writes the bytes of a code point where there is room for them.
+fn write_code(code: u32, out: &mut [u8], at: usize)
+    requires { ⌜ code ≤ 0x10ffff ⌝ }
+    requires { ⌜ at + length (encoded code) ≤ length (now out) ⌝ }
+    ensures { λ _. ⌜ now (out .exit) ≡ sets (now (out .entry)) at (encoded code) ⌝ }
+{
+    if code <= 0x7f {
+        out[at] = code as u8;
+        return;
+    }
+    if code <= 0x7ff {
+        out[at] = (0xc0 + code / 64) as u8;
+        out[at + 1] = six_bits(code);
+        return;
+    }
+    if code <= 0xffff {
+        out[at] = (0xe0 + code / 4096) as u8;
+        out[at + 1] = six_bits(code / 64);
+        out[at + 2] = six_bits(code);
+        return;
+    }
+    out[at] = (0xf0 + code / 262144) as u8;
+    out[at + 1] = six_bits(code / 4096);
+    out[at + 2] = six_bits(code / 64);
+    out[at + 3] = six_bits(code);
+}
+
+// Writes the bytes of a code point at an offset of a lent buffer; nothing where it is no character or has no room.
+pub fn encode(code: u32, out: &mut [u8], at: ByteOffset) -> Encoding
+    ensures { λ r. ⌜ r ≡ encodingOf code (length (now (out .entry))) (at .0) ⌝ }
+    ensures { λ r. ⌜ now (out .exit) ≡ leftBy r code (at .0) (now (out .entry)) ⌝ }
+{
+    let from = at.0;
+    if !is_scalar(code) {
+        return Encoding::NotScalar;
+    }
+    if out.len() < from {
+        return Encoding::NoRoom;
+    }
+    let size = encoded_size(code);
+    if out.len() - from < size {
+        return Encoding::NoRoom;
+    }
+    write_code(code, out, from);
+    Encoding::Written(size)
+}
