@@ -14,7 +14,7 @@ use Rattle.utf8.specs.declared.Place.{Place}
 use Rattle.utf8.specs.Table.{Bounds, rows, fits, sizeIn, charLength}
 use Rattle.utf8.specs.Text.{Char, charOf, charsPast, charsOf, sizeOf, begunIn, charNumber}
 use Rattle.utf8.specs.Answers.{place, nextStart}
-use Rattle.utf8.proofs.Choice.{either, and-right}
+use Rattle.scan.proofs.Choice.{either, and-right}
 
 -- what holds of 0 and of the length of each row that the bytes fit holds of the size that a table gives
 module _ (xs : List ℕ) (P : ℕ → Type 0) where

@@ -15,7 +15,7 @@ use Rattle.utf8.specs.Lead.{sizeBy}
 use Rattle.utf8.specs.Code.{codeOf}
 use Rattle.utf8.specs.Text.{Char, charOf, charsOf, sizeOf, prefixEnd, begunIn, charNumber}
 use Rattle.utf8.specs.Answers.{place, nextStart}
-use Rattle.utf8.proofs.Choice.{either-same, and-left, and-right}
+use Rattle.scan.proofs.Choice.{either-same, and-left, and-right}
 use Rattle.utf8.proofs.Lead.{second, sized, char-by}
 use Rattle.utf8.proofs.Chars.{char-bound, chars-none, chars-some}
 
@@ -112,11 +112,11 @@ module _ (P : List ℕ → Type 0) (none : (xs : List ℕ) → charLength xs ≡
   by-characters xs = up-to (length xs) xs (omega arith)
 
 -- every character has bytes, and all of them together are within the text
-abbrev Filled : List Char → Type 0
+abbrev pub Filled : List Char → Type 0
 Filled [] = Unit {0}
 Filled (c ∷ cs) = (0 < c .size) × Filled cs
 
-filled : (xs : List ℕ) → Filled (charsOf xs)
+pub filled : (xs : List ℕ) → Filled (charsOf xs)
 filled = by-characters (λ xs. Filled (charsOf xs)) (λ xs e. rw (chars-none xs e) tt) (λ bs ys o ih. rw (chars-one bs ys o) (o .some, ih))
 
 pub prefix-bound : (xs : List ℕ) → prefixEnd xs ≤ length xs

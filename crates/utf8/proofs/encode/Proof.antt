@@ -12,7 +12,7 @@ use lib.Seq.{sets-eq}
 use Rattle.utf8.specs.declared.Encoding.the-variants.{Written, NotScalar, NoRoom}
 use Rattle.utf8.specs.Code.{isScalar, encoded}
 use Rattle.utf8.specs.Answers.{encodingOf}
-use Rattle.utf8.proofs.Choice.{and-left}
+use Rattle.scan.proofs.Choice.{and-left}
 use Rattle.utf8.proofs.encode.Statement.{statement}
 use Rattle.utf8.proofs.encode.Tie as tie
 
