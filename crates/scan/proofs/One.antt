@@ -16,8 +16,8 @@ OneAnswer {n} ps r Post =
     x ≡ y
 
 -- and one content of what `lent` reads off the arguments as the function leaves them
-abbrev pub OneContent : {n : ℕ} (ps : List (PK n)) (r : RK n) → Out n ps r → ((κs : Lfts n) → AtExit (endedOf n ps r) κs → List ℕ) → Type 0
-OneContent {n} ps r Post lent =
+abbrev pub OneContent : {A : Type 0} {n : ℕ} (ps : List (PK n)) (r : RK n) → Out n ps r → ((κs : Lfts n) → AtExit (endedOf n ps r) κs → A) → Type 0
+OneContent {n = n} ps r Post lent =
     (κs : Lfts n) (a : Dens κs ps) (x y : resT r κs .Denot) (e f : AtExit (endedOf n ps r) κs) →
     Post κs a x e →
     Post κs a y f →

@@ -1,16 +1,16 @@
 -- Laws of a run, over any test. Each is an induction on the list: at its head the test either ends the run or takes one byte more.
--- Where a law needs it, the end does not pass the test.
-use Prim.Native.Nat.{ℕ, zero, suc, _+_, _<_, _≤_, suc-le-suc, max}
-use native.Mathlib.Nat.{le-of-suc-le-suc, not-suc-le-zero}
+use Prim.Native.Nat.{ℕ, zero, suc, _+_, _-_, _<_, _≤_, suc-le-suc}
+use native.Mathlib.Nat.{le-of-suc-le-suc, not-suc-le-zero, add-zero}
 use native.Mathlib.Omega.{arith}
 use mathlib.Core.Bool.{Bool, true, false, cond, not, true≢false}
 use mathlib.Core.Path.{_≡_, refl, sym, ap, _∙_}
 use mathlib.Core.List.{List, [], _∷_, _++_}
 use lib.Dec.{eqb}
-use lib.Seq.{drop-append-le}
+use lib.Seq.{drop-append-le, getD-drop}
 use lib.ListN.{length, drop, length-drop}
 use Rattle.scan.specs.Byte.{end, peekAt}
 use Rattle.scan.specs.Run.{runLength, runEnd}
+use Rattle.scan.specs.Laws.{RunWithin, RunPasses, RunStopped, RunStops, RunAppend, RunInside}
 
 module _ (p : ℕ → Bool) where
   -- the test decides at the head
@@ -22,7 +22,6 @@ module _ (p : ℕ → Bool) where
   unfolding runLength
   run-yes x xs h = rw h
 
-  -- a run is within the list
   pub run-bound : (xs : List ℕ) → runLength p xs ≤ length xs
   unfolding runLength
   run-bound [] = omega arith
@@ -32,8 +31,36 @@ module _ (p : ℕ → Bool) where
       go true h = omega arith
       go false h = omega arith
 
-  pub run-end-bound : (xs : List ℕ) (n : ℕ) → runEnd p xs n ≤ max n (length xs)
-  run-end-bound xs n = omega (arith, run-bound (drop n xs), length-drop n xs)
+  passes : (xs : List ℕ) (i : ℕ) → i < runLength p xs → p (peekAt xs i) ≡ true
+  unfolding runLength
+  passes [] i l = absurd (not-suc-le-zero l)
+  passes (x ∷ xs) i l = go (p x) refl i l (passes xs)
+    where
+      go : (b : Bool) → p x ≡ b → (i : ℕ) → i < cond b (suc (runLength p xs)) 0 → ((j : ℕ) → j < runLength p xs → p (peekAt xs j) ≡ true) → p (peekAt (x ∷ xs) i) ≡ true
+      go true e zero l ih = e
+      go true e (suc i) l ih = ih i (le-of-suc-le-suc l)
+      go false e i l ih = absurd (not-suc-le-zero l)
+
+  stops : (xs : List ℕ) (n : ℕ) → p (peekAt xs n) ≡ false → runLength p (drop n xs) ≡ 0
+  unfolding runLength
+  stops [] zero h = refl
+  stops [] (suc n) h = refl
+  stops (x ∷ xs) zero h = run-no x xs h
+  stops (x ∷ xs) (suc n) h = stops xs n h
+
+  append : (xs : List ℕ) (y : ℕ) (ys : List ℕ) → p y ≡ false → runLength p (xs ++ (y ∷ ys)) ≡ runLength p xs
+  unfolding runLength
+  append [] y ys h = run-no y ys h
+  append (x ∷ xs) y ys h = ap (λ (n : ℕ). cond (p x) (suc n) 0) (append xs y ys h)
+
+  within : (xs ys : List ℕ) → runLength p xs < length xs → runLength p (xs ++ ys) ≡ runLength p xs
+  unfolding runLength
+  within [] ys h = absurd (not-suc-le-zero h)
+  within (x ∷ xs) ys h = go (p x) (within xs ys) h
+    where
+      go : (b : Bool) → (runLength p xs < length xs → runLength p (xs ++ ys) ≡ runLength p xs) → cond b (suc (runLength p xs)) 0 < suc (length xs) → cond b (suc (runLength p (xs ++ ys))) 0 ≡ cond b (suc (runLength p xs)) 0
+      go true ih l = ap suc (ih (le-of-suc-le-suc l))
+      go false ih l = refl
 
   module _ (ends : p end ≡ false) where
     -- what passes the test stands within the list
@@ -43,14 +70,7 @@ module _ (p : ℕ → Bool) where
     inside (x ∷ xs) zero h = omega arith
     inside (x ∷ xs) (suc n) h = suc-le-suc (inside xs n h)
 
-    -- a byte outside the class ends the run
-    pub stops-at : (xs : List ℕ) (n : ℕ) → p (peekAt xs n) ≡ false → runLength p (drop n xs) ≡ 0
-    unfolding runLength
-    stops-at [] zero h = refl
-    stops-at [] (suc n) h = refl
-    stops-at (x ∷ xs) zero h = run-no x xs h
-    stops-at (x ∷ xs) (suc n) h = stops-at xs n h
-
+    -- and takes the run one further
     pub goes-on : (xs : List ℕ) (n : ℕ) → p (peekAt xs n) ≡ true → runLength p (drop n xs) ≡ suc (runLength p (drop (suc n) xs))
     unfolding runLength
     goes-on [] zero h = absurd (true≢false (sym h ∙ ends))
@@ -58,8 +78,7 @@ module _ (p : ℕ → Bool) where
     goes-on (x ∷ xs) zero h = run-yes x xs h
     goes-on (x ∷ xs) (suc n) h = goes-on xs n h
 
-    -- past a run stands what is not in the class
-    pub stopped : (xs : List ℕ) → p (peekAt xs (runLength p xs)) ≡ false
+    stopped : (xs : List ℕ) → p (peekAt xs (runLength p xs)) ≡ false
     unfolding runLength
     stopped [] = ends
     stopped (x ∷ xs) = go (p x) refl (stopped xs)
@@ -68,14 +87,26 @@ module _ (p : ℕ → Bool) where
         go true h r = r
         go false h r = h
 
-    -- appending after a byte outside the class changes nothing
-    pub run-append : (xs : List ℕ) (y : ℕ) (ys : List ℕ) → p y ≡ false → runLength p (xs ++ (y ∷ ys)) ≡ runLength p xs
-    unfolding runLength
-    run-append [] y ys h = run-no y ys h
-    run-append (x ∷ xs) y ys h = ap (λ (n : ℕ). cond (p x) (suc n) 0) (run-append xs y ys h)
+pub run-within : RunWithin
+run-within p xs n = omega (arith, run-bound p (drop n xs), length-drop n xs)
 
-    pub run-end-append : (xs : List ℕ) (y : ℕ) (ys : List ℕ) → p y ≡ false → (n : ℕ) → n ≤ length xs → runEnd p (xs ++ (y ∷ ys)) n ≡ runEnd p xs n
-    run-end-append xs y ys h n l = rw (drop-append-le n xs (y ∷ ys) l, run-append (drop n xs) y ys h)
+pub run-passes : RunPasses
+run-passes p xs n i h l =
+    let e : i ≡ n + (i - n) = omega arith in
+    rw (e, ← getD-drop n xs (i - n) end) (passes p (drop n xs) (i - n) (omega arith))
+
+pub run-stopped : RunStopped
+run-stopped p e xs n = rw (← getD-drop n xs (runLength p (drop n xs)) end) (stopped p e (drop n xs))
+
+pub run-stops : RunStops
+run-stops p xs n h = rw (stops p xs n h) (add-zero n)
+
+pub run-append : RunAppend
+run-append p xs y ys h n l = rw (drop-append-le n xs (y ∷ ys) l, append p (drop n xs) y ys h)
+
+pub run-inside : RunInside
+run-inside p xs ys n h =
+    rw (drop-append-le n xs ys (omega arith), within p (drop n xs) ys (omega (arith, length-drop n xs)))
 
 -- where the end does not stand, a byte does
 pub peek-inside : (xs : List ℕ) (n : ℕ) → eqb (peekAt xs n) end ≡ false → n < length xs

@@ -17,8 +17,8 @@ use Rattle.scan.proofs.is_alpha_numeric.Kinds as is-alpha-numeric
 use Rattle.scan.proofs.is_alpha_numeric.Reads as is-alpha-numeric-reads
 use Rattle.scan.proofs.is_word.Kinds as is-word
 use Rattle.scan.proofs.is_word.Reads as is-word-reads
-use Rattle.scan.proofs.is_comment.Kinds as is-comment
-use Rattle.scan.proofs.is_comment.Reads as is-comment-reads
+use Rattle.scan.proofs.is_line.Kinds as is-line
+use Rattle.scan.proofs.is_line.Reads as is-line-reads
 use Rattle.scan.proofs.is_in.Kinds as is-in
 use Rattle.scan.proofs.is_in.Reads as is-in-reads
 use Rattle.scan.proofs.run_end.Kinds as run-end
@@ -48,8 +48,8 @@ same-is-alpha-numeric κs a x y e f p q = p ∙ sym q
 pub same-is-word : OneAnswer is-word.ps is-word.r is-word-reads.Post
 same-is-word κs a x y e f p q = p ∙ sym q
 
-pub same-is-comment : OneAnswer is-comment.ps is-comment.r is-comment-reads.Post
-same-is-comment κs a x y e f p q = p ∙ sym q
+pub same-is-line : OneAnswer is-line.ps is-line.r is-line-reads.Post
+same-is-line κs a x y e f p q = p ∙ sym q
 
 pub same-is-in : OneAnswer is-in.ps is-in.r is-in-reads.Post
 same-is-in κs a x y e f p q = p ∙ sym q

@@ -1,4 +1,4 @@
--- What stands at a place of a list of bytes, and the classes of bytes that document 01 names under "Lexing rules".
+-- What stands at a place of a list of bytes, and the classes of bytes that document 01's "Lexing rules" speak of.
 -- Past the last byte stands `end`, which is no byte and in no class, so that no rule needs a case for it.
 use Prim.Native.Nat.{ℕ}
 use Prim.Native.Char.{code}
@@ -7,7 +7,7 @@ use mathlib.Core.List.{List}
 use lib.ListN.{getD}
 use lib.Dec.{leb, eqb}
 use Rattle.scan.specs.declared.Class.{Class}
-use Rattle.scan.specs.declared.Class.the-variants.{Space, Alpha, Digit, HexDigit, AlphaNumeric, Word, Comment}
+use Rattle.scan.specs.declared.Class.the-variants.{Space, Alpha, Digit, HexDigit, AlphaNumeric, Word, Line}
 
 abbrev pub end : ℕ
 end = 256
@@ -34,7 +34,7 @@ unfoldable pub isHexDigit : ℕ → Bool
 isHexDigit c =
     isDigit c || (isWithin (code "a") (code "f") c || isWithin (code "A") (code "F") c)
 
--- inside braces a word has no colon
+-- "Inside braces every word (no colon)": letters and digits
 unfoldable pub isAlphaNumeric : ℕ → Bool
 isAlphaNumeric c = isAlpha c || isDigit c
 
@@ -42,9 +42,9 @@ isAlphaNumeric c = isAlpha c || isDigit c
 unfoldable pub isWord : ℕ → Bool
 isWord c = isAlphaNumeric c || eqb c (code ":")
 
--- "A comment runs from `#` through the first CR or LF, or to the end."
-unfoldable pub isComment : ℕ → Bool
-isComment c = not (eqb c 13) && (not (eqb c 10) && not (eqb c end))
+-- "A comment runs from `#` through the first CR or LF, or to the end": it goes on with the bytes of its line
+unfoldable pub isLine : ℕ → Bool
+isLine c = not (eqb c 13) && (not (eqb c 10) && not (eqb c end))
 
 unfoldable pub isIn : Class → ℕ → Bool
 isIn Space c = isSpace c
@@ -53,4 +53,4 @@ isIn Digit c = isDigit c
 isIn HexDigit c = isHexDigit c
 isIn AlphaNumeric c = isAlphaNumeric c
 isIn Word c = isWord c
-isIn Comment c = isComment c
+isIn Line c = isLine c

@@ -1,6 +1,6 @@
 // The bytes of a query: what stands at a place, the classes of document 01, and where a run of a class ends.
 ghost use mathlib.Core.Path.{_≡_};
-ghost use Rattle.scan.specs.Byte.{peekAt, isWithin, isSpace, isAlpha, isDigit, isHexDigit, isAlphaNumeric, isWord, isComment, isIn};
+ghost use Rattle.scan.specs.Byte.{peekAt, isWithin, isSpace, isAlpha, isDigit, isHexDigit, isAlphaNumeric, isWord, isLine, isIn};
 ghost use Rattle.scan.specs.Run.{runEnd};
 
 // What stands past the last byte: no byte, and in no class.
@@ -16,7 +16,7 @@ const CR: usize = 13;
 
 const SPACE: usize = 32;
 
-// The classes of bytes that runs are made of.
+// The classes of bytes.
 pub enum Class {
     Space,
     Alpha,
@@ -24,7 +24,7 @@ pub enum Class {
     HexDigit,
     AlphaNumeric,
     Word,
-    Comment,
+    Line,
 }
 
 // What stands at i: a byte, or END past the last.
@@ -69,7 +69,7 @@ pub fn is_hex_digit(c: usize) -> bool
     is_digit(c) || (is_within(b'a', b'f', c) || is_within(b'A', b'F', c))
 }
 
-// A letter or a digit: what a label and a word in braces go on with.
+// A letter or a digit: what a label, and a word in braces, goes on with.
 pub fn is_alpha_numeric(c: usize) -> bool
     ensures { λ r. ⌜ r ≡ isAlphaNumeric c ⌝ }
 {
@@ -83,9 +83,9 @@ pub fn is_word(c: usize) -> bool
     is_alpha_numeric(c) || c == b':' as usize
 }
 
-// What a comment goes on with: any byte but CR and LF.
-pub fn is_comment(c: usize) -> bool
-    ensures { λ r. ⌜ r ≡ isComment c ⌝ }
+// A byte of a line, which is what a comment goes on with: any but CR and LF.
+pub fn is_line(c: usize) -> bool
+    ensures { λ r. ⌜ r ≡ isLine c ⌝ }
 {
     c != CR && (c != LF && c != END)
 }
@@ -101,11 +101,11 @@ pub fn is_in(k: Class, c: usize) -> bool
         Class::HexDigit => is_hex_digit(c),
         Class::AlphaNumeric => is_alpha_numeric(c),
         Class::Word => is_word(c),
-        Class::Comment => is_comment(c),
+        Class::Line => is_line(c),
     }
 }
 
-// Where the run of the class that starts at `from` ends.
+// Where the run of the class that starts at `from` ends: there, where no byte of the class stands there.
 pub fn run_end(k: Class, s: &[u8], from: usize) -> usize
     ensures { λ r. ⌜ r ≡ runEnd (isIn k) (now (s .entry)) from ⌝ }
 {

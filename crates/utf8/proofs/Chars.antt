@@ -93,6 +93,6 @@ pub stop-none : (to at n : ℕ) → stop to at n [] ≡ place at n
 unfolding begunIn sizeOf
 stop-none to at n = ap₂ place (omega arith) (omega arith)
 
-pub stop-start : (to : ℕ) (xs : List ℕ) → nextStart to xs ≡ stop to 0 0 (charsOf xs)
+pub stop-start : (to : ℕ) (xs : List ℕ) → nextStart xs to ≡ stop to 0 0 (charsOf xs)
 unfolding charNumber
 stop-start to xs = rw (sub-zero) (ap₂ place (omega arith) (omega arith))

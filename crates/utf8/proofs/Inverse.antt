@@ -4,24 +4,27 @@ use Prim.Native.Nat.{ℕ, zero, suc, _+_, _*_, _/_, _%_, _^_, _<_, _≤_}
 use native.Mathlib.Omega.{arith}
 use native.Mathlib.Decide.{decLe, ℕ-discrete}
 use mathlib.Core.Bool.{Bool, true, false, cond, _&&_, _||_, true≢false}
-use mathlib.Core.List.{List, [], _∷_, _++_}
+use mathlib.Core.List.{List, [], _∷_, _++_, append-nil}
 use mathlib.Core.Logic.{_⊎_, inl, inr, ⊎-elim}
-use mathlib.Core.Path.{_≡_, refl, sym, ap, ap₂, _∙_}
+use mathlib.Core.Path.{_≡_, refl, sym, ap, ap₂, subst, _∙_}
 use lib.Dec.{leb, ltb, eqb}
-use lib.ListN.{length, take}
+use lib.ListN.{length, take, length-append}
+use lib.Seq.{length-take-le, take-length}
 use borrow.Author.Tests.{eq-eqb, ne-eqb, le-leb, lt-leb, lt-ltb, le-ltb, eqb-true, leb-true, leb-false, ltb-true}
 use Rattle.scan.specs.Byte.{peekAt, isWithin}
 use Rattle.scan.proofs.Choice.{either, and-left, and-right}
-use Rattle.utf8.specs.declared.Character.the-variants.{Scalar}
+use Rattle.utf8.specs.declared.Character.the-variants.{Scalar, IllFormed}
 use Rattle.utf8.specs.Table.{tail, isTail, fits, charLength}
 use Rattle.utf8.specs.Lead.{sizeBy, lowSecond, highSecond, withTails}
 use Rattle.utf8.specs.Code.{codeOf, isScalar, sixBits, encoded}
+use Rattle.utf8.specs.Text.{charsPast, sizeOf, WellFormed}
 use Rattle.utf8.specs.Answers.{characterOf}
-use Rattle.utf8.specs.Laws.{EncodeDecode, DecodeEncode}
+use Rattle.utf8.specs.Laws.{EncodeDecode, DecodeEncode, LongCode, textOf, AllScalar, TextIs}
 use Rattle.utf8.proofs.Lead.{within-yes, within-bounds, second, sized, char-by, char-tests}
 use Rattle.utf8.proofs.Chars.{char-bound}
 use Rattle.utf8.proofs.Codes.{one-byte, two-bytes, three-bytes, four-bytes}
-use Rattle.utf8.proofs.Laws.{ascii-length, ascii-code}
+use Rattle.utf8.proofs.Texts.{One, chars-one, by-characters}
+use Rattle.utf8.proofs.Laws.{none-empty, rest-well, ascii-length, ascii-code}
 
 -- the sizes by a first byte, each within its bounds
 module _ (a : ℕ) where
@@ -303,3 +306,56 @@ module _ (a : ℕ) where
 pub decode-encode : DecodeEncode
 decode-encode [] h = let f : ⊥ = omega (arith, char-bound []) in absurd f
 decode-encode (x ∷ xs) h = rw (char-by x xs) (back x (sizeBy x) xs (size-range x) (rw (char-by x xs) at h))
+
+-- a longer character's code point is not ASCII, since one that is has one byte
+pub long-code : LongCode
+long-code xs h = go (decLe 0x80 (codeOf (charLength xs) xs))
+  where
+    go : Dec (0x80 ≤ codeOf (charLength xs) xs) → 0x80 ≤ codeOf (charLength xs) xs
+    go (yes y) = y
+    go (no y) =
+        let b = decode-encode xs (omega arith) .1 in
+        let e : length (codeOf (charLength xs) xs ∷ []) ≡ length (take (charLength xs) xs) = ap length (sym (one-byte (codeOf (charLength xs) xs) (omega arith)) ∙ b) in
+        let f : ⊥ = omega (arith, length-take-le (charLength xs) xs (char-bound xs)) in absurd f
+
+-- the bytes of a code point are those of one character
+size-told : (xs : List ℕ) (c n : ℕ) → characterOf xs ≡ Scalar c n → charLength xs ≡ n
+size-told xs c n = go (eqb (charLength xs) 0)
+  where
+    go : (t : Bool) → cond t IllFormed (Scalar (codeOf (charLength xs) xs) (charLength xs)) ≡ Scalar c n → charLength xs ≡ n
+    go true e = cc
+    go false e = cc
+
+encoded-some : (c : ℕ) → 0 < length (encoded c)
+unfolding encoded
+encoded-some c =
+    let P : List ℕ → Type 0 = λ bs. 0 < length bs in
+    either P (leb c 0x7f) (λ e. omega arith)
+    (λ e. either P (leb c 0x7ff) (λ e. omega arith) (λ e. either P (leb c 0xffff) (λ e. omega arith) (λ e. omega arith)))
+
+encoded-one : (c : ℕ) → isScalar c ≡ true → One (encoded c)
+encoded-one c s =
+    record { some = encoded-some c; whole = size-told (encoded c) c (length (encoded c)) (rw append-nil at (encode-decode c [] s)) }
+
+well-join : (bs ys : List ℕ) → One bs → WellFormed ys → WellFormed (bs ++ ys)
+unfolding sizeOf
+well-join bs ys o w = rw (chars-one bs ys o) (omega (arith, w, length-append bs ys))
+
+text-well : (cs : List ℕ) → AllScalar cs → WellFormed (textOf cs)
+text-well [] a = unfold charsPast sizeOf in refl
+text-well (c ∷ cs) a = well-join (encoded c) (textOf cs) (encoded-one c (a .0)) (text-well cs (a .1))
+
+abbrev Written : List ℕ → Type 0
+Written xs = (cs : List ℕ) × AllScalar cs × (textOf cs ≡ xs)
+
+written-more : (bs ys : List ℕ) → One bs → (WellFormed ys → Written ys) → WellFormed (bs ++ ys) → Written (bs ++ ys)
+written-more bs ys o ih w =
+    let t = ih (rest-well bs ys o w) in
+    let b = rw (o .whole) at (decode-encode bs (omega (arith, o .some, o .whole))) in
+    (codeOf (length bs) bs ∷ t .0, (b .0, t .1), ap₂ _++_ (b .1 ∙ take-length bs) (t .2))
+
+pub text-is : TextIs
+text-is xs = (
+  by-characters (λ xs. WellFormed xs → Written xs) (λ xs e w. ([], tt, sym (none-empty xs e w))) written-more xs,
+  λ t. subst WellFormed (t .2) (text-well (t .0) (t .1)),
+)

@@ -1,23 +1,23 @@
--- The laws of `specs/Laws`. Joins and cuts go by the characters of the first text (`by-characters`).
+-- The laws of steps, of ASCII bytes and of joins. What holds of each byte of a character is read off the table's rows by one computed
+-- test; joins go by the characters of the first text (`by-characters`).
 use Prim.Native.Nat.{ℕ, zero, suc, _+_, _-_, _<_, _≤_}
 use native.Mathlib.Nat.{zero-add}
 use native.Mathlib.Omega.{arith}
-use mathlib.Core.Bool.{Bool, true, false, cond, _&&_, _||_}
+use mathlib.Core.Bool.{Bool, true, false, cond, _&&_, _||_, true≢false}
 use mathlib.Core.List.{List, [], _∷_, _++_, append-assoc}
-use mathlib.Core.Path.{_≡_, refl, sym, ap, ap₂, _∙_}
-use lib.Dec.{leb, ltb}
-use lib.ListN.{length, take, drop, length-append, length-drop, take-append-drop}
-use lib.Seq.{take-append-add, drop-append-add, length-take-le, take-length}
+use mathlib.Core.Path.{_≡_, refl, sym, ap, _∙_}
+use lib.Dec.{eqb, leb}
+use lib.ListN.{length, drop, length-append}
 use borrow.Author.Tests.{leb-true, ne-eqb}
 use Rattle.scan.specs.Byte.{peekAt, isWithin}
-use Rattle.utf8.specs.Table.{Bounds, rows, fits, sizeIn, charLength}
-use Rattle.utf8.specs.Code.{codeOf}
-use Rattle.utf8.specs.Text.{Char, charOf, charsPast, charsOf, sizeOf, prefixEnd, WellFormed, startOf, begunIn, charNumber}
-use Rattle.utf8.specs.Laws.{AsciiAlone, NoneAscii, Longest, CharsJoin, PrefixJoin, NumberJoin, TextJoin, Cut}
 use Rattle.scan.proofs.Choice.{and-left, and-right}
+use Rattle.utf8.specs.Table.{Bounds, isTail, rows, fits, sizeIn, charLength}
+use Rattle.utf8.specs.Code.{codeOf}
+use Rattle.utf8.specs.Text.{Char, charOf, charsPast, charsOf, sizeOf, prefixEnd, WellFormed, begunIn, charNumber}
+use Rattle.utf8.specs.Laws.{Steps, AsciiAlone, AsciiHead, NoneAscii, CharsJoin, PrefixJoin, NumberJoin, TextJoin}
 use Rattle.utf8.proofs.Lead.{within-yes, within-bounds}
-use Rattle.utf8.proofs.Chars.{EachRow, of-size, chars-none, chars-some}
-use Rattle.utf8.proofs.Texts.{One, chars-one, by-characters, Filled, filled, prefix-bound}
+use Rattle.utf8.proofs.Chars.{EachRow, of-size, char-bound, chars-none, chars-some}
+use Rattle.utf8.proofs.Texts.{One, chars-one, by-characters, Filled, filled}
 
 -- a length of 0 is that of no bytes
 empty : {A : Type 0} (xs : List A) → length xs ≡ 0 → xs ≡ []
@@ -25,17 +25,17 @@ empty [] e = refl
 empty (x ∷ xs) e = let f : ⊥ = omega arith in absurd f
 
 -- a well-formed text of which no character begins is empty
-none-empty : (xs : List ℕ) → charLength xs ≡ 0 → WellFormed xs → xs ≡ []
+pub none-empty : (xs : List ℕ) → charLength xs ≡ 0 → WellFormed xs → xs ≡ []
 unfolding sizeOf
 none-empty xs e w = empty xs (sym w ∙ rw (chars-none xs e))
 
-size-join : (cs ds : List Char) → sizeOf (cs ++ ds) ≡ sizeOf cs + sizeOf ds
+pub size-join : (cs ds : List Char) → sizeOf (cs ++ ds) ≡ sizeOf cs + sizeOf ds
 unfolding sizeOf
 size-join [] ds = omega arith
 size-join (c ∷ cs) ds = omega (arith, size-join cs ds)
 
 -- what follows a well-formed text's first character is well-formed
-rest-well : (bs ys : List ℕ) → One bs → WellFormed (bs ++ ys) → WellFormed ys
+pub rest-well : (bs ys : List ℕ) → One bs → WellFormed (bs ++ ys) → WellFormed ys
 unfolding sizeOf
 rest-well bs ys o w = omega (arith, sym (ap sizeOf (chars-one bs ys o)) ∙ w, length-append bs ys)
 
@@ -53,86 +53,102 @@ pub text-join : TextJoin
 text-join xs ys w v = omega (arith, prefix-join xs ys w, v, length-append xs ys)
 
 -- characters before those that are counted are counted
-begun-join : (cs ds : List Char) (to : ℕ) → Filled cs → begunIn (sizeOf cs + to) (cs ++ ds) ≡ length cs + begunIn to ds
+pub begun-join : (cs ds : List Char) (to : ℕ) → Filled cs → begunIn (sizeOf cs + to) (cs ++ ds) ≡ length cs + begunIn to ds
 unfolding begunIn sizeOf
 begun-join [] ds to f = simp zero-add
 begun-join (c ∷ cs) ds to f =
     let e : c .size + sizeOf cs + to - c .size ≡ sizeOf cs + to = omega arith in
     rw (ne-eqb (c .size + sizeOf cs + to) 0 (λ z. omega (arith, f .0)), e) (omega (arith, begun-join cs ds to (f .1)))
 
+pub begun-none : (ds : List Char) → begunIn 0 ds ≡ 0
+unfolding begunIn
+begun-none [] = refl
+begun-none (d ∷ ds) = refl
+
+begun-inside : (cs ds : List Char) (to : ℕ) → to ≤ sizeOf cs → begunIn to (cs ++ ds) ≡ begunIn to cs
+unfolding begunIn sizeOf
+begun-inside [] ds to h = let e : to ≡ 0 = omega arith in rw e (begun-none ds)
+begun-inside (c ∷ cs) ds to h = ap (λ (n : ℕ). cond (eqb to 0) 0 (suc n)) (begun-inside cs ds (to - c .size) (omega arith))
+
 pub number-join : NumberJoin
 unfolding charNumber
-number-join xs ys w to = rw (chars-join xs ys w, ← w) (begun-join (charsOf xs) (charsOf ys) to (filled xs))
+number-join xs ys w to =
+    rw (chars-join xs ys w, ← w)
+    (begun-join (charsOf xs) (charsOf ys) to (filled xs), begun-inside (charsOf xs) (charsOf ys) to)
 
--- cut where a character begins, a text has the characters before it and those from it on
-abbrev CutAt : List ℕ → ℕ → Type 0
-CutAt xs k = (charsOf (take (startOf k xs) xs) ≡ take k (charsOf xs)) × (charsOf (drop (startOf k xs) xs) ≡ drop k (charsOf xs))
+pub steps : Steps
+steps xs = (char-bound xs, chars-none xs, chars-some xs)
 
-cut-none : (xs : List ℕ) → charLength xs ≡ 0 → (k : ℕ) → CutAt xs k
-unfolding sizeOf
-cut-none xs e zero = (unfold charsPast in refl, refl)
-cut-none xs e (suc k) = let n = chars-none xs e in (rw n (unfold charsPast in refl), rw n n)
+-- what a test of bounds says of the bytes within them, rows that pass it say of each byte that fits them
+module _ (test : Bounds → Bool) where
+  abbrev pub all : List Bounds → Bool
+  all [] = true
+  all (b ∷ bs) = test b && all bs
 
-cut-more : (bs ys : List ℕ) → One bs → ((k : ℕ) → CutAt ys k) → (k : ℕ) → CutAt (bs ++ ys) k
-unfolding sizeOf
-cut-more bs ys o ih zero = (unfold charsPast in refl, refl)
-cut-more bs ys o ih (suc k) =
-    let e = chars-one bs ys o in (
-      rw (e, take-append-add, chars-one bs (take (startOf k ys) ys) o) (ap (λ (t : List Char). charOf (length bs) bs ∷ t) (ih k .0)),
-      rw (e, drop-append-add) (ih k .1),
-    )
+  pub each-fits : (P : ℕ → Type 0) → ((b : Bounds) (x : ℕ) → test b ≡ true → isWithin (b .lo) (b .hi) x ≡ true → P x) → (r : List Bounds) (xs : List ℕ) → all r ≡ true → fits r xs ≡ true → (i : ℕ) → i < length r → P (peekAt xs i)
+  unfolding fits
+  each-fits P f [] xs h e i l = let z : ⊥ = omega arith in absurd z
+  each-fits P f (b ∷ bs) [] h e i l = absurd (true≢false (sym e))
+  each-fits P f (b ∷ bs) (x ∷ xs) h e zero l = f b x (and-left (test b) (all bs) h) (and-left (isWithin (b .lo) (b .hi) x) (fits bs xs) e)
+  each-fits P f (b ∷ bs) (x ∷ xs) h e (suc i) l =
+      each-fits P f bs xs (and-right (test b) (all bs) h) (and-right (isWithin (b .lo) (b .hi) x) (fits bs xs) e) i (omega arith)
 
-cut-at : (xs : List ℕ) (k : ℕ) → CutAt xs k
-cut-at = by-characters (λ xs. (k : ℕ) → CutAt xs k) cut-none cut-more
+-- a test of every row
+module _ (test : List Bounds → Bool) (xs : List ℕ) (P : ℕ → Type 0) (says : (r : List Bounds) → test r ≡ true → fits r xs ≡ true → P (length r)) where
+  abbrev everyRow : List (List Bounds) → Bool
+  everyRow [] = true
+  everyRow (r ∷ rs) = test r && everyRow rs
 
-start-bound : (xs : List ℕ) (k : ℕ) → startOf k xs ≤ length xs
-start-bound xs k =
-    omega (arith, prefix-bound xs, sym (ap sizeOf (take-append-drop k (charsOf xs))) ∙ size-join (take k (charsOf xs)) (drop k (charsOf xs)))
+  each : (rs : List (List Bounds)) → everyRow rs ≡ true → EachRow xs P rs
+  each [] e = tt
+  each (r ∷ rs) e = (says r (and-left (test r) (everyRow rs) e), each rs (and-right (test r) (everyRow rs) e))
 
-cut-front : (xs : List ℕ) (k : ℕ) → WellFormed (take (startOf k xs) xs)
-cut-front xs k = ap sizeOf (cut-at xs k .0) ∙ sym (length-take-le (startOf k xs) xs (start-bound xs k))
+  by-rows : P 0 → everyRow rows ≡ true → P (charLength xs)
+  unfolding charLength
+  by-rows z e = of-size xs P z rows (each rows e)
 
-pub cut : Cut
-cut xs w k = (
-  cut-front xs k,
-  omega (arith, w, ap sizeOf (cut-at xs k .1), length-drop (startOf k xs) xs, sym (ap sizeOf (take-append-drop k (charsOf xs))) ∙ size-join (take k (charsOf xs)) (drop k (charsOf xs))),
-)
+-- a row has one byte, or none below 80
+abbrev isHigh : Bounds → Bool
+isHigh b = leb 0x80 (b .lo)
 
-pub longest : Longest
-longest xs = (rw take-length at (cut-front xs (length (charsOf xs))), λ n h w. omega (arith, rw take-append-drop at (prefix-join (take n xs) (drop n xs) w), length-take-le n xs h))
+abbrev isLong : List Bounds → Bool
+isLong r = leb (length r) 1 || all isHigh r
 
--- the rows of more than one byte have no byte below 80
-abbrev high : List Bounds → Bool
-high [] = true
-high (b ∷ bs) = leb 0x80 (b .lo) && high bs
-
-abbrev longHigh : List (List Bounds) → Bool
-longHigh [] = true
-longHigh (r ∷ rs) = (leb (length r) 1 || high r) && longHigh rs
-
-high-fits : (r : List Bounds) (xs : List ℕ) → high r ≡ true → fits r xs ≡ true → (i : ℕ) → i < length r → 0x80 ≤ peekAt xs i
-unfolding fits
-high-fits [] xs h e i l = let f : ⊥ = omega arith in absurd f
-high-fits (b ∷ bs) [] h e i l = let z : _≡_ {A = ℕ} 0 1 = cc in let f : ⊥ = omega arith in absurd f
-high-fits (b ∷ bs) (x ∷ xs) h e zero l =
-    omega (arith, leb-true 0x80 (b .lo) (and-left (leb 0x80 (b .lo)) (high bs) h), within-bounds (b .lo) (b .hi) x (and-left (isWithin (b .lo) (b .hi) x) (fits bs xs) e) .0)
-high-fits (b ∷ bs) (x ∷ xs) h e (suc i) l =
-    high-fits bs xs (and-right (leb 0x80 (b .lo)) (high bs) h) (and-right (isWithin (b .lo) (b .hi) x) (fits bs xs) e) i (omega arith)
-
-abbrev HighBytes : List ℕ → ℕ → Type 0
-HighBytes xs n = 1 < n → (i : ℕ) → i < n → 0x80 ≤ peekAt xs i
-
-long-high : (xs : List ℕ) (rs : List (List Bounds)) → longHigh rs ≡ true → EachRow xs (HighBytes xs) rs
-long-high xs [] e = tt
-long-high xs (r ∷ rs) e = (λ f m. go (leb (length r) 1) refl (and-left (leb (length r) 1 || high r) (longHigh rs) e) m f, long-high xs rs (and-right (leb (length r) 1 || high r) (longHigh rs) e))
+long-high : (xs : List ℕ) (r : List Bounds) → isLong r ≡ true → fits r xs ≡ true → 1 < length r → (i : ℕ) → i < length r → 0x80 ≤ peekAt xs i
+long-high xs r h e m = go (leb (length r) 1) refl h
   where
-    go : (t : Bool) → leb (length r) 1 ≡ t → t || high r ≡ true → 1 < length r → fits r xs ≡ true → (i : ℕ) → i < length r → 0x80 ≤ peekAt xs i
-    go true s h m f = let z : ⊥ = omega (arith, leb-true (length r) 1 s) in absurd z
-    go false s h m f = high-fits r xs h f
+    go : (t : Bool) → leb (length r) 1 ≡ t → t || all isHigh r ≡ true → (i : ℕ) → i < length r → 0x80 ≤ peekAt xs i
+    go true s h = let z : ⊥ = omega (arith, leb-true (length r) 1 s) in absurd z
+    go false s h =
+        each-fits isHigh (λ x. 0x80 ≤ x) (λ b x h w. omega (arith, leb-true 0x80 (b .lo) h, within-bounds (b .lo) (b .hi) x w)) r xs h e
 
 pub none-ascii : NoneAscii
-unfolding charLength
-none-ascii xs i m l = of-size xs (HighBytes xs) (λ z. let f : ⊥ = omega arith in absurd f) rows (long-high xs rows refl) m i l
+none-ascii xs i m l =
+    by-rows isLong xs (λ n. 1 < n → (i : ℕ) → i < n → 0x80 ≤ peekAt xs i) (long-high xs) (λ z. let f : ⊥ = omega arith in absurd f) refl m i l
+
+-- all but the first of a row's bytes go on with a character
+abbrev isGoing : Bounds → Bool
+isGoing b = leb 0x80 (b .lo) && leb (b .hi) 0xbf
+
+abbrev isGoingOn : List Bounds → Bool
+isGoingOn r = all isGoing (drop 1 r)
+
+going : (b : Bounds) (x : ℕ) → isGoing b ≡ true → isWithin (b .lo) (b .hi) x ≡ true → isTail x ≡ true
+going b x h w =
+    within-yes 0x80 0xbf x (omega (arith, leb-true 0x80 (b .lo) (and-left (leb 0x80 (b .lo)) (leb (b .hi) 0xbf) h), within-bounds (b .lo) (b .hi) x w))
+    (omega (arith, leb-true (b .hi) 0xbf (and-right (leb 0x80 (b .lo)) (leb (b .hi) 0xbf) h), within-bounds (b .lo) (b .hi) x w))
+
+goes-on : (xs : List ℕ) (r : List Bounds) → isGoingOn r ≡ true → fits r xs ≡ true → (i : ℕ) → 0 < i → i < length r → isTail (peekAt xs i) ≡ true
+unfolding fits
+goes-on xs [] h e i z l = let f : ⊥ = omega arith in absurd f
+goes-on [] (b ∷ bs) h e i z l = absurd (true≢false (sym e))
+goes-on (x ∷ xs) (b ∷ bs) h e zero z l = let f : ⊥ = omega arith in absurd f
+goes-on (x ∷ xs) (b ∷ bs) h e (suc i) z l =
+    each-fits isGoing (λ x. isTail x ≡ true) going bs xs h (and-right (isWithin (b .lo) (b .hi) x) (fits bs xs) e) i (omega arith)
+
+pub tail-inside : (xs : List ℕ) (i : ℕ) → 0 < i → i < charLength xs → isTail (peekAt xs i) ≡ true
+tail-inside xs i z l =
+    by-rows isGoingOn xs (λ n. (i : ℕ) → 0 < i → i < n → isTail (peekAt xs i) ≡ true) (goes-on xs) (λ i z l. let f : ⊥ = omega arith in absurd f) refl i z l
 
 pub ascii-length : (x : ℕ) (xs : List ℕ) → x < 0x80 → charLength (x ∷ xs) ≡ 1
 unfolding charLength sizeIn fits
@@ -146,3 +162,9 @@ pub ascii-alone : AsciiAlone
 ascii-alone x xs h =
     let e = ascii-length x xs h in
     chars-some (x ∷ xs) (omega (arith, e)) ∙ rw (e, ascii-code x xs h)
+
+pub ascii-head : AsciiHead
+unfolding sizeOf charNumber begunIn
+ascii-head x xs h =
+    let e = ascii-alone x xs h in
+    (ap sizeOf e ∙ omega arith, λ to. rw (e, ne-eqb (suc to) 0 (λ z. omega arith)) (ap (λ (n : ℕ). suc (begunIn n (charsOf xs))) (omega arith)))

@@ -3,5 +3,7 @@ pub mod Chars
 pub mod Codes
 pub mod Texts
 pub mod Laws
+pub mod Cuts
 pub mod Inverse
+pub mod Given
 pub mod Unique

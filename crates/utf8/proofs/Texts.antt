@@ -131,9 +131,13 @@ unfolding begunIn sizeOf
 all-begun [] to f h = refl
 all-begun (c ∷ cs) to f h = rw (ne-eqb to 0 (λ e. omega (arith, f .0))) (ap suc (all-begun cs (to - c .size) (f .1) (omega arith)))
 
-pub number-all : (xs : List ℕ) → charNumber xs (length xs) ≡ length (charsOf xs)
+pub number-end : (xs : List ℕ) → charNumber xs (prefixEnd xs) ≡ length (charsOf xs)
+unfolding charNumber
+number-end xs = all-begun (charsOf xs) (prefixEnd xs) (filled xs) (omega arith)
+
+number-all : (xs : List ℕ) → charNumber xs (length xs) ≡ length (charsOf xs)
 unfolding charNumber
 number-all xs = all-begun (charsOf xs) (length xs) (filled xs) (prefix-bound xs)
 
-pub start-all : (xs : List ℕ) → nextStart (length xs) xs ≡ place (prefixEnd xs) (length (charsOf xs))
+pub start-all : (xs : List ℕ) → nextStart xs (length xs) ≡ place (prefixEnd xs) (length (charsOf xs))
 start-all xs = rw (number-all xs, take-length (charsOf xs))

@@ -1,4 +1,4 @@
--- What the functions answer, and document 01's refusals 1 and 2, which every reader of a text has.
+-- What the functions answer, and document 01's refusals 1 and 2, in that order.
 use Prim.Native.Nat.{ℕ, _+_}
 use mathlib.Core.Bool.{cond}
 use mathlib.Core.List.{List, _++_}
@@ -18,25 +18,28 @@ use Rattle.utf8.specs.declared.Encoding.{Encoding}
 use Rattle.utf8.specs.declared.Encoding.the-variants.{Written, NotScalar, NoRoom}
 use Rattle.utf8.specs.Table.{charLength}
 use Rattle.utf8.specs.Code.{codeOf, isScalar, encoded}
-use Rattle.utf8.specs.Text.{charsOf, sizeOf, startOf, charNumber}
+use Rattle.utf8.specs.Text.{charsOf, prefixEnd, startOf, charNumber}
 
-abbrev pub characters : ℕ → CharNumber
-characters n = record { 0 = n }
+-- so many characters
+abbrev pub count : ℕ → CharNumber
+count n = record { 0 = n }
 
 abbrev pub place : ℕ → ℕ → Place
-place b n = record { byte = record { 0 = b }; character = characters n }
+place b n = record { byte = record { 0 = b }; character = count n }
 
--- where the first character begins that is not before an offset
-abbrev pub nextStart : ℕ → List ℕ → Place
-nextStart to xs = let k = charNumber xs to in place (startOf k xs) k
+-- the place of an offset of a text: the offset, and how many characters begin before it
+abbrev pub placeAt : List ℕ → ℕ → Place
+placeAt xs at = place at (charNumber xs at)
+
+-- the place of the first character that does not begin before an offset, or of the end of the longest well-formed prefix
+abbrev pub nextStart : List ℕ → ℕ → Place
+nextStart xs to = place (startOf xs (charNumber xs to)) (charNumber xs to)
 
 -- the number of characters, or the end of the longest well-formed prefix
 unfoldable pub validityOf : List ℕ → Validity
-validityOf xs =
-    let cs = charsOf xs in
-    cond (eqb (sizeOf cs) (length xs)) (Valid (characters (length cs))) (Invalid (place (sizeOf cs) (length cs)))
+validityOf xs = cond (eqb (prefixEnd xs) (length xs)) (Valid (count (length (charsOf xs)))) (Invalid (placeAt xs (prefixEnd xs)))
 
--- 1: "too long", at 0, 0; 2: "not UTF-8", at the "end of the longest well-formed prefix"; in this order
+-- 1: "too long", at 0, 0; 2: "not UTF-8", at the "end of the longest well-formed prefix"
 abbrev pub tooLong : Refusal
 tooLong = record { number = 1; place = place 0 0 }
 
@@ -50,7 +53,7 @@ admittedAs (Invalid p) = Refused (notUtf8 p)
 unfoldable pub admitted : ℕ → List ℕ → Admission
 admitted limit xs = cond (ltb limit (length xs)) (Refused tooLong) (admittedAs (validityOf xs))
 
--- the character that a list begins with, and the one at an offset of a text
+-- the character that a list begins with, and the one that the bytes from an offset on begin with
 abbrev pub characterOf : List ℕ → Character
 characterOf xs = let n = charLength xs in cond (eqb n 0) IllFormed (Scalar (codeOf n xs) n)
 

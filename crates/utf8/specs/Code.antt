@@ -9,7 +9,8 @@ use Rattle.scan.specs.Byte.{peekAt}
 unfoldable pub isScalar : ℕ → Bool
 isScalar c = leb c 0x10ffff && (ltb c 0xd800 || ltb 0xdfff c)
 
--- the code point of the character of n bytes that a list begins with: the low bits of its first byte, and six of each other
+-- the code point of the character of n bytes that a list begins with: seven, five, four or three bits of its first byte, and six of
+-- each other: 0xxxxxxx, 110xxxxx 10xxxxxx, 1110xxxx 10xxxxxx 10xxxxxx, 11110xxx 10xxxxxx 10xxxxxx 10xxxxxx
 unfoldable pub codeOf : ℕ → List ℕ → ℕ
 codeOf n xs =
     let a = peekAt xs 0 in
@@ -25,7 +26,7 @@ codeOf n xs =
 unfoldable pub sixBits : ℕ → ℕ
 sixBits c = 0x80 + c % 64
 
--- the bytes of a code point
+-- the bytes of a code point that is a character's
 unfoldable pub encoded : ℕ → List ℕ
 encoded c =
     cond (leb c 0x7f) (c ∷ [])

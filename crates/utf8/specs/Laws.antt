@@ -1,48 +1,97 @@
--- What the crates above may know of characters, as statements; `proofs/Laws` has their proofs.
-use Prim.Native.Nat.{ℕ, _+_, _≤_, _<_}
-use mathlib.Core.Bool.{true}
-use mathlib.Core.List.{List, _∷_, _++_}
+-- What the crates above may know of characters, as statements. Their proofs stand in `proofs/Laws` and `proofs/Inverse`.
+use Prim.Native.Nat.{ℕ, suc, _+_, _≤_, _<_, min}
+use mathlib.Core.Bool.{true, false}
+use mathlib.Core.List.{List, [], _∷_, _++_}
+use mathlib.Core.Logic.{_↔_}
 use mathlib.Core.Path.{_≡_}
 use lib.ListN.{length, take, drop}
 use Rattle.utf8.specs.declared.Character.the-variants.{Scalar}
 use Rattle.scan.specs.Byte.{peekAt}
-use Rattle.utf8.specs.Table.{charLength}
+use Rattle.utf8.specs.Table.{isTail, charLength}
 use Rattle.utf8.specs.Code.{codeOf, isScalar, encoded}
-use Rattle.utf8.specs.Text.{charsOf, prefixEnd, WellFormed, startOf, charNumber}
+use Rattle.utf8.specs.Text.{charOf, charsOf, prefixEnd, WellFormed, startOf, charNumber}
 use Rattle.utf8.specs.Answers.{characterOf}
+
+-- the characters are the one that the bytes begin with, and those of the rest; none where they begin with none
+abbrev pub Steps : Type 0
+Steps =
+    (xs : List ℕ) →
+    let n = charLength xs in
+    (n ≤ length xs) × (n ≡ 0 → charsOf xs ≡ []) × (0 < n → charsOf xs ≡ charOf n xs ∷ charsOf (drop n xs))
 
 -- an ASCII byte is a character by itself
 abbrev pub AsciiAlone : Type 0
 AsciiAlone = (x : ℕ) (xs : List ℕ) → x < 0x80 → charsOf (x ∷ xs) ≡ record { code = x; size = 1 } ∷ charsOf xs
 
--- no byte of a longer character is ASCII
+-- so what follows it is text where the whole is, and has one character number less
+abbrev pub AsciiHead : Type 0
+AsciiHead =
+    (x : ℕ) (xs : List ℕ) → x < 0x80 →
+    (prefixEnd (x ∷ xs) ≡ suc (prefixEnd xs)) × ((to : ℕ) → charNumber (x ∷ xs) (suc to) ≡ suc (charNumber xs to))
+
+-- no byte of a longer character is ASCII, and neither is its code point
 abbrev pub NoneAscii : Type 0
 NoneAscii = (xs : List ℕ) (i : ℕ) → 1 < charLength xs → i < charLength xs → 0x80 ≤ peekAt xs i
 
+abbrev pub LongCode : Type 0
+LongCode = (xs : List ℕ) → 1 < charLength xs → 0x80 ≤ codeOf (charLength xs) xs
+
+-- the bytes of code points, one after the other
+abbrev pub textOf : List ℕ → List ℕ
+textOf [] = []
+textOf (c ∷ cs) = encoded c ++ textOf cs
+
+abbrev pub AllScalar : List ℕ → Type 0
+AllScalar [] = Unit {0}
+AllScalar (c ∷ cs) = (isScalar c ≡ true) × AllScalar cs
+
+-- bytes are well-formed exactly where they are those of some characters
+abbrev pub TextIs : Type 0
+TextIs = (xs : List ℕ) → WellFormed xs ↔ ((cs : List ℕ) × AllScalar cs × (textOf cs ≡ xs))
+
 -- the prefix that `prefixEnd` ends is well-formed, and no longer one is
 abbrev pub Longest : Type 0
-Longest = (xs : List ℕ) → WellFormed (take (prefixEnd xs) xs) × ((n : ℕ) → n ≤ length xs → WellFormed (take n xs) → n ≤ prefixEnd xs)
+Longest =
+    (xs : List ℕ) → WellFormed (take (prefixEnd xs) xs) × ((n : ℕ) → n ≤ length xs → WellFormed (take n xs) → n ≤ prefixEnd xs)
 
 -- after a well-formed text the characters of any bytes are what they are by themselves
 abbrev pub CharsJoin : Type 0
 CharsJoin = (xs ys : List ℕ) → WellFormed xs → charsOf (xs ++ ys) ≡ charsOf xs ++ charsOf ys
 
--- so the longest well-formed prefix moves along by the text's bytes
-abbrev pub PrefixJoin : Type 0
-PrefixJoin = (xs ys : List ℕ) → WellFormed xs → prefixEnd (xs ++ ys) ≡ length xs + prefixEnd ys
-
--- and the character numbers by its characters
-abbrev pub NumberJoin : Type 0
-NumberJoin =
-    (xs ys : List ℕ) → WellFormed xs → (to : ℕ) → charNumber (xs ++ ys) (length xs + to) ≡ length (charsOf xs) + charNumber ys to
-
--- and two well-formed texts make one
+-- so two well-formed texts make one
 abbrev pub TextJoin : Type 0
 TextJoin = (xs ys : List ℕ) → WellFormed xs → WellFormed ys → WellFormed (xs ++ ys)
 
--- a well-formed text cut at a character's start is two well-formed texts
+-- the longest well-formed prefix moves along by the text's bytes
+abbrev pub PrefixJoin : Type 0
+PrefixJoin = (xs ys : List ℕ) → WellFormed xs → prefixEnd (xs ++ ys) ≡ length xs + prefixEnd ys
+
+-- and the character numbers by its characters; within it they stay
+abbrev pub NumberJoin : Type 0
+NumberJoin =
+    (xs ys : List ℕ) → WellFormed xs → (to : ℕ) →
+    (charNumber (xs ++ ys) (length xs + to) ≡ length (charsOf xs) + charNumber ys to) × (to ≤ length xs → charNumber (xs ++ ys) to ≡ charNumber xs to)
+
+-- cut at a character's start, bytes have the characters before it and those from it on, and k of them begin before it
 abbrev pub Cut : Type 0
-Cut = (xs : List ℕ) → WellFormed xs → (k : ℕ) → WellFormed (take (startOf k xs) xs) × WellFormed (drop (startOf k xs) xs)
+Cut =
+    (xs : List ℕ) (k : ℕ) →
+    let at = startOf xs k in
+    (charsOf (take at xs) ≡ take k (charsOf xs)) × (charsOf (drop at xs) ≡ drop k (charsOf xs)) × (charNumber xs at ≡ min k (length (charsOf xs)))
+
+-- so a well-formed text cut there is two well-formed texts
+abbrev pub TextCut : Type 0
+TextCut = (xs : List ℕ) → WellFormed xs → (k : ℕ) → WellFormed (take (startOf xs k) xs) × WellFormed (drop (startOf xs k) xs)
+
+-- in a well-formed text a character starts wherever no byte stands that goes on with one: before an ASCII byte, say, or at the end
+abbrev pub Boundary : Type 0
+Boundary =
+    (xs : List ℕ) → WellFormed xs → (at : ℕ) → at ≤ length xs → isTail (peekAt xs at) ≡ false → startOf xs (charNumber xs at) ≡ at
+
+-- and behind an ASCII byte
+abbrev pub AsciiBoundary : Type 0
+AsciiBoundary =
+    (xs : List ℕ) → WellFormed xs → (at : ℕ) → at < length xs → peekAt xs at < 0x80 → startOf xs (charNumber xs (suc at)) ≡ suc at
 
 -- the bytes of a code point are one character, which has that code point, whatever follows
 abbrev pub EncodeDecode : Type 0

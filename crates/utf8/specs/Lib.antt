@@ -3,4 +3,5 @@ pub mod Code
 pub mod Text
 pub mod Answers
 pub mod Lead
+pub mod Refusals
 pub mod Laws

@@ -18,9 +18,9 @@ abbrev pub tail : Bounds
 tail = 0x80 to 0xbf
 
 abbrev pub isTail : ℕ → Bool
-isTail c = isWithin 0x80 0xbf c
+isTail c = isWithin (tail .lo) (tail .hi) c
 
--- a row for each line of the grammar, with the bounds of each byte of the character
+-- a row for each alternative of UTF8-1, UTF8-2, UTF8-3 and UTF8-4, with the bounds of each byte of the character
 abbrev pub rows : List (List Bounds)
 rows =
     (0x00 to 0x7f ∷ [])
@@ -40,7 +40,7 @@ fits [] xs = true
 fits (b ∷ bs) [] = false
 fits (b ∷ bs) (x ∷ xs) = isWithin (b .lo) (b .hi) x && fits bs xs
 
--- the length of the row that a list begins with, or 0 where it begins with none
+-- the length of the first row that the bytes of a list fit (they fit at most one), or 0 where they fit none
 unfoldable pub sizeIn : List (List Bounds) → List ℕ → ℕ
 sizeIn [] xs = 0
 sizeIn (r ∷ rs) xs = cond (fits r xs) (length r) (sizeIn rs xs)

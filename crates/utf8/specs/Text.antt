@@ -1,4 +1,4 @@
--- The characters of a text, where its longest well-formed prefix ends, and the number of the character at an offset.
+-- The characters of a text, where its longest well-formed prefix ends, and how many characters begin before an offset.
 use Prim.Native.Nat.{ℕ, zero, suc, pred, _+_, _-_}
 use mathlib.Core.Bool.{cond}
 use mathlib.Core.List.{List, [], _∷_}
@@ -16,7 +16,7 @@ pub record Char : Type 0 where
 abbrev pub charOf : ℕ → List ℕ → Char
 charOf n xs = record { code = codeOf n xs; size = n }
 
--- the characters of what follows the next k bytes, which the character before has taken, up to where none begins
+-- k bytes are passed over, which the character before has taken; then come the characters, up to where none begins
 unfoldable pub charsPast : ℕ → List ℕ → List Char
 charsPast k [] = []
 charsPast (suc k) (x ∷ xs) = charsPast k xs
@@ -38,19 +38,19 @@ sizeOf (c ∷ cs) = c .size + sizeOf cs
 abbrev pub prefixEnd : List ℕ → ℕ
 prefixEnd xs = sizeOf (charsOf xs)
 
--- a text is UTF-8 where that is the whole of it
+-- bytes are UTF-8 text where that is the whole of them
 abbrev pub WellFormed : List ℕ → Type 0
 WellFormed xs = prefixEnd xs ≡ length xs
 
 -- where the character of number k begins, and past the last one where the prefix ends
-abbrev pub startOf : ℕ → List ℕ → ℕ
-startOf k xs = sizeOf (take k (charsOf xs))
+abbrev pub startOf : List ℕ → ℕ → ℕ
+startOf xs k = sizeOf (take k (charsOf xs))
 
 -- how many of the characters begin within the first `to` bytes
 unfoldable pub begunIn : ℕ → List Char → ℕ
 begunIn to [] = 0
 begunIn to (c ∷ cs) = let rest = begunIn (to - c .size) cs in cond (eqb to 0) 0 (suc rest)
 
--- the number of the character at an offset: how many begin before it
+-- how many characters begin before an offset: one that it lies inside counts, and past the longest well-formed prefix begins none
 unfoldable pub charNumber : List ℕ → ℕ → ℕ
 charNumber xs to = begunIn to (charsOf xs)

@@ -8,9 +8,9 @@ ghost use Rattle.utf8.specs.Table.{isTail, charLength};
 ghost use Rattle.utf8.specs.Lead.{sizeBy, lowSecond, highSecond, withTails};
 ghost use Rattle.utf8.specs.Text.{charNumber};
 ghost use Rattle.utf8.specs.Code.{codeOf, isScalar, sixBits, encoded};
-ghost use Rattle.utf8.specs.Answers.{characters, nextStart, validityOf, admitted, characterAt, encodingOf, leftBy};
+ghost use Rattle.utf8.specs.Answers.{count, nextStart, validityOf, admitted, characterAt, encodingOf, leftBy};
 
-// How many bytes of a text come before a place.
+// How many bytes come before a place.
 pub struct ByteOffset(pub usize);
 
 // How many characters of a text begin before a place.
@@ -31,7 +31,7 @@ pub struct Refusal {
 // The most bytes of a query, a literal or a text.
 pub const TEXT_LIMIT: usize = 65535;
 
-// The refusals that every reader has.
+// Document 01's refusals that readers share: the text is too long, is not UTF-8, or its result has no room.
 pub const TOO_LONG: usize = 1;
 
 pub const NOT_UTF8: usize = 2;
@@ -50,7 +50,7 @@ pub enum Admission {
     Refused(Refusal),
 }
 
-// What stands at an offset: a character, nothing more, or bytes that begin none.
+// What the bytes from an offset on begin with: a character, nothing since there are none, or no character.
 pub enum Character {
     Scalar { code: u32, size: usize },
     Nothing,
@@ -144,7 +144,7 @@ fn char_length(s: &[u8]) -> usize
 
 // Where the first character begins that is not before an offset, or the longest well-formed prefix ends.
 fn next_start(text: &[u8], to: usize) -> Place
-    ensures { λ r. ⌜ r ≡ nextStart to (now (text .entry)) ⌝ }
+    ensures { λ r. ⌜ r ≡ nextStart (now (text .entry)) to ⌝ }
 {
     let mut at = 0;
     let mut count = 0;
@@ -200,9 +200,9 @@ pub fn admit(text: &[u8], limit: usize) -> Admission
     }
 }
 
-// How many characters begin before an offset: one that the offset lies inside counts, and what is not text has none.
+// How many characters of the longest well-formed prefix begin before an offset; one that it lies inside counts.
 pub fn char_number(text: &[u8], to: ByteOffset) -> CharNumber
-    ensures { λ r. ⌜ r ≡ characters (charNumber (now (text .entry)) (to .0)) ⌝ }
+    ensures { λ r. ⌜ r ≡ count (charNumber (now (text .entry)) (to .0)) ⌝ }
 {
     let start = next_start(text, to.0);
     start.character
@@ -228,7 +228,7 @@ fn code_of(s: &[u8], n: usize) -> u32
     (((a % 8 * 64 + b % 64) * 64 + c % 64) * 64 + d % 64) as u32
 }
 
-// The character at an offset.
+// The character that the bytes from an offset on begin with, whatever stands before it.
 pub fn char_at(text: &[u8], at: ByteOffset) -> Character
     ensures { λ r. ⌜ r ≡ characterAt (now (text .entry)) (at .0) ⌝ }
 {
@@ -272,7 +272,7 @@ fn encoded_size(code: u32) -> usize
     if code <= 0xffff { 3 } else { 4 }
 }
 
-// Writes the bytes of a code point where there is room for them.
+// Writes the bytes of a code point, for which the caller has seen that there is room.
 fn write_code(code: u32, out: &mut [u8], at: usize)
     requires { ⌜ code ≤ 0x10ffff ⌝ }
     requires { ⌜ at + length (encoded code) ≤ length (now out) ⌝ }
@@ -299,7 +299,7 @@ fn write_code(code: u32, out: &mut [u8], at: usize)
     out[at + 3] = six_bits(code);
 }
 
-// Writes the bytes of a code point at an offset of a lent buffer; nothing where it is no character or has no room.
+// Writes the bytes of a code point at an offset of a lent buffer; nothing where it is no character's, or else has no room.
 pub fn encode(code: u32, out: &mut [u8], at: ByteOffset) -> Encoding
     ensures { λ r. ⌜ r ≡ encodingOf code (length (now (out .entry))) (at .0) ⌝ }
     ensures { λ r. ⌜ now (out .exit) ≡ leftBy r code (at .0) (now (out .entry)) ⌝ }

@@ -43,8 +43,8 @@ is-word-requires c κs = search needs
 enum-told-7 : tie.Need-enum-told-7
 enum-told-7 c = search needs
 
-is-comment-requires : tie.Need-is-comment-requires
-is-comment-requires c κs = search needs
+is-line-requires : tie.Need-is-line-requires
+is-line-requires c κs = search needs
 
 returns : tie.Need-returns
 unfolding isIn
@@ -91,7 +91,7 @@ is-in-spec =
     enum-told-6
     is-word-requires
     enum-told-7
-    is-comment-requires
+    is-line-requires
     returns
     returns-2
     returns-3

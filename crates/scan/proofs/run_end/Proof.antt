@@ -1,5 +1,5 @@
 -- `scan::run_end` meets its contract. The loop's invariant: the run from `from` ends where the run from `n` does.
--- A byte of the class takes the run one further (`goes-on`); any other, the end among them, stops it (`stops-at`).
+-- A byte of the class takes the run one further (`goes-on`); any other, the end among them, stops it (`run-stops`).
 use native.Mathlib.Omega.{arith}
 use native.Mathlib.Numerals.{add-one}
 use Prim.Native.Nat.{ℕ, _-_, _<_}
@@ -13,7 +13,7 @@ use Rattle.scan.specs.declared.Class.{Class}
 use Rattle.scan.specs.Byte.{peekAt, isIn}
 use Rattle.scan.specs.Run.{runEnd}
 use Rattle.scan.proofs.Classes.{end-in-none}
-use Rattle.scan.proofs.Runs.{inside, goes-on, stops-at}
+use Rattle.scan.proofs.Runs.{inside, goes-on, run-stops}
 use Rattle.scan.proofs.run_end.Statement.{statement}
 use Rattle.scan.proofs.run_end.Tie as tie
 
@@ -62,7 +62,7 @@ loop-again c =
 returns : tie.Need-returns Inv-loop μ-loop
 returns c =
     let a = c .before .before .before .before .before .args in
-    omega (arith, c .before .before .before .loop .inv, stops-at (isIn (a .k)) (end-in-none (a .k)) (now (a .s)) (c .before .before .before .loop .n) (cc))
+    omega (arith, c .before .before .before .loop .inv, run-stops (isIn (a .k)) (now (a .s)) (c .before .before .before .loop .n) (cc))
 
 pub run-end-spec : {M : Type 1} → statement M
 run-end-spec =

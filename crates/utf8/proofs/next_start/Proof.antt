@@ -16,7 +16,7 @@ use Rattle.utf8.proofs.next_start.Statement.{statement}
 use Rattle.utf8.proofs.next_start.Tie as tie
 
 abbrev Inv-loop : tie.InvT-loop
-Inv-loop text to at₀ count₀ at count = (at ≤ length text) × (count ≤ at) × (nextStart to text ≡ stop to at count (charsOf (drop at text)))
+Inv-loop text to at₀ count₀ at count = (at ≤ length text) × (count ≤ at) × (nextStart text to ≡ stop to at count (charsOf (drop at text)))
 
 abbrev μ-loop : tie.MeasureT-loop
 μ-loop text to at₀ count₀ at count = length text - at

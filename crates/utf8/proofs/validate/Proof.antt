@@ -11,7 +11,7 @@ use Rattle.utf8.specs.declared.Place.{Place}
 use Rattle.utf8.specs.declared.Validity.the-variants.{Valid, Invalid}
 use Rattle.utf8.specs.Text.{charsOf, prefixEnd}
 use Rattle.utf8.specs.Answers.{place, validityOf}
-use Rattle.utf8.proofs.Texts.{start-all}
+use Rattle.utf8.proofs.Texts.{number-end, start-all}
 use Rattle.utf8.proofs.validate.Statement.{statement}
 use Rattle.utf8.proofs.validate.Tie as tie
 
@@ -38,7 +38,7 @@ returns-2 : tie.Need-returns-2
 unfolding validityOf
 returns-2 c =
     let d = c .before .before .before .before in
-    rw (ne-eqb (prefixEnd (text d)) (length (text d)) (λ e. c .if1 .left (byte d ∙ e))) (ap Invalid (ends d))
+    rw (ne-eqb (prefixEnd (text d)) (length (text d)) (λ e. c .if1 .left (byte d ∙ e)), number-end (text d)) (ap Invalid (ends d))
 
 pub validate-spec : {M : Type 1} → statement M
 validate-spec = tie.close (tie.spec next-start-requires returns returns-2)
