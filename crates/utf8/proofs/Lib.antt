@@ -5,5 +5,6 @@ pub mod Texts
 pub mod Laws
 pub mod Cuts
 pub mod Inverse
+pub mod Bounds
 pub mod Given
 pub mod Unique

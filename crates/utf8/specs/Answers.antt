@@ -39,9 +39,20 @@ nextStart xs to = place (startOf xs (charNumber xs to)) (charNumber xs to)
 unfoldable pub validityOf : List ℕ → Validity
 validityOf xs = cond (eqb (prefixEnd xs) (length xs)) (Valid (count (length (charsOf xs)))) (Invalid (placeAt xs (prefixEnd xs)))
 
--- 1: "too long", at 0, 0; 2: "not UTF-8", at the "end of the longest well-formed prefix"
+-- "query, literal and text 65,535 bytes"
+abbrev pub textLimit : ℕ
+textLimit = 65535
+
+-- a refusal without a place: "none is 0, 0"
+abbrev pub atStart : ℕ → Refusal
+atStart n = record { number = n; place = place 0 0 }
+
+-- 1 "too long" and 3 "result needs more room", at 0, 0; 2 "not UTF-8", at the "end of the longest well-formed prefix"
 abbrev pub tooLong : Refusal
-tooLong = record { number = 1; place = place 0 0 }
+tooLong = atStart 1
+
+abbrev pub noRoom : Refusal
+noRoom = atStart 3
 
 abbrev pub notUtf8 : Place → Refusal
 notUtf8 p = record { number = 2; place = p }

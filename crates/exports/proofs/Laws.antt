@@ -1,0 +1,60 @@
+-- The laws of `specs/Laws`: the parts of a packed refusal are the digits of one number, and an accepted answer is at most a text's
+-- bytes or four, well below bit 63.
+use Prim.Native.Nat.{ℕ, _≤_}
+use native.Mathlib.Omega.{arith}
+use mathlib.Core.Bool.{Bool, true, false, cond, _||_}
+use mathlib.Core.Path.{_≡_, refl}
+use lib.Dec.{ltb}
+use lib.ListN.{length}
+use borrow.Author.Tests.{le-leb, lt-leb, ltb-false}
+use Rattle.utf8.specs.declared.Refusal.{Refusal}
+use Rattle.utf8.specs.declared.Admission.{Admission}
+use Rattle.utf8.specs.declared.Admission.the-variants.{Admitted, Refused}
+use Rattle.utf8.specs.declared.Character.{Character}
+use Rattle.utf8.specs.declared.Character.the-variants.{Scalar, Nothing, IllFormed}
+use Rattle.utf8.specs.declared.Encoding.{Encoding}
+use Rattle.utf8.specs.declared.Encoding.the-variants.{Written, NotScalar, NoRoom}
+use Rattle.utf8.specs.Answers.{placeAt, textLimit, tooLong, notUtf8, admitted, characterAt, encodingOf}
+use Rattle.exports.specs.Packed.{refusedFrom, packedOf}
+use Rattle.exports.specs.Utf8.{validateCode, characterCode, charAtCode, encodeCode}
+use Rattle.exports.specs.Laws.{NothingLost, looksRefused, isRefused, ValidateTold, isIllFormed, CharAtTold, isUnwritten, EncodeTold}
+use Rattle.utf8.proofs.Bounds.{Bounded, admitted-bound, Within, character-within, AtMostFour, encoding-bound}
+
+pub nothing-lost : NothingLost
+nothing-lost r s p q e =
+    let n : r .number ≡ s .number = omega arith in
+    let b : r .place .byte .0 ≡ s .place .byte .0 = omega arith in
+    let c : r .place .character .0 ≡ s .place .character .0 = omega arith in
+    λ i. record { number = n i; place = record { byte = record { 0 = b i }; character = record { 0 = c i } } }
+
+-- below bit 63 an answer does not look refused, and a packed refusal does
+small : (n : ℕ) → n ≤ textLimit → looksRefused n ≡ false
+small n h = lt-leb refusedFrom n (omega arith)
+
+packed : (r : Refusal) → looksRefused (packedOf r) ≡ true
+packed r = le-leb refusedFrom (packedOf r) (omega arith)
+
+pub validate-told : ValidateTold
+validate-told xs = go (admitted textLimit xs) (admitted-bound textLimit xs)
+  where
+    go : (a : Admission) → Bounded textLimit a → looksRefused (validateCode a) ≡ isRefused a
+    go (Admitted n) h = small (n .0) h
+    go (Refused r) h = packed r
+
+pub char-at-told : CharAtTold
+unfolding charAtCode
+char-at-told xs at = go (ltb textLimit (length xs)) refl (characterAt xs at) (character-within xs at)
+  where
+    go : (t : Bool) → ltb textLimit (length xs) ≡ t → (k : Character) → Within xs at k → looksRefused (cond t (packedOf tooLong) (characterCode xs at k)) ≡ t || isIllFormed k
+    go true e k h = refl
+    go false e (Scalar c n) h = small n (omega (arith, ltb-false textLimit (length xs) e))
+    go false e Nothing h = refl
+    go false e IllFormed h = packed (notUtf8 (placeAt xs at))
+
+pub encode-told : EncodeTold
+encode-told c room at = go (encodingOf c room at) (encoding-bound c room at)
+  where
+    go : (k : Encoding) → AtMostFour k → looksRefused (encodeCode k) ≡ isUnwritten k
+    go (Written n) h = small n (omega arith)
+    go NotScalar h = refl
+    go NoRoom h = refl

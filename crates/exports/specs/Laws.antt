@@ -1,0 +1,52 @@
+-- What a caller in C may rely on to read an answer, as statements; `proofs/Laws` has their proofs.
+use Prim.Native.Nat.{ℕ}
+use mathlib.Core.Bool.{Bool, true, false, _||_}
+use mathlib.Core.List.{List}
+use mathlib.Core.Path.{_≡_}
+use lib.Dec.{leb, ltb}
+use lib.ListN.{length}
+use Rattle.utf8.specs.declared.Refusal.{Refusal}
+use Rattle.utf8.specs.declared.Admission.{Admission}
+use Rattle.utf8.specs.declared.Admission.the-variants.{Admitted, Refused}
+use Rattle.utf8.specs.declared.Character.{Character}
+use Rattle.utf8.specs.declared.Character.the-variants.{Scalar, Nothing, IllFormed}
+use Rattle.utf8.specs.declared.Encoding.{Encoding}
+use Rattle.utf8.specs.declared.Encoding.the-variants.{Written, NotScalar, NoRoom}
+use Rattle.utf8.specs.Answers.{textLimit, admitted, characterAt, encodingOf}
+use Rattle.exports.specs.Packed.{refusedFrom, packedOf, Packable}
+use Rattle.exports.specs.Utf8.{validateCode, charAtCode, encodeCode}
+
+-- packing loses nothing: refusals that are packed alike are one
+abbrev pub NothingLost : Type 0
+NothingLost = (r s : Refusal) → Packable r → Packable s → packedOf r ≡ packedOf s → r ≡ s
+
+-- a caller takes an answer for a refusal where it has bit 63
+abbrev pub looksRefused : ℕ → Bool
+looksRefused code = leb refusedFrom code
+
+-- and is right of `validate`,
+abbrev pub isRefused : Admission → Bool
+isRefused (Admitted n) = false
+isRefused (Refused r) = true
+
+abbrev pub ValidateTold : Type 0
+ValidateTold = (xs : List ℕ) → let a = admitted textLimit xs in looksRefused (validateCode a) ≡ isRefused a
+
+-- of `char_at`,
+abbrev pub isIllFormed : Character → Bool
+isIllFormed (Scalar c n) = false
+isIllFormed Nothing = false
+isIllFormed IllFormed = true
+
+abbrev pub CharAtTold : Type 0
+CharAtTold =
+    (xs : List ℕ) (at : ℕ) → looksRefused (charAtCode xs at) ≡ ltb textLimit (length xs) || isIllFormed (characterAt xs at)
+
+-- and of `encode`
+abbrev pub isUnwritten : Encoding → Bool
+isUnwritten (Written n) = false
+isUnwritten NotScalar = true
+isUnwritten NoRoom = true
+
+abbrev pub EncodeTold : Type 0
+EncodeTold = (c room at : ℕ) → let e = encodingOf c room at in looksRefused (encodeCode e) ≡ isUnwritten e

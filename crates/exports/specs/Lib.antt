@@ -1,0 +1,3 @@
+pub mod Packed
+pub mod Utf8
+pub mod Laws

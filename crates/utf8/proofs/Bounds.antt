@@ -1,0 +1,94 @@
+-- Bounds of the answers: a place of a text lies within it, and since each character has a byte at least, there are no more characters
+-- than bytes.
+use Prim.Native.Nat.{ℕ, suc, _+_, _-_, _<_, _≤_}
+use native.Mathlib.Omega.{arith}
+use mathlib.Core.List.{List, [], _∷_}
+use lib.Dec.{leb, ltb, eqb}
+use lib.ListN.{length, drop, length-drop}
+use borrow.Author.Tests.{leb-false, ltb-false}
+use Rattle.utf8.specs.declared.Refusal.{Refusal}
+use Rattle.utf8.specs.declared.Admission.{Admission}
+use Rattle.utf8.specs.declared.Admission.the-variants.{Admitted, Refused}
+use Rattle.utf8.specs.declared.Character.{Character}
+use Rattle.utf8.specs.declared.Character.the-variants.{Scalar, Nothing, IllFormed}
+use Rattle.utf8.specs.declared.Encoding.{Encoding}
+use Rattle.utf8.specs.declared.Encoding.the-variants.{Written, NotScalar, NoRoom}
+use Rattle.utf8.specs.Table.{charLength}
+use Rattle.utf8.specs.Code.{isScalar, encoded}
+use Rattle.utf8.specs.Text.{Char, charsOf, sizeOf, prefixEnd, begunIn, charNumber}
+use Rattle.utf8.specs.Answers.{validityOf, admittedAs, admitted, characterAt, encodingOf}
+use Rattle.scan.proofs.Choice.{either}
+use Rattle.utf8.proofs.Chars.{char-bound}
+use Rattle.utf8.proofs.Texts.{Filled, filled, prefix-bound}
+
+-- characters that have bytes are no more than their bytes
+filled-bound : (cs : List Char) → Filled cs → length cs ≤ sizeOf cs
+unfolding sizeOf
+filled-bound [] f = omega arith
+filled-bound (c ∷ cs) f = omega (arith, f .0, filled-bound cs (f .1))
+
+pub count-bound : (xs : List ℕ) → length (charsOf xs) ≤ length xs
+count-bound xs = omega (arith, filled-bound (charsOf xs) (filled xs), prefix-bound xs)
+
+begun-bound : (to : ℕ) (cs : List Char) → begunIn to cs ≤ length cs
+unfolding begunIn
+begun-bound to [] = omega arith
+begun-bound to (c ∷ cs) =
+    either (λ n. n ≤ suc (length cs)) (eqb to 0) (λ e. omega arith) (λ e. omega (arith, begun-bound (to - c .size) cs))
+
+pub number-bound : (xs : List ℕ) (to : ℕ) → charNumber xs to ≤ length xs
+unfolding charNumber
+number-bound xs to = omega (arith, begun-bound to (charsOf xs), count-bound xs)
+
+-- within a limit an admission counts no more than that, and its refusals are 1 and 2, at places no further
+pub record Placed (limit : ℕ) (r : Refusal) : Type 0 where
+  pub number : r .number ≤ 2
+  pub byte : r .place .byte .0 ≤ limit
+  pub character : r .place .character .0 ≤ limit
+
+abbrev pub Bounded : ℕ → Admission → Type 0
+Bounded limit (Admitted n) = n .0 ≤ limit
+Bounded limit (Refused r) = Placed limit r
+
+pub admitted-bound : (limit : ℕ) (xs : List ℕ) → Bounded limit (admitted limit xs)
+unfolding admitted validityOf
+admitted-bound limit xs =
+    either (Bounded limit) (ltb limit (length xs)) (λ e. omega arith)
+    (λ e. let h : length xs ≤ limit = ltb-false limit (length xs) e in
+    either (λ v. Bounded limit (admittedAs v)) (eqb (prefixEnd xs) (length xs))
+    (λ t. omega (arith, count-bound xs))
+    (λ t. omega (arith, number-bound xs (prefixEnd xs), prefix-bound xs)))
+
+-- a character is no longer than the text, and what begins none stands within it
+abbrev pub Within : List ℕ → ℕ → Character → Type 0
+Within xs at (Scalar c n) = n ≤ length xs
+Within xs at Nothing = Unit {0}
+Within xs at IllFormed = at < length xs
+
+pub character-within : (xs : List ℕ) (at : ℕ) → Within xs at (characterAt xs at)
+unfolding characterAt
+character-within xs at =
+    either (Within xs at) (leb (length xs) at) (λ e. tt)
+    (λ e. either (Within xs at) (eqb (charLength (drop at xs)) 0)
+    (λ t. leb-false (length xs) at e)
+    (λ t. omega (arith, char-bound (drop at xs), length-drop at xs)))
+
+-- a code point has at most four bytes
+abbrev pub AtMostFour : Encoding → Type 0
+AtMostFour (Written n) = n ≤ 4
+AtMostFour NotScalar = Unit {0}
+AtMostFour NoRoom = Unit {0}
+
+pub encoded-bound : (c : ℕ) → length (encoded c) ≤ 4
+unfolding encoded
+encoded-bound c =
+    let P : List ℕ → Type 0 = λ bs. length bs ≤ 4 in
+    either P (leb c 0x7f) (λ e. omega arith)
+    (λ e. either P (leb c 0x7ff) (λ e. omega arith)
+    (λ e. either P (leb c 0xffff) (λ e. omega arith) (λ e. omega arith)))
+
+pub encoding-bound : (c room at : ℕ) → AtMostFour (encodingOf c room at)
+unfolding encodingOf
+encoding-bound c room at =
+    either AtMostFour (isScalar c)
+    (λ e. either AtMostFour (leb (at + length (encoded c)) room) (λ t. encoded-bound c) (λ t. tt)) (λ e. tt)
