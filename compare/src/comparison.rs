@@ -1,0 +1,122 @@
+//! Compares functions on many inputs, counts the differences, and shrinks the first difference of each function.
+
+use crate::input::Input;
+use compare::oracle::Answer;
+use std::borrow::Borrow;
+use std::fmt::Debug;
+
+/// How many smaller inputs are tried at most, to shrink one.
+const MOST_TRIES: usize = 20_000;
+
+/// Progress is shown each time that so many inputs were compared.
+const STEP: u64 = 500_000;
+
+/// What a call answered and did.
+#[derive(Debug, PartialEq)]
+pub struct Outcome<W> {
+    /// The number that it returned.
+    pub answer: u64,
+    /// What stands where it may write.
+    pub written: W,
+    /// Whether all else is as it was.
+    pub untouched: bool,
+}
+
+impl<W> Outcome<W> {
+    /// What a call must answer and do.
+    pub fn of(answer: Answer, written: W) -> Self {
+        Outcome {
+            answer: answer.packed(),
+            written,
+            untouched: true,
+        }
+    }
+}
+
+/// A call with two outcomes, ours and the Rust's.
+pub struct Difference {
+    call: String,
+    ours: String,
+    rust: String,
+}
+
+impl Difference {
+    /// The difference between the outcomes of a call, where there is one.
+    pub fn between<W: Debug + PartialEq>(
+        call: impl FnOnce() -> String,
+        ours: &Outcome<W>,
+        rust: &Outcome<W>,
+    ) -> Option<Self> {
+        (ours != rust).then(|| Difference {
+            call: call(),
+            ours: format!("{ours:x?}"),
+            rust: format!("{rust:x?}"),
+        })
+    }
+}
+
+/// A function of ours: its name, and where it differs from the Rust on an input.
+pub struct Function<I: ?Sized> {
+    pub name: &'static str,
+    pub difference: fn(&I) -> Option<Difference>,
+}
+
+impl<I: Input + ?Sized> Function<I> {
+    /// Prints a difference on this input, or on a smaller one where one can be found.
+    fn show(&self, input: &I) {
+        let owned = self.shrunk(input);
+        let input = owned.borrow();
+        if let Some(Difference { call, ours, rust }) = (self.difference)(input) {
+            println!("{} differs on {}: {call}", self.name, input.shown());
+            println!("  ours: {ours}");
+            println!("  rust: {rust}");
+        }
+    }
+
+    /// The smallest input found, from this one, on which there is a difference.
+    fn shrunk(&self, input: &I) -> I::Owned {
+        let differs = |smaller: &I::Owned| (self.difference)(smaller.borrow()).is_some();
+        let mut smallest = input.to_owned();
+        let mut tries = 0..MOST_TRIES;
+        loop {
+            let tried = smallest.borrow().smaller().zip(&mut tries);
+            let found = tried.map(|(smaller, _)| smaller).find(differs);
+            match found {
+                Some(smaller) => smallest = smaller,
+                None => return smallest,
+            }
+        }
+    }
+}
+
+/// Compares the functions on each input, prints a line for each function, and gives the number of differences.
+pub fn compare<I: Input + ?Sized>(
+    functions: &[Function<I>],
+    inputs: impl Iterator<Item = I::Owned>,
+) -> u64 {
+    let mut compared: u64 = 0;
+    let mut differences = vec![0; functions.len()];
+    for owned in inputs {
+        let input = owned.borrow();
+        for (function, count) in functions.iter().zip(&mut differences) {
+            if (function.difference)(input).is_some() {
+                if *count == 0 {
+                    function.show(input);
+                }
+                *count += 1;
+            }
+        }
+        compared += 1;
+        if compared % STEP == 0 {
+            eprintln!("compared {compared} {}", I::NAMES);
+        }
+    }
+    for (function, count) in functions.iter().zip(&differences) {
+        println!(
+            "{}: {compared} {}, {count} differences",
+            function.name,
+            I::NAMES
+        );
+    }
+    differences.iter().sum()
+}
