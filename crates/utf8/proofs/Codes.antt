@@ -1,7 +1,7 @@
 -- The four lines of the definition of a code point's bytes, each where its bounds hold.
 use Prim.Native.Nat.{ℕ, _+_, _/_, _^_, _<_, _≤_}
 use native.Mathlib.Omega.{arith}
-use mathlib.Core.List.{List, [], _∷_}
+use mathlib.Core.List.{[], _∷_}
 use mathlib.Core.Path.{_≡_}
 use borrow.Author.Tests.{le-leb, lt-leb}
 use Rattle.utf8.specs.Code.{sixBits, encoded}

@@ -1,6 +1,6 @@
 -- Each refusal of a text is given exactly when its row holds: of the three cases, too long, not UTF-8 and text, one holds, and the
 -- three answers are told apart by their numbers.
-use Prim.Native.Nat.{ℕ, _<_}
+use Prim.Native.Nat.{ℕ}
 use native.Mathlib.Decide.{decLt, ℕ-discrete}
 use native.Mathlib.Omega.{arith}
 use mathlib.Core.List.{List}

@@ -11,10 +11,10 @@ use lib.ListN.{length, drop, replicate, length-replicate}
 use lib.Seq.{getD-drop, drop-drop}
 use borrow.Author.Tests.{eqb-true, leb-true, ltb-true, lt-leb, le-leb}
 use Rattle.scan.specs.Byte.{end, peekAt, isWithin}
-use Rattle.utf8.specs.Table.{Bounds, _to_, tail, isTail, rows, fits, sizeIn, charLength}
+use Rattle.utf8.specs.Table.{Bounds, _to_, tail, rows, fits, sizeIn, charLength}
 use Rattle.utf8.specs.Lead.{sizeBy, lowSecond, highSecond, withTails}
 use Rattle.scan.proofs.Choice.{either, and-left, and-right, cond-and}
-use Rattle.scan.proofs.Below.{allBelow, below}
+use Rattle.scan.proofs.Below.{below}
 
 -- bounds, and what is above them or between them
 pub above-not : (lo hi x : ℕ) → hi < x → isWithin lo hi x ≡ false

@@ -1,10 +1,10 @@
 -- Texts by their characters: any bytes are no character's start, or the bytes of one character and a rest. What holds of the first
 -- and goes over from a rest to the whole holds of any bytes (`by-characters`); the laws of joins and cuts are proved by that.
-use Prim.Native.Nat.{ℕ, zero, suc, _+_, _-_, _<_, _≤_}
+use Prim.Native.Nat.{ℕ, zero, suc, _-_, _<_, _≤_}
 use native.Mathlib.Omega.{arith}
 use mathlib.Core.Bool.{Bool, true, false, cond, _&&_}
 use mathlib.Core.List.{List, [], _∷_, _++_}
-use mathlib.Core.Path.{_≡_, refl, sym, ap, ap₂, subst, _∙_}
+use mathlib.Core.Path.{_≡_, refl, sym, ap, subst, _∙_}
 use lib.Dec.{leb}
 use lib.ListN.{length, take, drop, replicate, length-replicate, length-append, length-drop, take-append-drop, List·getD-append}
 use lib.Seq.{length-take-le, take-length, drop-append-seam}

@@ -4,7 +4,6 @@ use mathlib.Core.Bool.{cond}
 use mathlib.Core.List.{List, _++_}
 use lib.Dec.{leb, ltb, eqb}
 use lib.ListN.{length, take, drop}
-use Rattle.utf8.specs.declared.ByteOffset.{ByteOffset}
 use Rattle.utf8.specs.declared.CharNumber.{CharNumber}
 use Rattle.utf8.specs.declared.Place.{Place}
 use Rattle.utf8.specs.declared.Refusal.{Refusal}

@@ -1,13 +1,12 @@
 -- `utf8::char_at` meets its contract: each way out knows how long the character is that the bytes from the offset begin with.
 use Prim.Native.Nat.{ℕ}
 use mathlib.Core.List.{List}
-use mathlib.Core.Path.{_≡_, sym, ap, _∙_}
+use mathlib.Core.Path.{_≡_, ap, _∙_}
 use borrow.Author.Needs.{needs}
 use borrow.Author.Tests.{eq-eqb, ne-eqb, le-leb, lt-leb}
 use denote.Ref.{now}
 use lib.ListN.{length, drop}
 use Rattle.utf8.specs.Table.{charLength}
-use Rattle.utf8.specs.Code.{codeOf}
 use Rattle.utf8.specs.Answers.{characterAt}
 use Rattle.utf8.proofs.Chars.{rest-of}
 use Rattle.utf8.proofs.char_at.Statement.{statement}
