@@ -15,11 +15,11 @@ cast-result c = search needs
 
 returns : tie.Need-returns
 unfolding isAlpha
-returns c = cc
+returns c = simp (← c .before .is-within .ensures, c .if1 .taken)
 
 returns-2 : tie.Need-returns-2
 unfolding isAlpha
-returns-2 c = cc
+returns-2 c = simp (← c .before .before .before .is-within .ensures, c .before .before .if1 .left, ← c .before .is-within2 .ensures, c .if2 .taken)
 
 returns-3 : tie.Need-returns-3
 unfolding isAlpha

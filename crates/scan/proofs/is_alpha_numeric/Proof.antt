@@ -12,11 +12,11 @@ is-digit-requires c κs = search needs
 
 returns : tie.Need-returns
 unfolding isAlphaNumeric
-returns c = cc
+returns c = simp (← c .before .is-alpha .ensures, c .if1 .taken)
 
 returns-2 : tie.Need-returns-2
 unfolding isAlphaNumeric
-returns-2 c = cc
+returns-2 c = simp (← c .before .before .is-alpha .ensures, c .before .if1 .left) (c .is-digit .ensures)
 
 pub is-alpha-numeric-spec : {M : Type 1} → statement M
 is-alpha-numeric-spec = tie.close (tie.spec is-alpha-requires is-digit-requires returns returns-2)

@@ -15,15 +15,15 @@ is-within-requires-2 c κs = search needs
 
 returns : tie.Need-returns
 unfolding isHexDigit
-returns c = cc
+returns c = simp (← c .before .is-digit .ensures, c .if1 .taken)
 
 returns-2 : tie.Need-returns-2
 unfolding isHexDigit
-returns-2 c = cc
+returns-2 c = simp (← c .before .before .before .is-digit .ensures, c .before .before .if1 .left, ← c .before .is-within .ensures, c .if2 .taken)
 
 returns-3 : tie.Need-returns-3
 unfolding isHexDigit
-returns-3 c = cc
+returns-3 c = simp (← c .before .before .before .before .is-digit .ensures, c .before .before .before .if1 .left, ← c .before .before .is-within .ensures, c .before .if2 .left) (c .is-within2 .ensures)
 
 pub is-hex-digit-spec : {M : Type 1} → statement M
 is-hex-digit-spec =

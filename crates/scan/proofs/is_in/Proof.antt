@@ -48,31 +48,31 @@ is-line-requires c κs = search needs
 
 returns : tie.Need-returns
 unfolding isIn
-returns c = cc
+returns c = rw (c .before .enum-told .given .1) (c .is-space .ensures)
 
 returns-2 : tie.Need-returns-2
 unfolding isIn
-returns-2 c = cc
+returns-2 c = rw (c .before .enum-told2 .given .1) (c .is-alpha .ensures)
 
 returns-3 : tie.Need-returns-3
 unfolding isIn
-returns-3 c = cc
+returns-3 c = rw (c .before .enum-told3 .given .1) (c .is-digit .ensures)
 
 returns-4 : tie.Need-returns-4
 unfolding isIn
-returns-4 c = cc
+returns-4 c = rw (c .before .enum-told4 .given .1) (c .is-hex-digit .ensures)
 
 returns-5 : tie.Need-returns-5
 unfolding isIn
-returns-5 c = cc
+returns-5 c = rw (c .before .enum-told5 .given .1) (c .is-alpha-numeric .ensures)
 
 returns-6 : tie.Need-returns-6
 unfolding isIn
-returns-6 c = cc
+returns-6 c = rw (c .before .enum-told6 .given .1) (c .is-word .ensures)
 
 returns-7 : tie.Need-returns-7
 unfolding isIn
-returns-7 c = cc
+returns-7 c = rw (c .before .enum-told7 .given .1) (c .is-line .ensures)
 
 pub is-in-spec : {M : Type 1} → statement M
 is-in-spec =

@@ -12,11 +12,11 @@ cast-result c = search needs
 
 returns : tie.Need-returns
 unfolding isWord
-returns c = cc
+returns c = simp (← c .before .is-alpha-numeric .ensures, c .if1 .taken)
 
 returns-2 : tie.Need-returns-2
 unfolding isWord
-returns-2 c = cc
+returns-2 c = simp (← c .before .is-alpha-numeric .ensures, c .if1 .left)
 
 pub is-word-spec : {M : Type 1} → statement M
 is-word-spec = tie.close (tie.spec is-alpha-numeric-requires cast-result returns returns-2)

@@ -5,7 +5,7 @@ use native.Mathlib.Numerals.{add-one}
 use Prim.Native.Nat.{ℕ, _-_, _<_}
 use mathlib.Core.Bool.{true}
 use mathlib.Core.List.{List}
-use mathlib.Core.Path.{_≡_, refl}
+use mathlib.Core.Path.{_≡_, refl, sym, ap, _∙_}
 use borrow.Author.Needs.{needs}
 use lib.ListN.{length}
 use denote.Ref.{now}
@@ -32,6 +32,10 @@ peek-requires c κs = search needs
 is-in-requires : tie.Need-is-in-requires Inv-loop μ-loop
 is-in-requires c κs = search needs
 
+-- what was tested: the byte that stands here
+tested : (c : tie.After-is-in Inv-loop μ-loop) → let a = c .before .before .before .before .args in c .is-in .result ≡ isIn (a .k) (peekAt (now (a .s)) (c .before .before .loop .n))
+tested c = c .is-in .ensures ∙ ap (isIn (c .before .before .before .before .args .k)) (c .before .peek .ensures)
+
 module _ (c : tie.Then1 Inv-loop μ-loop) where
   abbrev kind : Class
   kind = c .before .before .before .before .before .args .k
@@ -43,7 +47,7 @@ module _ (c : tie.Then1 Inv-loop μ-loop) where
   place = c .before .before .before .loop .n
 
   passes : isIn kind (peekAt bytes place) ≡ true
-  passes = cc
+  passes = sym (tested (c .before)) ∙ c .if1 .taken
 
   in-range : place < length bytes
   in-range = inside (isIn kind) (end-in-none kind) bytes place passes
@@ -62,7 +66,7 @@ loop-again c =
 returns : tie.Need-returns Inv-loop μ-loop
 returns c =
     let a = c .before .before .before .before .before .args in
-    omega (arith, c .before .before .before .loop .inv, run-stops (isIn (a .k)) (now (a .s)) (c .before .before .before .loop .n) (cc))
+    omega (arith, c .before .before .before .loop .inv, run-stops (isIn (a .k)) (now (a .s)) (c .before .before .before .loop .n) (sym (tested (c .before)) ∙ c .if1 .left))
 
 pub run-end-spec : {M : Type 1} → statement M
 run-end-spec =
