@@ -1,13 +1,19 @@
--- Laws of what stands at a place: which default a read takes does not matter within the list, and no class has the end.
-use Prim.Native.Nat.{ℕ, zero, suc, _<_}
+-- Laws of what stands at a place and of classes: which default a read takes does not matter within the list, no class has the end,
+-- and a digit stands for less than 16, by the bounds of each test.
+use Prim.Native.Nat.{ℕ, zero, suc, _<_, _≤_}
+use Prim.Native.Char.{code}
 use native.Mathlib.Nat.{le-of-suc-le-suc, not-suc-le-zero}
-use mathlib.Core.Bool.{false}
+use native.Mathlib.Omega.{arith}
+use mathlib.Core.Bool.{true, false, and-false}
 use mathlib.Core.List.{List, [], _∷_}
 use mathlib.Core.Path.{_≡_, refl}
+use lib.Dec.{leb}
 use lib.ListN.{length, getD}
+use borrow.Author.Tests.{le-leb, lt-leb, leb-true}
 use Rattle.scan.specs.declared.Class.{Class}
 use Rattle.scan.specs.declared.Class.the-variants.{Space, Alpha, Digit, HexDigit, AlphaNumeric, Word, Line}
-use Rattle.scan.specs.Byte.{end, isWithin, isSpace, isAlpha, isHexDigit, isAlphaNumeric, isWord, isLine, isIn}
+use Rattle.scan.specs.Byte.{end, isWithin, isSpace, isAlpha, isDigit, isHexDigit, digitOf, isAlphaNumeric, isWord, isLine, isIn}
+use Rattle.scan.proofs.Choice.{either, and-left, and-right}
 
 pub getD-any : (xs : List ℕ) (i a b : ℕ) → i < length xs → getD xs i a ≡ getD xs i b
 getD-any [] i a b h = absurd (not-suc-le-zero h)
@@ -23,3 +29,26 @@ end-in-none HexDigit = refl
 end-in-none AlphaNumeric = refl
 end-in-none Word = refl
 end-in-none Line = refl
+
+-- what is between bounds, and what is above them
+pub within-yes : (lo hi c : ℕ) → lo ≤ c → c ≤ hi → isWithin lo hi c ≡ true
+unfolding isWithin
+within-yes lo hi c l h = rw (le-leb lo c l, le-leb c hi h)
+
+pub above-not : (lo hi c : ℕ) → hi < c → isWithin lo hi c ≡ false
+unfolding isWithin
+above-not lo hi c h = rw (lt-leb c hi h) (and-false (leb lo c))
+
+pub within-bounds : (lo hi c : ℕ) → isWithin lo hi c ≡ true → (lo ≤ c) × (c ≤ hi)
+unfolding isWithin
+within-bounds lo hi c h =
+    (leb-true lo c (and-left (leb lo c) (leb c hi) h), leb-true c hi (and-right (leb lo c) (leb c hi) h))
+
+pub digit-bound : (c : ℕ) → digitOf c < 16
+unfolding digitOf
+digit-bound c =
+    let P : ℕ → Type 0 = λ n. n < 16 in
+    either P (isDigit c) (λ e. omega (arith, within-bounds (code "0") (code "9") c e))
+    (λ e. either P (isWithin (code "a") (code "f") c) (λ e. omega (arith, within-bounds (code "a") (code "f") c e))
+    (λ e. either P (isWithin (code "A") (code "F") c) (λ e. omega (arith, within-bounds (code "A") (code "F") c e))
+    (λ e. omega arith)))

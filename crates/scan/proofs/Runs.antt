@@ -1,13 +1,13 @@
 -- Laws of a run, over any test. Each is an induction on the list: at its head the test either ends the run or takes one byte more.
 use Prim.Native.Nat.{ℕ, zero, suc, _+_, _-_, _<_, _≤_, suc-le-suc}
-use native.Mathlib.Nat.{le-of-suc-le-suc, not-suc-le-zero, add-zero}
+use native.Mathlib.Nat.{le-of-suc-le-suc, not-suc-le-zero, zero-add, add-zero}
 use native.Mathlib.Omega.{arith}
 use mathlib.Core.Bool.{Bool, true, false, cond, not, true≢false}
 use mathlib.Core.Path.{_≡_, refl, sym, ap, _∙_}
 use mathlib.Core.List.{List, [], _∷_, _++_}
 use lib.Dec.{eqb}
 use lib.Seq.{drop-append-le, getD-drop}
-use lib.ListN.{length, drop, length-drop}
+use lib.ListN.{length, take, drop, length-drop}
 use Rattle.scan.specs.Byte.{end, peekAt}
 use Rattle.scan.specs.Run.{runLength}
 use Rattle.scan.specs.Laws.{RunWithin, RunPasses, RunStopped, RunStops, RunAppend, RunInside}
@@ -30,6 +30,26 @@ module _ (p : ℕ → Bool) where
       go : (b : Bool) → runLength p xs ≤ length xs → cond b (suc (runLength p xs)) 0 ≤ suc (length xs)
       go true h = omega arith
       go false h = omega arith
+
+  -- a run is the whole of itself
+  pub run-take : (xs : List ℕ) → runLength p (take (runLength p xs) xs) ≡ runLength p xs
+  unfolding runLength
+  run-take [] = refl
+  run-take (x ∷ xs) = go (p x) refl (run-take xs)
+    where
+      go : (b : Bool) → p x ≡ b → runLength p (take (runLength p xs) xs) ≡ runLength p xs → runLength p (take (cond b (suc (runLength p xs)) 0) (x ∷ xs)) ≡ cond b (suc (runLength p xs)) 0
+      go true h r = run-yes x (take (runLength p xs) xs) h ∙ ap suc r
+      go false h r = refl
+
+  -- a run of a whole list goes on with what follows it
+  pub run-past : (xs ys : List ℕ) → runLength p xs ≡ length xs → runLength p (xs ++ ys) ≡ length xs + runLength p ys
+  unfolding runLength
+  run-past [] ys h = sym (zero-add (runLength p ys))
+  run-past (x ∷ xs) ys h = go (p x) (run-past xs ys) h
+    where
+      go : (b : Bool) → (runLength p xs ≡ length xs → runLength p (xs ++ ys) ≡ length xs + runLength p ys) → cond b (suc (runLength p xs)) 0 ≡ suc (length xs) → cond b (suc (runLength p (xs ++ ys))) 0 ≡ suc (length xs) + runLength p ys
+      go true r e = omega (arith, r (omega arith))
+      go false r e = absurd (omega arith)
 
   passes : (xs : List ℕ) (i : ℕ) → i < runLength p xs → p (peekAt xs i) ≡ true
   unfolding runLength

@@ -13,6 +13,8 @@ use Rattle.scan.proofs.is_digit.Kinds as is-digit
 use Rattle.scan.proofs.is_digit.Reads as is-digit-reads
 use Rattle.scan.proofs.is_hex_digit.Kinds as is-hex-digit
 use Rattle.scan.proofs.is_hex_digit.Reads as is-hex-digit-reads
+use Rattle.scan.proofs.digit_of.Kinds as digit-of
+use Rattle.scan.proofs.digit_of.Reads as digit-of-reads
 use Rattle.scan.proofs.is_alpha_numeric.Kinds as is-alpha-numeric
 use Rattle.scan.proofs.is_alpha_numeric.Reads as is-alpha-numeric-reads
 use Rattle.scan.proofs.is_word.Kinds as is-word
@@ -41,6 +43,9 @@ same-is-digit κs a x y e f p q = p ∙ sym q
 
 pub same-is-hex-digit : OneAnswer is-hex-digit.ps is-hex-digit.r is-hex-digit-reads.Post
 same-is-hex-digit κs a x y e f p q = p ∙ sym q
+
+pub same-digit-of : OneAnswer digit-of.ps digit-of.r digit-of-reads.Post
+same-digit-of κs a x y e f p q = p ∙ sym q
 
 pub same-is-alpha-numeric : OneAnswer is-alpha-numeric.ps is-alpha-numeric.r is-alpha-numeric-reads.Post
 same-is-alpha-numeric κs a x y e f p q = p ∙ sym q

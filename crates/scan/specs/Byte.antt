@@ -1,8 +1,8 @@
 -- What stands at a place of a list of bytes, and the classes of bytes that document 01's "Lexing rules" speak of.
 -- Past the last byte stands `end`, which is no byte and in no class, so that no rule needs a case for it.
-use Prim.Native.Nat.{ℕ}
+use Prim.Native.Nat.{ℕ, _+_, _-_}
 use Prim.Native.Char.{code}
-use mathlib.Core.Bool.{Bool, _&&_, _||_, not}
+use mathlib.Core.Bool.{Bool, cond, _&&_, _||_, not}
 use mathlib.Core.List.{List}
 use lib.ListN.{getD}
 use lib.Dec.{leb, eqb}
@@ -33,6 +33,17 @@ isDigit c = isWithin (code "0") (code "9") c
 unfoldable pub isHexDigit : ℕ → Bool
 isHexDigit c =
     isDigit c || (isWithin (code "a") (code "f") c || isWithin (code "A") (code "F") c)
+
+abbrev pub valueOfA : ℕ
+valueOfA = 10
+
+-- what a hexadecimal digit stands for, in either case; 0 where it is none
+unfoldable pub digitOf : ℕ → ℕ
+digitOf c =
+    cond (isDigit c) (c - code "0")
+    (cond (isWithin (code "a") (code "f") c) (c - code "a" + valueOfA)
+    (cond (isWithin (code "A") (code "F") c) (c - code "A" + valueOfA)
+    0))
 
 -- "Inside braces every word (no colon)": letters and digits
 unfoldable pub isAlphaNumeric : ℕ → Bool

@@ -1,6 +1,6 @@
 // The bytes of a query: what stands at a place, the classes of document 01, and where a run of a class ends.
 ghost use mathlib.Core.Path.{_≡_};
-ghost use Rattle.scan.specs.Byte.{peekAt, isWithin, isSpace, isAlpha, isDigit, isHexDigit, isAlphaNumeric, isWord, isLine, isIn};
+ghost use Rattle.scan.specs.Byte.{peekAt, isWithin, isSpace, isAlpha, isDigit, isHexDigit, digitOf, isAlphaNumeric, isWord, isLine, isIn};
 ghost use Rattle.scan.specs.Run.{runEnd};
 
 // What stands past the last byte: no byte, and in no class.
@@ -15,6 +15,8 @@ const FORM_FEED: usize = 12;
 const CR: usize = 13;
 
 const SPACE: usize = 32;
+
+const VALUE_OF_A: usize = 10;
 
 // The classes of bytes.
 pub enum Class {
@@ -67,6 +69,22 @@ pub fn is_hex_digit(c: usize) -> bool
     ensures { λ r. ⌜ r ≡ isHexDigit c ⌝ }
 {
     is_digit(c) || (is_within(b'a', b'f', c) || is_within(b'A', b'F', c))
+}
+
+// What a hexadecimal digit stands for, in either case, and 0 where c is none.
+pub fn digit_of(c: usize) -> usize
+    ensures { λ r. ⌜ r ≡ digitOf c ⌝ }
+{
+    if is_digit(c) {
+        return c - b'0' as usize;
+    }
+    if is_within(b'a', b'f', c) {
+        return c - b'a' as usize + VALUE_OF_A;
+    }
+    if is_within(b'A', b'F', c) {
+        return c - b'A' as usize + VALUE_OF_A;
+    }
+    0
 }
 
 // A letter or a digit: what a label, and a word in braces, goes on with.

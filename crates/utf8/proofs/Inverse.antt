@@ -12,6 +12,7 @@ use lib.ListN.{length, take, length-append}
 use lib.Seq.{length-take-le, take-length}
 use borrow.Author.Tests.{le-leb, lt-leb, lt-ltb, le-ltb, eqb-true, leb-true, leb-false, ltb-true}
 use Rattle.scan.specs.Byte.{isWithin}
+use Rattle.scan.proofs.Classes.{within-yes, within-bounds}
 use Rattle.scan.proofs.Choice.{either, and-left, and-right}
 use Rattle.utf8.specs.declared.Character.the-variants.{Scalar, IllFormed}
 use Rattle.utf8.specs.Table.{tail, isTail, fits, charLength}
@@ -20,7 +21,7 @@ use Rattle.utf8.specs.Code.{codeOf, isScalar, sixBits, encoded}
 use Rattle.utf8.specs.Text.{charsPast, sizeOf, WellFormed}
 use Rattle.utf8.specs.Answers.{characterOf}
 use Rattle.utf8.specs.Laws.{EncodeDecode, DecodeEncode, LongCode, textOf, AllScalar, TextIs}
-use Rattle.utf8.proofs.Lead.{within-yes, within-bounds, second, sized, char-by, char-tests}
+use Rattle.utf8.proofs.Lead.{second, sized, char-by, char-tests}
 use Rattle.utf8.proofs.Chars.{char-bound}
 use Rattle.utf8.proofs.Codes.{one-byte, two-bytes, three-bytes, four-bytes}
 use Rattle.utf8.proofs.Texts.{One, chars-one, by-characters}

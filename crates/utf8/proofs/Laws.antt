@@ -10,12 +10,12 @@ use lib.Dec.{eqb, leb}
 use lib.ListN.{length, drop, length-append}
 use borrow.Author.Tests.{leb-true, ne-eqb}
 use Rattle.scan.specs.Byte.{peekAt, isWithin}
+use Rattle.scan.proofs.Classes.{within-yes, within-bounds}
 use Rattle.scan.proofs.Choice.{and-left, and-right}
 use Rattle.utf8.specs.Table.{Bounds, isTail, rows, fits, sizeIn, charLength}
 use Rattle.utf8.specs.Code.{codeOf}
 use Rattle.utf8.specs.Text.{Char, charOf, charsPast, charsOf, sizeOf, prefixEnd, WellFormed, begunIn, charNumber}
 use Rattle.utf8.specs.Laws.{Steps, AsciiAlone, AsciiHead, NoneAscii, CharsJoin, PrefixJoin, NumberJoin, TextJoin}
-use Rattle.utf8.proofs.Lead.{within-yes, within-bounds}
 use Rattle.utf8.proofs.Chars.{EachRow, of-size, char-bound, chars-none, chars-some}
 use Rattle.utf8.proofs.Texts.{One, chars-one, by-characters, Filled, filled}
 

@@ -3,31 +3,19 @@
 use Prim.Native.Nat.{ℕ, zero, suc, _<_, _≤_}
 use native.Mathlib.Omega.{arith}
 use native.Mathlib.Decide.{decLt}
-use mathlib.Core.Bool.{Bool, true, false, cond, _&&_, and-false}
+use mathlib.Core.Bool.{Bool, true, false, cond, _&&_}
 use mathlib.Core.List.{List, [], _∷_}
 use mathlib.Core.Path.{_≡_, refl, sym, ap, ap₂, _∙_}
 use lib.Dec.{eqb, leb, ltb}
 use lib.ListN.{length, drop, replicate, length-replicate}
 use lib.Seq.{getD-drop, drop-drop}
-use borrow.Author.Tests.{eqb-true, leb-true, ltb-true, lt-leb, le-leb}
+use borrow.Author.Tests.{eqb-true, ltb-true, lt-leb}
 use Rattle.scan.specs.Byte.{end, peekAt, isWithin}
 use Rattle.utf8.specs.Table.{Bounds, _to_, tail, rows, fits, sizeIn, charLength}
 use Rattle.utf8.specs.Lead.{sizeBy, lowSecond, highSecond, withTails}
+use Rattle.scan.proofs.Classes.{above-not}
 use Rattle.scan.proofs.Choice.{either, and-left, and-right, cond-and}
 use Rattle.scan.proofs.Below.{below}
-
--- bounds, and what is above them or between them
-pub above-not : (lo hi x : ℕ) → hi < x → isWithin lo hi x ≡ false
-unfolding isWithin
-above-not lo hi x h = rw (lt-leb x hi h) (and-false (leb lo x))
-
-pub within-yes : (lo hi x : ℕ) → lo ≤ x → x ≤ hi → isWithin lo hi x ≡ true
-unfolding isWithin
-within-yes lo hi x l h = rw (le-leb lo x l, le-leb x hi h)
-
-pub within-bounds : (lo hi x : ℕ) → isWithin lo hi x ≡ true → (lo ≤ x) × (x ≤ hi)
-unfolding isWithin
-within-bounds lo hi x e = (leb-true lo x (and-left (leb lo x) (leb x hi) e), leb-true x hi (and-right (leb lo x) (leb x hi) e))
 
 -- what the rows that have x as a first byte ask of the bytes after it
 abbrev rowsAt : ℕ → List (List Bounds) → List (List Bounds)

@@ -1,0 +1,8 @@
+pub mod Digit
+pub mod Text
+pub mod Hex
+pub mod Decimal
+pub mod Put
+pub mod Form
+pub mod Record
+pub mod Claims

@@ -1,0 +1,23 @@
+-- Laws of an answer that is written piece by piece: each piece stands behind those before it, where there is room.
+-- They hold by what record's writers leave in a list (`put-stands`).
+use Prim.Native.Nat.{ℕ, _+_, _≤_}
+use native.Mathlib.Omega.{arith}
+use mathlib.Core.Path.{_≡_, ap, _∙_}
+use mathlib.Core.List.{List, _++_}
+use lib.ListN.{length, take}
+use Rattle.io.proofs.Counting.{counts}
+use Rattle.record.specs.Put.{putAt, pastAt}
+use Rattle.record.proofs.Writes.{put-stands}
+use Rattle.replay.specs.Answer.{Says}
+
+module _ (d : List ℕ) (at : ℕ) (xs : List ℕ) {e : List ℕ} {r : ℕ} (p : (r ≡ pastAt d at xs) × (e ≡ putAt d at xs)) (h : at + length xs ≤ length d) where
+  pub past-text : r ≡ at + length xs
+  past-text = p .0 ∙ put-stands d at xs h .0
+
+  pub says-text : length e ≡ length d → Says (take at d ++ xs) r e
+  says-text k =
+      record { counts = counts _ _ (omega (arith, past-text, k)); holds = rw (p .0, p .1) (put-stands d at xs h .1) }
+
+-- what is said behind a text goes on with it
+pub says-on : {text d e : List ℕ} {at r : ℕ} (more : List ℕ) → Says text at d → Says (take at d ++ more) r e → Says (text ++ more) r e
+says-on more s t = record { counts = t .counts; holds = t .holds ∙ ap (λ (f : List ℕ). f ++ more) (s .holds) }

@@ -1,0 +1,18 @@
+-- How long a line, an answer and the buffer are. The code has each as a constant, and its proofs show that the two agree.
+use Prim.Native.Nat.{ℕ, _+_}
+
+-- a longer line is no record
+abbrev pub longestLine : ℕ
+longestLine = 160000
+
+-- the most that is read at once
+abbrev pub chunk : ℕ
+chunk = 65536
+
+-- a line that is not yet known to be too long, one byte more, and a chunk
+abbrev pub bufferSize : ℕ
+bufferSize = longestLine + 1 + chunk
+
+-- no answer is longer
+abbrev pub mostAnswer : ℕ
+mostAnswer = 128
