@@ -174,7 +174,7 @@ second-says a b e =
       at-f4 = λ z. rw z at (w .1);
     }
 
-abbrev Range : ℕ → ℕ → Type 0
+abbrev pub Range : ℕ → ℕ → Type 0
 Range zero x = Unit {0}
 Range (suc zero) x = x ≤ 0x7f
 Range (suc (suc zero)) x = (0xc2 ≤ x) × (x ≤ 0xdf)
@@ -182,7 +182,7 @@ Range (suc (suc (suc zero))) x = (0xe0 ≤ x) × (x ≤ 0xef)
 Range (suc (suc (suc (suc zero)))) x = (0xf0 ≤ x) × (x ≤ 0xf4)
 Range (suc (suc (suc (suc (suc n))))) x = ⊥
 
-size-range : (x : ℕ) → Range (sizeBy x) x
+pub size-range : (x : ℕ) → Range (sizeBy x) x
 unfolding sizeBy
 size-range x =
     let P : ℕ → Type 0 = λ n. Range n x in

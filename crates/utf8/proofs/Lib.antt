@@ -5,6 +5,7 @@ pub mod Texts
 pub mod Laws
 pub mod Cuts
 pub mod Inverse
+pub mod Ascii
 pub mod Bounds
 pub mod Given
 pub mod Unique

@@ -17,7 +17,7 @@ use Rattle.utf8.specs.declared.Encoding.{Encoding}
 use Rattle.utf8.specs.declared.Encoding.the-variants.{Written, NotScalar, NoRoom}
 use Rattle.utf8.specs.Table.{charLength}
 use Rattle.utf8.specs.Code.{codeOf, isScalar, encoded}
-use Rattle.utf8.specs.Text.{charsOf, prefixEnd, startOf, charNumber}
+use Rattle.utf8.specs.Text.{charsOf, prefixEnd, isWellFormed, startOf, charNumber}
 
 -- so many characters
 abbrev pub count : ℕ → CharNumber
@@ -36,7 +36,7 @@ nextStart xs to = place (startOf xs (charNumber xs to)) (charNumber xs to)
 
 -- the number of characters, or the end of the longest well-formed prefix
 unfoldable pub validityOf : List ℕ → Validity
-validityOf xs = cond (eqb (prefixEnd xs) (length xs)) (Valid (count (length (charsOf xs)))) (Invalid (placeAt xs (prefixEnd xs)))
+validityOf xs = cond (isWellFormed xs) (Valid (count (length (charsOf xs)))) (Invalid (placeAt xs (prefixEnd xs)))
 
 -- "query, literal and text 65,535 bytes"
 abbrev pub textLimit : ℕ

@@ -1,15 +1,16 @@
 -- What the crates above may know of characters, as statements. Their proofs stand in `proofs/Laws` and `proofs/Inverse`.
 use Prim.Native.Nat.{ℕ, suc, _+_, _≤_, _<_, min}
-use mathlib.Core.Bool.{true, false}
+use mathlib.Core.Bool.{Bool, true, false, cond, _&&_}
 use mathlib.Core.List.{List, [], _∷_, _++_}
 use mathlib.Core.Logic.{_↔_}
 use mathlib.Core.Path.{_≡_}
+use lib.Dec.{ltb}
 use lib.ListN.{length, take, drop}
 use Rattle.utf8.specs.declared.Character.the-variants.{Scalar}
 use Rattle.scan.specs.Byte.{peekAt}
 use Rattle.utf8.specs.Table.{isTail, charLength}
 use Rattle.utf8.specs.Code.{codeOf, isScalar, encoded}
-use Rattle.utf8.specs.Text.{charOf, charsOf, prefixEnd, WellFormed, startOf, charNumber}
+use Rattle.utf8.specs.Text.{charOf, charsOf, codesOf, prefixEnd, WellFormed, isWellFormed, startOf, charNumber}
 use Rattle.utf8.specs.Answers.{characterOf}
 
 -- the characters are the one that the bytes begin with, and those of the rest; none where they begin with none
@@ -35,6 +36,24 @@ NoneAscii = (xs : List ℕ) (i : ℕ) → 1 < charLength xs → i < charLength x
 
 abbrev pub LongCode : Type 0
 LongCode = (xs : List ℕ) → 1 < charLength xs → 0x80 ≤ codeOf (charLength xs) xs
+
+-- ASCII bytes are text, whose code points are the bytes
+abbrev pub isAscii : List ℕ → Bool
+isAscii [] = true
+isAscii (x ∷ xs) = ltb x 0x80 && isAscii xs
+
+abbrev pub AsciiText : Type 0
+AsciiText = (xs : List ℕ) → isAscii xs ≡ true → WellFormed xs × (codesOf xs ≡ xs)
+
+-- and text whose code points are ASCII is made of ASCII bytes
+abbrev pub AsciiCodes : Type 0
+AsciiCodes = (xs : List ℕ) → WellFormed xs → isAscii (codesOf xs) ≡ true → isAscii xs ≡ true
+
+-- so what is said of characters, and takes all that are not ASCII alike, can be read off the bytes
+abbrev pub ByBytes : Type 1
+ByBytes =
+    (A : Type 0) (other : A) (f : List ℕ → A) → ((ys : List ℕ) → isAscii ys ≡ false → f ys ≡ other) →
+    (xs : List ℕ) → f xs ≡ cond (isWellFormed xs) (f (codesOf xs)) other
 
 -- the bytes of code points, one after the other
 abbrev pub textOf : List ℕ → List ℕ

@@ -1,7 +1,7 @@
 -- The characters of a text, where its longest well-formed prefix ends, and how many characters begin before an offset.
 use Prim.Native.Nat.{ℕ, zero, suc, pred, _+_, _-_}
-use mathlib.Core.Bool.{cond}
-use mathlib.Core.List.{List, [], _∷_}
+use mathlib.Core.Bool.{Bool, cond}
+use mathlib.Core.List.{List, [], _∷_, map}
 use mathlib.Core.Path.{_≡_}
 use lib.Dec.{eqb}
 use lib.ListN.{length, take}
@@ -29,6 +29,10 @@ charsPast zero (x ∷ xs) =
 abbrev pub charsOf : List ℕ → List Char
 charsOf xs = charsPast 0 xs
 
+-- and their code points
+abbrev pub codesOf : List ℕ → List ℕ
+codesOf xs = map (λ (c : Char). c .code) (charsOf xs)
+
 -- how many bytes characters have
 unfoldable pub sizeOf : List Char → ℕ
 sizeOf [] = 0
@@ -41,6 +45,9 @@ prefixEnd xs = sizeOf (charsOf xs)
 -- bytes are UTF-8 text where that is the whole of them
 abbrev pub WellFormed : List ℕ → Type 0
 WellFormed xs = prefixEnd xs ≡ length xs
+
+abbrev pub isWellFormed : List ℕ → Bool
+isWellFormed xs = eqb (prefixEnd xs) (length xs)
 
 -- where the character of number k begins, and past the last one where the prefix ends
 abbrev pub startOf : List ℕ → ℕ → ℕ

@@ -1,0 +1,75 @@
+-- What is said of ASCII characters is said of their bytes. By induction on the bytes: an ASCII byte is a character by itself, and one
+-- that is not ASCII begins no character, or a longer one, whose code point is not ASCII either.
+use Prim.Native.Nat.{ℕ, zero, suc, _<_, _≤_}
+use native.Mathlib.Omega.{arith}
+use native.Mathlib.Decide.{decLt, ℕ-discrete}
+use mathlib.Core.Bool.{Bool, true, false, cond, true≢false}
+use mathlib.Core.List.{List, [], _∷_}
+use mathlib.Core.Path.{_≡_, refl, sym, ap, _∙_}
+use lib.Dec.{ltb}
+use lib.ListN.{length, replicate}
+use borrow.Author.Tests.{ltb-true, lt-ltb, le-ltb, eq-eqb, ne-eqb}
+use Rattle.scan.proofs.Choice.{either, and-left, and-right}
+use Rattle.utf8.specs.Table.{tail, fits, charLength}
+use Rattle.utf8.specs.Lead.{sizeBy}
+use Rattle.utf8.specs.Code.{codeOf}
+use Rattle.utf8.specs.Text.{charsPast, codesOf, sizeOf, prefixEnd, WellFormed, isWellFormed}
+use Rattle.utf8.specs.Laws.{isAscii, AsciiText, AsciiCodes, ByBytes}
+use Rattle.utf8.proofs.Lead.{second, sized, char-by}
+use Rattle.utf8.proofs.Chars.{chars-none, chars-some}
+use Rattle.utf8.proofs.Laws.{ascii-alone, ascii-head}
+use Rattle.utf8.proofs.Inverse.{Range, size-range, long-code}
+
+pub ascii-text : AsciiText
+unfolding charsPast sizeOf
+ascii-text [] h = (refl, refl)
+ascii-text (x ∷ xs) h =
+    let l = ltb-true x 0x80 (and-left (ltb x 0x80) (isAscii xs) h) in
+    let r = ascii-text xs (and-right (ltb x 0x80) (isAscii xs) h) in
+    (ascii-head x xs l .0 ∙ ap suc (r .0), rw (ascii-alone x xs l) (ap (λ (t : List ℕ). x ∷ t) (r .1)))
+
+-- a character of one byte is ASCII
+one-ascii : (x : ℕ) (xs : List ℕ) → charLength (x ∷ xs) ≡ 1 → x < 0x80
+one-ascii x xs e = go (sizeBy x) (size-range x) (sym (char-by x xs) ∙ e)
+  where
+    go : (n : ℕ) → Range n x → sized n (second x) xs ≡ 1 → x < 0x80
+    go zero r e = let f : ⊥ = omega arith in absurd f
+    go (suc zero) r e = omega arith
+    go (suc (suc n)) r e =
+        let m : ⊥ = either (λ k. k ≡ 1 → ⊥) (fits (second x ∷ replicate n tail) xs) (λ t z. omega arith) (λ t z. omega arith) e in absurd m
+
+-- text that begins with another byte has a first code point that is not ASCII
+first-other : (x : ℕ) (xs : List ℕ) → WellFormed (x ∷ xs) → 0x80 ≤ x → isAscii (codesOf (x ∷ xs)) ≡ false
+unfolding sizeOf
+first-other x xs w h = go (charLength (x ∷ xs)) refl
+  where
+    go : (n : ℕ) → charLength (x ∷ xs) ≡ n → isAscii (codesOf (x ∷ xs)) ≡ false
+    go zero e = let f : ⊥ = omega (arith, sym (ap sizeOf (chars-none (x ∷ xs) e)) ∙ w) in absurd f
+    go (suc zero) e = let f : ⊥ = omega (arith, one-ascii x xs e) in absurd f
+    go (suc (suc n)) e =
+        rw (chars-some (x ∷ xs) (omega arith), le-ltb (codeOf (charLength (x ∷ xs)) (x ∷ xs)) 0x80 (long-code (x ∷ xs) (omega arith)))
+
+pub ascii-codes : AsciiCodes
+ascii-codes [] w h = refl
+ascii-codes (x ∷ xs) w h = go (decLt x 0x80) (ascii-codes xs)
+  where
+    go : Dec (x < 0x80) → (WellFormed xs → isAscii (codesOf xs) ≡ true → isAscii xs ≡ true) → isAscii (x ∷ xs) ≡ true
+    go (yes l) ih =
+        let a : isAscii (x ∷ codesOf xs) ≡ true = rw (ascii-alone x xs l) at h in
+        rw (lt-ltb x 0x80 l) (ih (omega (arith, ascii-head x xs l .0, w)) (and-right (ltb x 0x80) (isAscii (codesOf xs)) a))
+    go (no l) ih = absurd (true≢false (sym h ∙ first-other x xs w (omega arith)))
+
+other-codes : (xs : List ℕ) → WellFormed xs → isAscii xs ≡ false → isAscii (codesOf xs) ≡ false
+other-codes xs w e = go (isAscii (codesOf xs)) refl
+  where
+    go : (t : Bool) → isAscii (codesOf xs) ≡ t → isAscii (codesOf xs) ≡ false
+    go true c = absurd (true≢false (sym (ascii-codes xs w c) ∙ e))
+    go false c = c
+
+pub by-bytes : ByBytes
+by-bytes A other f away xs = go (isAscii xs) refl (ℕ-discrete (prefixEnd xs) (length xs))
+  where
+    go : (t : Bool) → isAscii xs ≡ t → Dec (WellFormed xs) → f xs ≡ cond (isWellFormed xs) (f (codesOf xs)) other
+    go true e d = let t = ascii-text xs e in rw (eq-eqb (prefixEnd xs) (length xs) (t .0), t .1)
+    go false e (no n) = rw (ne-eqb (prefixEnd xs) (length xs) n) (away xs e)
+    go false e (yes w) = rw (eq-eqb (prefixEnd xs) (length xs) w) (away xs e ∙ sym (away (codesOf xs) (other-codes xs w e)))
