@@ -1,4 +1,3 @@
-pub mod Text
 pub mod Digit
 pub mod Hex
 pub mod Decimals

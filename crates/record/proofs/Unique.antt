@@ -7,8 +7,6 @@ use Rattle.record.proofs.read_record.Kinds as read-record
 use Rattle.record.proofs.read_record.Reads as read-record-reads
 use Rattle.record.proofs.read_decimal.Kinds as read-decimal
 use Rattle.record.proofs.read_decimal.Reads as read-decimal-reads
-use Rattle.record.proofs.is_text.Kinds as is-text
-use Rattle.record.proofs.is_text.Reads as is-text-reads
 use Rattle.record.proofs.decode_hex.Kinds as decode-hex
 use Rattle.record.proofs.decode_hex.Reads as decode-hex-reads
 use Rattle.record.proofs.put_text.Kinds as put-text
@@ -23,9 +21,6 @@ same-read-record κs a x y e f p q = p ∙ sym q
 
 pub same-read-decimal : OneAnswer read-decimal.ps read-decimal.r read-decimal-reads.Post
 same-read-decimal κs a x y e f p q = p ∙ sym q
-
-pub same-is-text : OneAnswer is-text.ps is-text.r is-text-reads.Post
-same-is-text κs a x y e f p q = p ∙ sym q
 
 pub same-decode-hex : OneAnswer decode-hex.ps decode-hex.r decode-hex-reads.Post
 same-decode-hex κs a x y e f p q = p .0 ∙ sym (q .0)

@@ -11,15 +11,10 @@ use Rattle.record.specs.declared.Decoded.the-variants.{Bytes}
 use Rattle.record.specs.declared.Record.{Record}
 use Rattle.record.specs.declared.Record.the-variants as line
 use Rattle.record.specs.Digit.{decimalBase}
-use Rattle.record.specs.Text.{sameText}
 use Rattle.record.specs.Hex.{paired, hexText, isHexText, decoded, decodedIn}
 use Rattle.record.specs.Decimal.{mostDigits, valueOf, decimalRead, digitsBy, decimalText}
 use Rattle.record.specs.Put.{putAt, pastAt}
 use Rattle.record.specs.Record.{recordOf}
-
--- the test of texts is equality
-abbrev pub SameIsEqual : Type 0
-SameIsEqual = (xs ys : List ℕ) → (sameText xs ys ≡ true → xs ≡ ys) × (xs ≡ ys → sameText xs ys ≡ true)
 
 abbrev pub AllBytes : List ℕ → Type 0
 AllBytes xs = (i : ℕ) → i < length xs → getD xs i 0 < 256

@@ -1,5 +1,4 @@
 pub mod Digit
-pub mod Text
 pub mod Hex
 pub mod Decimal
 pub mod Put

@@ -5,7 +5,6 @@ ghost use mathlib.Core.Path.{_≡_};
 ghost use Prim.Native.Nat.{_<_, _≤_};
 ghost use lib.ListN.{length, drop, getD};
 ghost use Rattle.record.specs.Digit.{hexBase, signOf};
-ghost use Rattle.record.specs.Text.{sameText};
 ghost use Rattle.record.specs.Hex.{hexEnd, isHexText, hexText, decoded, decodedIn};
 ghost use Rattle.record.specs.Decimal.{mostDigits, decimalRead, decimalText};
 ghost use Rattle.record.specs.Put.{putAt, pastAt};
@@ -62,23 +61,6 @@ enum Form {
     Plain,
     Digits,
     Bytes,
-}
-
-// Whether two texts are the same.
-pub fn is_text(field: &[u8], word: &[u8]) -> bool
-    ensures { λ r. ⌜ r ≡ sameText (now (field .entry)) (now (word .entry)) ⌝ }
-{
-    if field.len() != word.len() {
-        return false;
-    }
-    let mut i = 0;
-    while i < field.len() {
-        if field[i] != word[i] {
-            return false;
-        }
-        i += 1;
-    }
-    true
 }
 
 // The digit, in lower case, that stands for d.

@@ -16,7 +16,7 @@ use Rattle.record.specs.declared.Decoded.{Decoded}
 use Rattle.record.specs.declared.Decoded.the-variants as decoding
 use Rattle.record.specs.declared.Record.{Record}
 use Rattle.record.specs.declared.Record.the-variants as line
-use Rattle.record.specs.Text.{sameText}
+use Rattle.scan.specs.Text.{sameText}
 use Rattle.record.specs.Hex.{paired, decoded}
 use Rattle.record.specs.Decimal.{decimalText}
 use Rattle.record.specs.Record.{recordOf}

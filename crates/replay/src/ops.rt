@@ -75,7 +75,7 @@ fn dispatch(op: &[u8], bytes: &[u8], out: &mut [u8]) -> usize
     requires { ⌜ mostAnswer ≤ length (now out) ⌝ }
     ensures { λ r. ⌜ Says (opAnswer (now (op .entry)) (now (bytes .entry))) r (now (out .exit)) ⌝ }
 {
-    if record::is_text(op, b"utf8") {
+    if scan::is_text(op, b"utf8") {
         return utf8_text(bytes, out);
     }
     bad_record(out)

@@ -3,5 +3,6 @@ pub mod Choice
 pub mod Below
 pub mod Classes
 pub mod Runs
+pub mod Same
 pub mod One
 pub mod Unique

@@ -25,6 +25,8 @@ use Rattle.scan.proofs.is_in.Kinds as is-in
 use Rattle.scan.proofs.is_in.Reads as is-in-reads
 use Rattle.scan.proofs.run_end.Kinds as run-end
 use Rattle.scan.proofs.run_end.Reads as run-end-reads
+use Rattle.scan.proofs.is_text.Kinds as is-text
+use Rattle.scan.proofs.is_text.Reads as is-text-reads
 
 pub same-peek : OneAnswer peek.ps peek.r peek-reads.Post
 same-peek κs a x y e f p q = p ∙ sym q
@@ -61,3 +63,6 @@ same-is-in κs a x y e f p q = p ∙ sym q
 
 pub same-run-end : OneAnswer run-end.ps run-end.r run-end-reads.Post
 same-run-end κs a x y e f p q = p ∙ sym q
+
+pub same-is-text : OneAnswer is-text.ps is-text.r is-text-reads.Post
+same-is-text κs a x y e f p q = p ∙ sym q

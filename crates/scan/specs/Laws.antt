@@ -1,4 +1,4 @@
--- What a run is, over any test, as statements; `proofs/Runs` has their proofs.
+-- What a run is, over any test, and what the test of texts says, as statements; `proofs/Runs` and `proofs/Same` have their proofs.
 use Prim.Native.Nat.{ℕ, _<_, _≤_, max}
 use mathlib.Core.Bool.{Bool, true, false}
 use mathlib.Core.List.{List, _∷_, _++_}
@@ -6,6 +6,7 @@ use mathlib.Core.Path.{_≡_}
 use lib.ListN.{length}
 use Rattle.scan.specs.Byte.{end, peekAt}
 use Rattle.scan.specs.Run.{runEnd}
+use Rattle.scan.specs.Text.{sameText}
 
 -- a run is within the list
 abbrev pub RunWithin : Type 0
@@ -31,3 +32,7 @@ RunAppend =
 -- nor does appending anything after a run that ends within the list
 abbrev pub RunInside : Type 0
 RunInside = (p : ℕ → Bool) (xs ys : List ℕ) (n : ℕ) → runEnd p xs n < length xs → runEnd p (xs ++ ys) n ≡ runEnd p xs n
+
+-- the test of texts is equality
+abbrev pub SameIsEqual : Type 0
+SameIsEqual = (xs ys : List ℕ) → (sameText xs ys ≡ true → xs ≡ ys) × (xs ≡ ys → sameText xs ys ≡ true)

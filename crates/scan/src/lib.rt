@@ -1,7 +1,8 @@
-// The bytes of a query: what stands at a place, the classes of document 01, and where a run of a class ends.
+// Bytes: what stands at a place, the classes of document 01, where a run of a class ends, and whether two texts are one.
 ghost use mathlib.Core.Path.{_≡_};
 ghost use Rattle.scan.specs.Byte.{peekAt, isWithin, isSpace, isAlpha, isDigit, isHexDigit, digitOf, isAlphaNumeric, isWord, isLine, isIn};
 ghost use Rattle.scan.specs.Run.{runEnd};
+ghost use Rattle.scan.specs.Text.{sameText};
 
 // What stands past the last byte: no byte, and in no class.
 pub const END: usize = 256;
@@ -132,4 +133,21 @@ pub fn run_end(k: Class, s: &[u8], from: usize) -> usize
         n += 1;
     }
     n
+}
+
+// Whether two texts are the same.
+pub fn is_text(text: &[u8], word: &[u8]) -> bool
+    ensures { λ r. ⌜ r ≡ sameText (now (text .entry)) (now (word .entry)) ⌝ }
+{
+    if text.len() != word.len() {
+        return false;
+    }
+    let mut i = 0;
+    while i < text.len() {
+        if text[i] != word[i] {
+            return false;
+        }
+        i += 1;
+    }
+    true
 }

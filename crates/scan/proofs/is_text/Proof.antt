@@ -8,16 +8,16 @@ use mathlib.Core.Path.{_≡_, refl, sym, _∙_}
 use native.Mathlib.Omega.{arith}
 use borrow.Author.Needs.{needs}
 use borrow.Author.Tests.{eq-eqb, ne-eqb}
-use Rattle.record.specs.Text.{sameText}
-use Rattle.record.proofs.Text.{same-turn, same-out, same-not}
-use Rattle.record.proofs.is_text.Statement.{statement}
-use Rattle.record.proofs.is_text.Tie as tie
+use Rattle.scan.specs.Text.{sameText}
+use Rattle.scan.proofs.Same.{same-turn, same-out, same-not}
+use Rattle.scan.proofs.is_text.Statement.{statement}
+use Rattle.scan.proofs.is_text.Tie as tie
 
 abbrev Inv-loop : tie.InvT-loop
-Inv-loop field word i₀ i = (i ≤ length field) × (length field ≡ length word) × (sameText field word ≡ sameText (drop i field) (drop i word))
+Inv-loop text word i₀ i = (i ≤ length text) × (length text ≡ length word) × (sameText text word ≡ sameText (drop i text) (drop i word))
 
 abbrev μ-loop : tie.MeasureT-loop
-μ-loop field word i₀ i = length field - i
+μ-loop text word i₀ i = length text - i
 
 returns : tie.Need-returns Inv-loop μ-loop
 returns c = sym (same-not _ _ (c .if1 .taken))
@@ -35,10 +35,10 @@ shared-slice-read-if2-2 c = omega arith
 turn : (c : tie.In-loop Inv-loop μ-loop)
     → let a = c .before .before .before .args in
     let i = c .before .loop .i in
-    sameText (now (a .field)) (now (a .word)) ≡ eqb (getD (now (a .field)) i 0) (getD (now (a .word)) i 0) && sameText (drop (i + 1) (now (a .field))) (drop (i + 1) (now (a .word)))
+    sameText (now (a .text)) (now (a .word)) ≡ eqb (getD (now (a .text)) i 0) (getD (now (a .word)) i 0) && sameText (drop (i + 1) (now (a .text))) (drop (i + 1) (now (a .word)))
 turn c =
     let a = c .before .before .before .args in
-    c .before .loop .inv .2 ∙ same-turn (now (a .field)) (now (a .word)) (c .before .loop .i) (c .loop-test .taken) (omega arith)
+    c .before .loop .inv .2 ∙ same-turn (now (a .text)) (now (a .word)) (c .before .loop .i) (c .loop-test .taken) (omega arith)
 
 returns-2 : tie.Need-returns-2 Inv-loop μ-loop
 returns-2 c = sym (turn (c .before .before .before) ∙ simp (ne-eqb _ _ (c .if2 .taken)))
@@ -53,7 +53,7 @@ loop-again : tie.Need-loop-again Inv-loop μ-loop
 loop-again c = (omega arith, omega arith, turn (c .before .before .before) ∙ simp (eq-eqb _ _ (c .if2 .left)))
 
 returns-3 : tie.Need-returns-3 Inv-loop μ-loop
-returns-3 c = let a = c .before .before .before .args in sym (c .before .loop .inv .2 ∙ same-out (now (a .field)) (now (a .word)) _ (c .loop-test .left) (omega arith))
+returns-3 c = let a = c .before .before .before .args in sym (c .before .loop .inv .2 ∙ same-out (now (a .text)) (now (a .word)) _ (c .loop-test .left) (omega arith))
 
 pub is-text-spec : {M : Type 1} → statement M
 is-text-spec =
