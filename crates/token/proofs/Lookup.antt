@@ -1,0 +1,136 @@
+-- The search of the table of words finds what the definition says: each row is its entry (`row-is`), a word longer than any is none, and
+-- so is one with a character that is not ASCII, so that it may be looked for by its bytes (`by-bytes` of utf8).
+use Prim.Native.Nat.{ℕ, suc, _+_, _<_, _≤_}
+use native.Mathlib.Omega.{arith}
+use native.Mathlib.Decide.{decLt, ℕ-discrete}
+use mathlib.Core.Bool.{Bool, true, false, cond, _&&_, and-false, true≢false}
+use mathlib.Core.List.{List, [], _∷_, _++_, map}
+use mathlib.Core.Path.{_≡_, refl, sym, ap, _∙_}
+use Prim.Native.Char.{code}
+use lib.Dec.{eqb, leb, ltb}
+use lib.ListN.{length, getD, take, drop, length-append, length-map, List·getD-append}
+use lib.Seq.{take-at, drop-at, getD-at, getD-append-add, take-append-le, sets, sets-eq}
+use borrow.Author.Tests.{eq-eqb, ne-eqb, le-ltb, lt-ltb, leb-true, ltb-true}
+use Rattle.scan.specs.Text.{sameText}
+use Rattle.scan.proofs.Choice.{either, and-left, and-right}
+use Rattle.scan.proofs.Classes.{above-not}
+use Rattle.scan.proofs.Same.{same-not}
+use Rattle.utf8.specs.Laws.{isAscii}
+use Rattle.utf8.proofs.Ascii.{by-bytes}
+use Rattle.token.specs.declared.Keyword.{Keyword}
+use Rattle.token.specs.declared.Keyword.the-variants.{Kind, Nothing}
+use Rattle.token.specs.Padded.{padded}
+use Rattle.token.proofs.Padding.{padded-length, padded-take}
+use Rattle.token.specs.Words.{Entry, words, lowered, kindIn, keywordOf}
+use Rattle.token.specs.Laws.{TableFinds}
+use Rattle.token.specs.WordRows.{count, widest, row, rowOf, tableOf, wordTable, isRow, foundIn, keywordIn}
+
+module _ (e : Entry) (h : length (e .text) ≤ widest) where
+  text-length : length (padded widest (e .text)) ≡ widest
+  text-length = padded-length widest (e .text) h
+
+  row-length : length (rowOf e) ≡ row
+  row-length = length-append (padded widest (e .text)) (length (e .text) ∷ e .kind ∷ []) ∙ omega (arith, text-length)
+
+  kind-at : (rest : List ℕ) → getD (rowOf e ++ rest) (suc widest) 0 ≡ e .kind
+  kind-at rest =
+      let p = padded widest (e .text) in
+      let k : suc widest ≡ length p + 1 = omega (arith, text-length) in
+      List·getD-append (rowOf e) rest 0 (suc widest) (omega (arith, row-length))
+      ∙ ap (λ (n : ℕ). getD (rowOf e) n 0) k
+      ∙ getD-append-add p (length (e .text) ∷ e .kind ∷ []) 1 0
+
+  -- a row holds a word exactly where it is the entry's
+  row-is : (w : List ℕ) → isRow (rowOf e) w ≡ sameText w (e .text)
+  unfolding isRow
+  row-is w =
+      rw (getD-at (padded widest (e .text)) (length (e .text)) (e .kind ∷ []) 0 widest text-length) (go (ℕ-discrete (length (e .text)) (length w)))
+    where
+      go : Dec (length (e .text) ≡ length w) → eqb (length (e .text)) (length w) && sameText w (take (length w) (rowOf e)) ≡ sameText w (e .text)
+      go (yes k) =
+          rw (eq-eqb (length (e .text)) (length w) k, ← k, take-append-le (length (e .text)) (padded widest (e .text)) (length (e .text) ∷ e .kind ∷ []) (omega (arith, text-length)), padded-take widest (e .text))
+      go (no k) = rw (ne-eqb (length (e .text)) (length w) k, same-not w (e .text) (λ z. k (sym z)))
+
+-- a test of every entry
+abbrev allEntries : (Entry → Bool) → List Entry → Bool
+allEntries p [] = true
+allEntries p (e ∷ es) = p e && allEntries p es
+
+abbrev isShort : Entry → Bool
+isShort e = leb (length (e .text)) widest
+
+found-is : (es : List Entry) (w : List ℕ) → allEntries isShort es ≡ true → foundIn (length es) (tableOf es) w ≡ kindIn es w
+unfolding foundIn tableOf kindIn
+found-is [] w h = refl
+found-is (e ∷ es) w h =
+    let s = leb-true (length (e .text)) widest (and-left (isShort e) (allEntries isShort es) h) in
+    let l = row-length e s in
+    rw (
+      le-ltb (length (rowOf e ++ tableOf es)) row (omega (arith, l, length-append (rowOf e) (tableOf es))),
+      take-at (rowOf e) (tableOf es) row l,
+      drop-at (rowOf e) (tableOf es) row l,
+      row-is e s w,
+      found-is es w (and-right (isShort e) (allEntries isShort es) h),
+    )
+    (ap (λ (k : ℕ). cond (sameText w (e .text)) (Kind k) (kindIn es w)) (kind-at e s (tableOf es)))
+
+-- a word longer than any is none
+long-none : (es : List Entry) (w : List ℕ) → allEntries isShort es ≡ true → widest < length w → kindIn es w ≡ Nothing
+unfolding kindIn
+long-none [] w h l = refl
+long-none (e ∷ es) w h l =
+    let s = leb-true (length (e .text)) widest (and-left (isShort e) (allEntries isShort es) h) in
+    rw (same-not w (e .text) (λ z. omega arith)) (long-none es w (and-right (isShort e) (allEntries isShort es) h) l)
+
+-- a word with a byte that is not ASCII is none, since lowering leaves that byte as it is
+lowered-other : (x : ℕ) → 0x80 ≤ x → lowered x ≡ x
+unfolding lowered
+lowered-other x h = rw (above-not (code "A") (code "Z") x (omega arith))
+
+other-not : (ys t : List ℕ) → isAscii ys ≡ false → isAscii t ≡ true → sameText (map lowered ys) t ≡ false
+unfolding sameText
+other-not [] t h a = absurd (true≢false h)
+other-not (y ∷ ys) [] h a = refl
+other-not (y ∷ ys) (c ∷ t) h a = go (decLt y 0x80) (other-not ys t)
+  where
+    go : Dec (y < 0x80) → (isAscii ys ≡ false → isAscii t ≡ true → sameText (map lowered ys) t ≡ false) → eqb (lowered y) c && sameText (map lowered ys) t ≡ false
+    go (yes l) ih = rw (ih (rw (lt-ltb y 0x80 l) at h) (and-right (ltb c 0x80) (isAscii t) a)) (and-false (eqb (lowered y) c))
+    go (no l) ih =
+        let k = ltb-true c 0x80 (and-left (ltb c 0x80) (isAscii t) a) in
+        rw (lowered-other y (omega arith), ne-eqb y c (λ z. omega arith))
+
+abbrev isPlain : Entry → Bool
+isPlain e = isAscii (e .text)
+
+other-none : (es : List Entry) (ys : List ℕ) → allEntries isPlain es ≡ true → isAscii ys ≡ false → kindIn es (map lowered ys) ≡ Nothing
+unfolding kindIn
+other-none [] ys h a = refl
+other-none (e ∷ es) ys h a =
+    rw (other-not ys (e .text) a (and-left (isPlain e) (allEntries isPlain es) h)) (other-none es ys (and-right (isPlain e) (allEntries isPlain es) h) a)
+
+-- the table of words: all are short, and ASCII
+short : allEntries isShort words ≡ true
+unfolding words
+short = refl
+
+plain : allEntries isPlain words ≡ true
+unfolding words
+plain = refl
+
+pub counted : length words ≡ count
+unfolding words
+counted = refl
+
+pub table-finds : TableFinds
+unfolding keywordIn keywordOf wordTable
+table-finds xs = searched ∙ by-bytes Keyword Nothing (λ ys. kindIn words (map lowered ys)) (λ ys. other-none words ys plain) xs
+  where
+    searched : cond (ltb widest (length xs)) Nothing (foundIn count (tableOf words) (map lowered xs)) ≡ kindIn words (map lowered xs)
+    searched =
+        either (λ k. k ≡ kindIn words (map lowered xs)) (ltb widest (length xs))
+        (λ e. sym (long-none words (map lowered xs) short (omega (arith, ltb-true widest (length xs) e, length-map xs lowered))))
+        (λ e. rw (← counted) (found-is words (map lowered xs) short))
+
+-- the front of a list into which a text was written
+pub written-front : (d vs : List ℕ) → length vs ≤ length d → take (length vs) (sets d 0 vs) ≡ vs
+written-front d vs h = rw (sets-eq vs d 0 (omega arith)) (take-at vs (drop (0 + length vs) d) (length vs) refl)

@@ -1,0 +1,30 @@
+-- One turn of the search of a table: row i is tried where the table has it, and then come the rows after it.
+use Prim.Native.Nat.{ℕ, suc, _+_, _*_, _-_, _<_, _≤_}
+use native.Mathlib.Omega.{arith}
+use mathlib.Core.Bool.{cond}
+use mathlib.Core.List.{List}
+use mathlib.Core.Path.{_≡_}
+use lib.ListN.{length, getD, take, drop, length-drop}
+use lib.Seq.{drop-drop, getD-drop}
+use borrow.Author.Tests.{lt-ltb, le-ltb}
+use Rattle.token.specs.declared.Keyword.{Keyword}
+use Rattle.token.specs.declared.Keyword.the-variants.{Kind, Nothing}
+use Rattle.token.specs.WordRows.{count, widest, row, isRow, foundIn}
+
+module _ (t w : List ℕ) (i : ℕ) (h : i < count) where
+  -- the rows from i on
+  abbrev pub from : ℕ → Keyword
+  from k = foundIn (count - k) (drop (k * row) t) w
+
+  more : count - i ≡ suc (count - (i + 1))
+  more = omega arith
+
+  pub row-missing : length t < i * row + row → from i ≡ Nothing
+  unfolding foundIn
+  row-missing l = rw (more, lt-ltb (length (drop (i * row) t)) row (omega (arith, length-drop (i * row) t)))
+
+  pub row-tried : i * row + row ≤ length t → from i ≡ cond (isRow (take row (drop (i * row) t)) w) (Kind (getD t (i * row + suc widest) 0)) (from (i + 1))
+  unfolding foundIn
+  row-tried l =
+      let e : i * row + row ≡ (i + 1) * row = omega arith in
+      rw (more, le-ltb (length (drop (i * row) t)) row (omega (arith, length-drop (i * row) t)), drop-drop, getD-drop, e)

@@ -1,0 +1,72 @@
+-- `token::lower_into` meets its contract. The loop's invariant: with the letters that are left written from i on, the buffer is as with
+-- all of them written from its front.
+use native.Mathlib.Numerals.{add-one}
+use native.Mathlib.Omega.{arith}
+use Prim.Native.Nat.{ℕ, _-_, _≤_}
+use mathlib.Core.List.{List, [], map}
+use mathlib.Core.Path.{_≡_, refl, sym, _∙_}
+use borrow.Author.Needs.{needs}
+use denote.Ref.{now}
+use lib.ListN.{length, getD, drop, length-map, drop-of-length-le, List·getD-map}
+use lib.Seq.{drop-cons, sets}
+use Rattle.scan.specs.Byte.{isWithin}
+use Rattle.token.specs.Words.{lowered}
+use Rattle.token.proofs.lower_into.Statement.{statement}
+use Rattle.token.proofs.lower_into.Tie as tie
+
+abbrev Inv-loop : tie.InvT-loop
+Inv-loop word buf₀ i₀ buf i = (i ≤ length word) × (sets buf₀ 0 (map lowered word) ≡ sets buf i (drop i (map lowered word)))
+
+abbrev μ-loop : tie.MeasureT-loop
+μ-loop word buf₀ i₀ buf i = length word - i
+
+loop-holds : tie.Need-loop-holds Inv-loop μ-loop
+loop-holds c = (search needs, refl)
+
+shared-slice-read-lower : tie.Need-shared-slice-read-lower Inv-loop μ-loop
+shared-slice-read-lower c = search needs
+
+lower-requires : tie.Need-lower-requires Inv-loop μ-loop
+lower-requires c κs = search needs
+
+element-write-buf : tie.Need-element-write-buf Inv-loop μ-loop
+element-write-buf c = omega arith
+
+add-i : tie.Need-add-i Inv-loop μ-loop
+add-i c = omega arith
+
+loop-less : tie.Need-loop-less Inv-loop μ-loop
+loop-less c = omega arith
+
+-- the letter that is written is the next of those that are left
+letter : (xs : List ℕ) (i : ℕ) → getD (map lowered xs) i 0 ≡ lowered (getD xs i 0)
+unfolding lowered isWithin
+letter xs i = List·getD-map lowered xs i 0
+
+loop-again : tie.Need-loop-again Inv-loop μ-loop
+loop-again c =
+    let w = now (c .before .before .before .before .before .args .word) in
+    let i = c .before .before .before .loop .i in
+    (omega arith, c .before .before .before .loop .inv .1 ∙ rw (drop-cons (map lowered w) i 0 (omega (arith, length-map w lowered)), letter w i, ← c .lower .ensures, add-one))
+
+returns : tie.Need-returns Inv-loop μ-loop
+returns c =
+    let w = now (c .before .before .before .args .word) in
+    let l : length (map lowered w) ≤ c .before .loop .i = omega (arith, length-map w lowered) in
+    let e : drop (c .before .loop .i) (map lowered w) ≡ [] = drop-of-length-le (map lowered w) l in
+    sym (c .before .loop .inv .1 ∙ rw e)
+
+pub lower-into-spec : {M : Type 1} → statement M
+lower-into-spec =
+    tie.close
+    (tie.spec
+    Inv-loop
+    μ-loop
+    loop-holds
+    shared-slice-read-lower
+    lower-requires
+    element-write-buf
+    add-i
+    loop-less
+    loop-again
+    returns)

@@ -1,0 +1,53 @@
+-- The classes of kinds: document 01's "Kinds", "operators are 20 to 38, aggregators 40 to 53", and the tests of 001's `TokenType`
+-- within them. A number that is no kind is in none.
+use Prim.Native.Nat.{ℕ}
+use mathlib.Core.Bool.{Bool}
+use Rattle.scan.specs.Byte.{isWithin}
+
+-- the kinds that a class begins and ends with
+abbrev pub add : ℕ
+add = 20
+
+abbrev pub eqlc : ℕ
+eqlc = 26
+
+abbrev pub gtr : ℕ
+gtr = 31
+
+abbrev pub land : ℕ
+land = 35
+
+abbrev pub lunless : ℕ
+lunless = 37
+
+abbrev pub atan2 : ℕ
+atan2 = 38
+
+abbrev pub sum : ℕ
+sum = 40
+
+abbrev pub topk : ℕ
+topk = 48
+
+abbrev pub limitRatio : ℕ
+limitRatio = 53
+
+-- `+` to atan2
+abbrev pub isOperator : ℕ → Bool
+isOperator k = isWithin add atan2 k
+
+-- `== != <= < >= >`
+abbrev pub isComparisonOperator : ℕ → Bool
+isComparisonOperator k = isWithin eqlc gtr k
+
+-- and, or, unless
+abbrev pub isSetOperator : ℕ → Bool
+isSetOperator k = isWithin land lunless k
+
+-- sum to limit_ratio
+abbrev pub isAggregator : ℕ → Bool
+isAggregator k = isWithin sum limitRatio k
+
+-- topk, bottomk, count_values, quantile, limitk, limit_ratio
+abbrev pub isAggregatorWithParam : ℕ → Bool
+isAggregatorWithParam k = isWithin topk limitRatio k

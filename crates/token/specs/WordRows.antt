@@ -1,0 +1,46 @@
+-- The table of words as the code has it: rows of the padded word, its length and its kind, one after the other; and what a search of
+-- any such table finds. That the search of the table of `words` finds what `keywordOf` says is a law (`specs/Laws`).
+use Prim.Native.Nat.{ℕ, zero, suc}
+use mathlib.Core.Bool.{Bool, cond, _&&_}
+use mathlib.Core.List.{List, [], _∷_, _++_, map}
+use lib.Dec.{eqb, ltb}
+use lib.ListN.{length, getD, take, drop}
+use Rattle.scan.specs.Text.{sameText}
+use Rattle.token.specs.declared.Keyword.{Keyword}
+use Rattle.token.specs.declared.Keyword.the-variants.{Kind, Nothing}
+use Rattle.token.specs.Padded.{padded}
+use Rattle.token.specs.Words.{Entry, words, lowered}
+
+-- how many words there are, the bytes of the longest, and those of a row
+abbrev pub count : ℕ
+count = 35
+
+abbrev pub widest : ℕ
+widest = 12
+
+abbrev pub row : ℕ
+row = 14
+
+abbrev pub rowOf : Entry → List ℕ
+rowOf e = padded widest (e .text) ++ (length (e .text) ∷ e .kind ∷ [])
+
+unfoldable pub tableOf : List Entry → List ℕ
+tableOf [] = []
+tableOf (e ∷ es) = rowOf e ++ tableOf es
+
+unfoldable pub wordTable : List ℕ
+wordTable = tableOf words
+
+-- whether a row holds a word
+unfoldable pub isRow : List ℕ → List ℕ → Bool
+isRow r w = eqb (getD r widest 0) (length w) && sameText w (take (length w) r)
+
+-- the kind of the first of k rows that holds a word, so far as the table has them
+unfoldable pub foundIn : ℕ → List ℕ → List ℕ → Keyword
+foundIn zero t w = Nothing
+foundIn (suc k) t w =
+    cond (ltb (length t) row) Nothing (cond (isRow (take row t) w) (Kind (getD t (suc widest) 0)) (foundIn k (drop row t) w))
+
+-- the search of a table for a word, letters lowered
+unfoldable pub keywordIn : List ℕ → List ℕ → Keyword
+keywordIn t xs = cond (ltb widest (length xs)) Nothing (foundIn count t (map lowered xs))

@@ -1,0 +1,341 @@
+// Token names and words: the kinds of lexemes, the classes of kinds, the text that a kind is shown as, the words that have a kind of
+// their own, and labels. A kind is a number of document 01; every other number has no class and is shown as an unknown token.
+pub mod kinds;
+
+use scan::Class;
+ghost use mathlib.Core.Path.{_≡_};
+ghost use mathlib.Core.List.{map};
+ghost use Prim.Native.Nat.{_≤_};
+ghost use lib.ListN.{length};
+ghost use lib.Seq.{sets};
+ghost use Rattle.scan.specs.Byte.{isWithin};
+ghost use Rattle.token.specs.Classes.{isOperator, isComparisonOperator, isSetOperator, isAggregator, isAggregatorWithParam};
+ghost use Rattle.token.specs.Display.{displayOf, fitted, displayed, leftBy};
+ghost use Rattle.token.specs.DisplayRows.{pastKinds, table};
+ghost use Rattle.token.specs.Words.{lowered, keywordOf};
+ghost use Rattle.token.specs.WordRows.{wordTable, isRow, foundIn, keywordIn};
+ghost use Rattle.token.specs.Label.{isLabel};
+
+// How many bytes of a display text were written, or that it has no room.
+pub enum Display {
+    Length(usize),
+    NoRoom,
+}
+
+const PAST_KINDS: usize = kinds::T_END as usize + 1;
+
+const ROW_SIZE: usize = 14;
+
+const LENGTH_AT: usize = ROW_SIZE - 1;
+
+const TABLE_SIZE: usize = (PAST_KINDS + 1) * ROW_SIZE;
+
+// A row for each number through the last kind and one for all above: the text, padded, and its length.
+const DISPLAYS: [u8; TABLE_SIZE] = *b"\
+    <eof>        \x05\
+    {ID}         \x04\
+    {Metric_ID}  \x0b\
+    {Str}        \x05\
+    {Num}        \x05\
+    [du]         \x04\
+    (            \x01\
+    )            \x01\
+    {            \x01\
+    }            \x01\
+    [            \x01\
+    ]            \x01\
+    ,            \x01\
+    :            \x01\
+    =            \x01\
+    unknown token\x0d\
+    unknown token\x0d\
+    unknown token\x0d\
+    unknown token\x0d\
+    unknown token\x0d\
+    +            \x01\
+    -            \x01\
+    *            \x01\
+    /            \x01\
+    %            \x01\
+    ^            \x01\
+    ==           \x02\
+    !=           \x02\
+    <=           \x02\
+    <            \x01\
+    >=           \x02\
+    >            \x01\
+    =~           \x02\
+    !~           \x02\
+    @            \x01\
+    and          \x03\
+    or           \x02\
+    unless       \x06\
+    atan2        \x05\
+    unknown token\x0d\
+    sum          \x03\
+    avg          \x03\
+    count        \x05\
+    min          \x03\
+    max          \x03\
+    group        \x05\
+    stddev       \x06\
+    stdvar       \x06\
+    topk         \x04\
+    bottomk      \x07\
+    count_values \x0c\
+    quantile     \x08\
+    limitk       \x06\
+    limit_ratio  \x0b\
+    unknown token\x0d\
+    unknown token\x0d\
+    unknown token\x0d\
+    unknown token\x0d\
+    unknown token\x0d\
+    unknown token\x0d\
+    offset       \x06\
+    by           \x02\
+    without      \x07\
+    on           \x02\
+    ignoring     \x08\
+    group_left   \x0a\
+    group_right  \x0b\
+    bool         \x04\
+    smoothed     \x08\
+    anchored     \x08\
+    fill         \x04\
+    fill_left    \x09\
+    fill_right   \x0a\
+    unknown token\x0d\
+    unknown token\x0d\
+    unknown token\x0d\
+    unknown token\x0d\
+    unknown token\x0d\
+    unknown token\x0d\
+    unknown token\x0d\
+    start        \x05\
+    end          \x03\
+    unknown token\x0d";
+
+// From lo to hi, both included.
+fn is_between(lo: u16, hi: u16, kind: u16) -> bool
+    ensures { λ r. ⌜ r ≡ isWithin lo hi kind ⌝ }
+{
+    lo <= kind && kind <= hi
+}
+
+// An operator.
+pub fn is_operator(kind: u16) -> bool
+    ensures { λ r. ⌜ r ≡ isOperator kind ⌝ }
+{
+    is_between(kinds::T_ADD, kinds::T_ATAN2, kind)
+}
+
+// An operator that compares.
+pub fn is_comparison_operator(kind: u16) -> bool
+    ensures { λ r. ⌜ r ≡ isComparisonOperator kind ⌝ }
+{
+    is_between(kinds::T_EQLC, kinds::T_GTR, kind)
+}
+
+// An operator on sets.
+pub fn is_set_operator(kind: u16) -> bool
+    ensures { λ r. ⌜ r ≡ isSetOperator kind ⌝ }
+{
+    is_between(kinds::T_LAND, kinds::T_LUNLESS, kind)
+}
+
+// An aggregator.
+pub fn is_aggregator(kind: u16) -> bool
+    ensures { λ r. ⌜ r ≡ isAggregator kind ⌝ }
+{
+    is_between(kinds::T_SUM, kinds::T_LIMIT_RATIO, kind)
+}
+
+// An aggregator that takes a parameter.
+pub fn is_aggregator_with_param(kind: u16) -> bool
+    ensures { λ r. ⌜ r ≡ isAggregatorWithParam kind ⌝ }
+{
+    is_between(kinds::T_TOPK, kinds::T_LIMIT_RATIO, kind)
+}
+
+// Writes a text at the front of a lent buffer; nothing where it has no room.
+fn put(text: &[u8], out: &mut [u8]) -> Display
+    ensures { λ r. ⌜ r ≡ fitted (length (now (out .entry))) (now (text .entry)) ⌝ }
+    ensures { λ r. ⌜ now (out .exit) ≡ leftBy r (now (text .entry)) (now (out .entry)) ⌝ }
+{
+    let n = text.len();
+    if out.len() < n {
+        return Display::NoRoom;
+    }
+    let mut i = 0;
+    while i < n {
+        out[i] = text[i];
+        i += 1;
+    }
+    Display::Length(n)
+}
+
+// The row that has the text of a kind: that of its number, or the last for a number above all kinds.
+fn row_of(kind: u16) -> usize
+    ensures { λ r. ⌜ (r ≤ pastKinds) × (displayOf r ≡ displayOf kind) ⌝ }
+{
+    let row = kind as usize;
+    if row < PAST_KINDS { row } else { PAST_KINDS }
+}
+
+// The rows of all numbers through PAST_KINDS.
+fn display_table() -> [u8; TABLE_SIZE]
+    ensures { λ r. ⌜ r ≡ table ⌝ }
+{
+    DISPLAYS
+}
+
+// Writes the text that a kind is shown as at the front of a lent buffer; nothing where it has no room.
+pub fn token_display(kind: u16, out: &mut [u8]) -> Display
+    ensures { λ r. ⌜ r ≡ displayed (length (now (out .entry))) kind ⌝ }
+    ensures { λ r. ⌜ now (out .exit) ≡ leftBy r (displayOf kind) (now (out .entry)) ⌝ }
+{
+    let table = display_table();
+    let from = row_of(kind) * ROW_SIZE;
+    let to = from + table[from + LENGTH_AT] as usize;
+    put(&table[from..to], out)
+}
+
+// How many words have a kind, the bytes of the longest, and those of a row of the table.
+const COUNT: usize = 35;
+
+const WIDEST: usize = 12;
+
+const ROW: usize = 14;
+
+// The words in the order of the Rust's KEYWORDS: each padded to WIDEST bytes, then its length and its kind.
+const WORDS: [u8; 490] = *b"\
+    and         \x03\x23\
+    or          \x02\x24\
+    unless      \x06\x25\
+    atan2       \x05\x26\
+    sum         \x03\x28\
+    avg         \x03\x29\
+    count       \x05\x2a\
+    min         \x03\x2b\
+    max         \x03\x2c\
+    group       \x05\x2d\
+    stddev      \x06\x2e\
+    stdvar      \x06\x2f\
+    topk        \x04\x30\
+    bottomk     \x07\x31\
+    count_values\x0c\x32\
+    quantile    \x08\x33\
+    limitk      \x06\x34\
+    limit_ratio \x0b\x35\
+    offset      \x06\x3c\
+    by          \x02\x3d\
+    without     \x07\x3e\
+    on          \x02\x3f\
+    ignoring    \x08\x40\
+    group_left  \x0a\x41\
+    group_right \x0b\x42\
+    bool        \x04\x43\
+    smoothed    \x08\x44\
+    anchored    \x08\x45\
+    fill        \x04\x46\
+    fill_left   \x09\x47\
+    fill_right  \x0a\x48\
+    start       \x05\x50\
+    end         \x03\x51\
+    inf         \x03\x04\
+    nan         \x03\x04";
+
+// The kind that a word has of its own, if any.
+pub enum Keyword {
+    Kind(u16),
+    Nothing,
+}
+
+// The table of words, to be lent to `keyword_in` for as many words as there are.
+pub fn words() -> [u8; 490]
+    ensures { λ r. ⌜ r ≡ wordTable ⌝ }
+{
+    WORDS
+}
+
+// A byte in lower case.
+fn lower(c: u8) -> u8
+    ensures { λ r. ⌜ r ≡ lowered c ⌝ }
+{
+    if scan::is_within(b'A', b'Z', c as usize) {
+        c + (b'a' - b'A')
+    } else {
+        c
+    }
+}
+
+// Writes a word in lower case to the front of a buffer that it fits.
+fn lower_into(word: &[u8], buf: &mut [u8; 12])
+    requires { ⌜ length (now word) ≤ 12 ⌝ }
+    ensures { λ _. ⌜ now (buf .exit) ≡ sets (now (buf .entry)) 0 (map lowered (now (word .entry))) ⌝ }
+{
+    let mut i = 0;
+    while i < word.len() {
+        buf[i] = lower(word[i]);
+        i += 1;
+    }
+}
+
+// Whether a row of the table holds a word.
+fn is_row(row: &[u8], word: &[u8]) -> bool
+    requires { ⌜ (length (now row) ≡ 14) × (length (now word) ≤ 12) ⌝ }
+    ensures { λ r. ⌜ r ≡ isRow (now (row .entry)) (now (word .entry)) ⌝ }
+{
+    let n = word.len();
+    row[WIDEST] as usize == n && scan::is_text(word, &row[..n])
+}
+
+// The kind of the first row of a table that holds a word.
+fn find(table: &[u8], word: &[u8]) -> Keyword
+    requires { ⌜ length (now word) ≤ 12 ⌝ }
+    ensures { λ r. ⌜ r ≡ foundIn 35 (now (table .entry)) (now (word .entry)) ⌝ }
+{
+    let mut i = 0;
+    while i < COUNT {
+        let at = i * ROW;
+        let end = at + ROW;
+        if table.len() < end {
+            break;
+        }
+        let row = &table[at..end];
+        if is_row(row, word) {
+            return Keyword::Kind(row[WIDEST + 1] as u16);
+        }
+        i += 1;
+    }
+    Keyword::Nothing
+}
+
+// The kind of a word, in any case of its letters, by a table.
+pub fn keyword_in(table: &[u8], word: &[u8]) -> Keyword
+    ensures { λ r. ⌜ r ≡ keywordIn (now (table .entry)) (now (word .entry)) ⌝ }
+{
+    let n = word.len();
+    if WIDEST < n {
+        return Keyword::Nothing;
+    }
+    let mut buf = [0u8; WIDEST];
+    lower_into(word, &mut buf);
+    find(table, &buf[..n])
+}
+
+// The kind of a word, in any case of its letters.
+pub fn get_keyword_token(word: &[u8]) -> Keyword
+    ensures { λ r. ⌜ r ≡ keywordOf (now (word .entry)) ⌝ }
+{
+    let table = words();
+    keyword_in(&table, word)
+}
+
+// Whether a text is a label's name.
+pub fn is_label(text: &[u8]) -> bool
+    ensures { λ r. ⌜ r ≡ isLabel (now (text .entry)) ⌝ }
+{
+    scan::is_alpha(scan::peek(text, 0)) && scan::run_end(Class::AlphaNumeric, text, 1) == text.len()
+}
