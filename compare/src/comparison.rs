@@ -55,10 +55,13 @@ impl Difference {
     }
 }
 
-/// A function of ours: its name, and where it differs from the Rust on an input.
+/// A function of ours.
 pub struct Function<I: ?Sized> {
     pub name: &'static str,
+    /// Where it differs on an input from what it must do.
     pub difference: fn(&I) -> Option<Difference>,
+    /// Whether the Rust is known to do otherwise on an input than we must.
+    pub known: fn(&I) -> bool,
 }
 
 impl<I: Input + ?Sized> Function<I> {
@@ -69,7 +72,8 @@ impl<I: Input + ?Sized> Function<I> {
         if let Some(Difference { call, ours, rust }) = (self.difference)(input) {
             println!("{} differs on {}: {call}", self.name, input.shown());
             println!("  ours: {ours}");
-            println!("  rust: {rust}");
+            let whose = if (self.known)(input) { "must" } else { "rust" };
+            println!("  {whose}: {rust}");
         }
     }
 
@@ -89,34 +93,41 @@ impl<I: Input + ?Sized> Function<I> {
     }
 }
 
+/// For a function without known differences.
+pub fn nowhere<I: ?Sized>(_input: &I) -> bool {
+    false
+}
+
 /// Compares the functions on each input, prints a line for each function, and gives the number of differences.
 pub fn compare<I: Input + ?Sized>(
     functions: &[Function<I>],
     inputs: impl Iterator<Item = I::Owned>,
 ) -> u64 {
     let mut compared: u64 = 0;
-    let mut differences = vec![0; functions.len()];
+    let mut counts = vec![(0, 0); functions.len()];
     for owned in inputs {
         let input = owned.borrow();
-        for (function, count) in functions.iter().zip(&mut differences) {
+        for (function, (differences, known)) in functions.iter().zip(&mut counts) {
             if (function.difference)(input).is_some() {
-                if *count == 0 {
+                if *differences == 0 {
                     function.show(input);
                 }
-                *count += 1;
+                *differences += 1;
             }
+            *known += u64::from((function.known)(input));
         }
         compared += 1;
         if compared % STEP == 0 {
             eprintln!("compared {compared} {}", I::NAMES);
         }
     }
-    for (function, count) in functions.iter().zip(&differences) {
-        println!(
-            "{}: {compared} {}, {count} differences",
-            function.name,
-            I::NAMES
-        );
+    for (function, (differences, known)) in functions.iter().zip(&counts) {
+        let (name, inputs) = (function.name, I::NAMES);
+        print!("{name}: {compared} {inputs}, {differences} differences");
+        match known {
+            0 => println!(),
+            known => println!(", {known} known ones beside"),
+        }
     }
-    differences.iter().sum()
+    counts.iter().map(|(differences, _)| differences).sum()
 }

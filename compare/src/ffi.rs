@@ -9,6 +9,10 @@ extern "C" {
     fn simmerpath_utf8_char_number(text: *const u8, len: usize, to: usize) -> u64;
     fn simmerpath_utf8_char_at(text: *const u8, len: usize, at: usize, code: *mut u32) -> u64;
     fn simmerpath_utf8_encode(code: u32, out: *mut u8, len: usize, at: usize) -> u64;
+    fn simmerpath_get_keyword_token(word: *const u8, len: usize) -> u64;
+    fn simmerpath_token_display(kind: u16, out: *mut u8, len: usize) -> u64;
+    fn simmerpath_token_classes(kind: u16) -> u64;
+    fn simmerpath_is_label(text: *const u8, len: usize) -> u64;
 }
 
 /// How many guards stand on each side of a list.
@@ -28,6 +32,15 @@ impl<T: Copy + PartialEq> Lent<T> {
         Lent {
             now: made.clone(),
             made,
+        }
+    }
+
+    /// Makes all guards this value.
+    pub fn guard(&mut self, guard: T) {
+        let end = GUARDS + self.len();
+        for list in [&mut self.now, &mut self.made] {
+            list[..GUARDS].fill(guard);
+            list[end..].fill(guard);
         }
     }
 
@@ -61,28 +74,38 @@ impl<T: Copy + PartialEq> Lent<T> {
     fn is_untouched(&self) -> bool {
         self.now == self.made
     }
+
+    /// The outcome of a call that answered this, and that may write nothing.
+    fn read(&self, answer: u64) -> Outcome<()> {
+        Outcome {
+            answer,
+            written: (),
+            untouched: self.is_untouched(),
+        }
+    }
+
+    /// The outcome of a call that answered this, and that may write to the list.
+    fn written(&self, answer: u64) -> Outcome<&[T]> {
+        Outcome {
+            answer,
+            written: self.contents(),
+            untouched: self.is_guarded(),
+        }
+    }
 }
 
 /// How many characters a text has.
 pub fn utf8_validate(text: &mut Lent<u8>) -> Outcome<()> {
     // Safety: the pointer and the length are those of one list.
     let answer = unsafe { simmerpath_utf8_validate(text.start(), text.len()) };
-    Outcome {
-        answer,
-        written: (),
-        untouched: text.is_untouched(),
-    }
+    text.read(answer)
 }
 
 /// How many characters of the longest well-formed prefix begin before byte `to`.
 pub fn utf8_char_number(text: &mut Lent<u8>, to: usize) -> Outcome<()> {
     // Safety: the pointer and the length are those of one list.
     let answer = unsafe { simmerpath_utf8_char_number(text.start(), text.len(), to) };
-    Outcome {
-        answer,
-        written: (),
-        untouched: text.is_untouched(),
-    }
+    text.read(answer)
 }
 
 /// The length of the character at byte `at`; its code point is written to the first cell of `code`.
@@ -102,9 +125,37 @@ pub fn utf8_encode(code: u32, out: &mut Lent<u8>, at: usize) -> Outcome<&[u8]> {
     out.restore();
     // Safety: the pointer and the length are those of one list.
     let answer = unsafe { simmerpath_utf8_encode(code, out.start(), out.len(), at) };
+    out.written(answer)
+}
+
+/// The kind of a word of the table.
+pub fn get_keyword_token(word: &mut Lent<u8>) -> Outcome<()> {
+    // Safety: the pointer and the length are those of one list.
+    let answer = unsafe { simmerpath_get_keyword_token(word.start(), word.len()) };
+    word.read(answer)
+}
+
+/// How many bytes the display text of a kind has; they are written to the front.
+pub fn token_display(kind: u16, out: &mut Lent<u8>) -> Outcome<&[u8]> {
+    out.restore();
+    // Safety: the pointer and the length are those of one list.
+    let answer = unsafe { simmerpath_token_display(kind, out.start(), out.len()) };
+    out.written(answer)
+}
+
+/// The classes of a kind, a bit for each.
+pub fn token_classes(kind: u16) -> Outcome<()> {
     Outcome {
-        answer,
-        written: out.contents(),
-        untouched: out.is_guarded(),
+        // Safety: the function is lent nothing.
+        answer: unsafe { simmerpath_token_classes(kind) },
+        written: (),
+        untouched: true,
     }
+}
+
+/// Whether a text is a label.
+pub fn is_label(text: &mut Lent<u8>) -> Outcome<()> {
+    // Safety: the pointer and the length are those of one list.
+    let answer = unsafe { simmerpath_is_label(text.start(), text.len()) };
+    text.read(answer)
 }

@@ -60,6 +60,19 @@ impl Input for u32 {
     }
 }
 
+impl Input for u16 {
+    const NAMES: &'static str = "kinds";
+
+    fn shown(&self) -> String {
+        self.to_string()
+    }
+
+    /// None: the kinds are compared in order.
+    fn smaller(&self) -> Box<dyn Iterator<Item = Self::Owned> + '_> {
+        Box::new(iter::empty())
+    }
+}
+
 /// The whole of a text of `len` bytes, its halves, their halves, and so on to its bytes.
 fn parts(len: usize) -> impl Iterator<Item = Range<usize>> {
     let sizes = iter::successors(Some(len), |size| Some(size / 2));

@@ -1,16 +1,25 @@
 //! Compares our functions with the Rust's on generated inputs: `compare [--seed N] [--count N]`.
 //! COUNT is the number of random inputs, beside the fixed ones. The exit status is 1 if there is a difference.
+//! Without the feature `promql` it compares with Rust's library alone.
+
+#![cfg_attr(not(feature = "promql"), allow(dead_code))]
 
 mod comparison;
 mod ffi;
 mod input;
+#[cfg(feature = "promql")]
+mod token;
 mod utf8;
 
 use std::env;
 use std::process::ExitCode;
 
 /// The comparison of each operation: of a seed and a count, the number of differences.
-const OPERATIONS: [fn(u64, usize) -> u64; 1] = [utf8::run];
+const OPERATIONS: &[fn(u64, usize) -> u64] = &[
+    utf8::run,
+    #[cfg(feature = "promql")]
+    token::run,
+];
 
 /// The seed and the count that the arguments ask for; none where they are not arguments of this program.
 fn options() -> Option<(u64, usize)> {

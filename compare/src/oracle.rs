@@ -2,6 +2,8 @@
 
 use std::fmt::{self, Display, Formatter};
 
+#[cfg(feature = "promql")]
+pub mod token;
 pub mod utf8;
 
 /// A text has at most this many bytes.

@@ -6,6 +6,8 @@ use std::collections::BTreeSet;
 use std::iter;
 use std::ops::Range;
 
+pub mod words;
+
 /// The bytes on both sides of each end of a range of RFC 3629's table, and a letter.
 const TELLING: [u8; 25] = [
     0x00, 0x41, 0x7f, 0x80, 0x8f, 0x90, 0x9f, 0xa0, 0xbf, 0xc0, 0xc1, 0xc2, 0xdf, 0xe0, 0xe1, 0xec,

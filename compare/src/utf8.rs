@@ -1,6 +1,6 @@
 //! Compares the UTF-8 functions with the Rust's.
 
-use crate::comparison::{compare, Difference, Function, Outcome};
+use crate::comparison::{compare, nowhere, Difference, Function, Outcome};
 use crate::ffi::{self, Lent};
 use compare::oracle::utf8::{self, Text};
 use compare::oracle::Answer;
@@ -21,14 +21,17 @@ const ON_TEXTS: [Function<[u8]>; 3] = [
     Function {
         name: "utf8_validate",
         difference: validate,
+        known: nowhere,
     },
     Function {
         name: "utf8_char_number",
         difference: char_number,
+        known: nowhere,
     },
     Function {
         name: "utf8_char_at",
         difference: char_at,
+        known: nowhere,
     },
 ];
 
@@ -36,6 +39,7 @@ const ON_TEXTS: [Function<[u8]>; 3] = [
 const ON_CODES: [Function<u32>; 1] = [Function {
     name: "utf8_encode",
     difference: encode,
+    known: nowhere,
 }];
 
 /// Compares every function: on all fixed texts and `count` random ones, and on all code points.

@@ -1,3 +1,4 @@
 pub mod Packed
 pub mod Utf8
+pub mod Token
 pub mod Laws

@@ -1,11 +1,8 @@
-//! Writes the replay program's recorded inputs, `record inputs`, and the Rust's answers to them, `record answers`.
-//! A record is `OP HEX` or `OP HEX ROOM`. Both lists are the same in every run.
+//! The records of the UTF-8 functions.
 
 use compare::oracle::utf8::Text;
 use compare::oracle::MOST_BYTES;
-use compare::texts::{self, from_hex, hex};
-use std::env;
-use std::process::ExitCode;
+use compare::texts::{self, hex};
 
 /// The examples of RFC 3629: those of its section 7, then the bad ones of its section 10.
 const RFC_3629: &[&[u8]] = &[
@@ -67,7 +64,7 @@ const BY_HAND: &[&str] = &[
 const GENERATED: (u64, usize) = (3629, 400);
 
 /// The recorded lines.
-fn inputs() -> Vec<String> {
+pub fn inputs() -> Vec<String> {
     let (seed, count) = GENERATED;
     let mut texts: Vec<Vec<u8>> = RFC_3629.iter().map(|text| text.to_vec()).collect();
     texts.extend(texts::table_ends());
@@ -79,41 +76,7 @@ fn inputs() -> Vec<String> {
     by_hand.chain(records).collect()
 }
 
-/// The answer to a line.
-fn answer(line: &str) -> String {
-    match record(line) {
-        Some(("utf8", text)) => Text::new(&text).validate().to_string(),
-        _ => "bad record".to_string(),
-    }
-}
-
-/// The operation and the bytes of a record; none where the line is no record.
-fn record(line: &str) -> Option<(&str, Vec<u8>)> {
-    let fields: Vec<&str> = line.split(' ').collect();
-    match fields[..] {
-        [operation, hex] => Some((operation, from_hex(hex)?)),
-        [operation, hex, room] if is_room(room) => Some((operation, from_hex(hex)?)),
-        _ => None,
-    }
-}
-
-/// Whether a field is a ROOM: decimal digits, with a value that a `u64` holds.
-fn is_room(field: &str) -> bool {
-    field.bytes().all(|byte| byte.is_ascii_digit()) && field.parse::<u64>().is_ok()
-}
-
-fn main() -> ExitCode {
-    let words: Vec<String> = env::args().skip(1).collect();
-    let written: fn(&str) -> String = match words.join(" ").as_str() {
-        "inputs" => str::to_string,
-        "answers" => answer,
-        _ => {
-            eprintln!("usage: record inputs, or record answers");
-            return ExitCode::from(2);
-        }
-    };
-    for line in inputs() {
-        println!("{}", written(&line));
-    }
-    ExitCode::SUCCESS
+/// The answer to `utf8`: how many characters a text has.
+pub fn utf8(text: &[u8]) -> String {
+    Text::new(text).validate().to_string()
 }

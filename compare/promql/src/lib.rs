@@ -1,0 +1,47 @@
+//! The Rust of promql-parser, built unchanged from the documents' folder, and the functions of it that are compared.
+
+/// The Rust's `src/parser`. What is allowed is due to its text, of which we use a part, and to the number 39, which bounds
+/// two classes. A kind that `token_map` lacks would be a variable.
+#[allow(dead_code, unexpected_cfgs, unreachable_patterns)]
+#[deny(unused_variables)]
+mod parser {
+    include!(concat!(env!("OUT_DIR"), "/parser/mod.rs"));
+}
+
+use parser::lex;
+use parser::token::{self, TokenType};
+
+/// The kind of a word of the table.
+pub fn keyword(word: &str) -> Option<u16> {
+    token::get_keyword_token(word)
+}
+
+/// The display text of a kind.
+pub fn display(kind: u16) -> &'static str {
+    token::token_display(kind)
+}
+
+/// Whether a kind is an operator, a comparison, a set operator, an aggregator, an aggregator with a parameter.
+pub fn classes(kind: u16) -> [bool; 5] {
+    let kind = TokenType::new(kind);
+    [
+        kind.is_operator(),
+        kind.is_comparison_operator(),
+        kind.is_set_operator(),
+        kind.is_aggregator(),
+        kind.is_aggregator_with_param(),
+    ]
+}
+
+/// Whether a text is a label.
+pub fn is_label(text: &str) -> bool {
+    lex::is_label(text)
+}
+
+/// The kind, start and length of each lexeme of a query.
+pub fn lexemes(query: &str) -> Result<Vec<(u16, usize, usize)>, String> {
+    let lexemes = lex::lexer(query)?.lexemes();
+    Ok(lexemes
+        .map(|lexeme| (lexeme.kind, lexeme.start, lexeme.len))
+        .collect())
+}

@@ -1,0 +1,56 @@
+//! Writes the replay program's recorded inputs, `record inputs`, and the Rust's answers to them, `record answers`.
+//! A record is `OP HEX` or `OP HEX ROOM`. Both lists are the same in every run.
+
+mod token;
+mod utf8;
+
+use compare::texts::from_hex;
+use std::env;
+use std::process::ExitCode;
+use std::str;
+
+/// The answer to a line.
+fn answer(line: &str) -> String {
+    let answer = record(line).and_then(|(operation, input, room)| match operation {
+        "utf8" => Some(utf8::utf8(&input)),
+        "keyword" => Some(token::keyword(&input)),
+        "display" => Some(token::display(decimal(&input)?.try_into().ok()?, room)),
+        "label" => Some(token::label(&input)),
+        _ => None,
+    });
+    answer.unwrap_or_else(|| "bad record".to_string())
+}
+
+/// The operation, the bytes and the room of a record; none where the line is no record. The room is the greatest where the
+/// record names none.
+fn record(line: &str) -> Option<(&str, Vec<u8>, u64)> {
+    let fields: Vec<&str> = line.split(' ').collect();
+    match fields[..] {
+        [operation, hex] => Some((operation, from_hex(hex)?, u64::MAX)),
+        [operation, hex, room] => Some((operation, from_hex(hex)?, decimal(room.as_bytes())?)),
+        _ => None,
+    }
+}
+
+/// The value of decimal digits, where a `u64` holds it.
+fn decimal(text: &[u8]) -> Option<u64> {
+    let digits = str::from_utf8(text).ok()?;
+    let number = digits.parse().ok()?;
+    text.iter().all(u8::is_ascii_digit).then_some(number)
+}
+
+fn main() -> ExitCode {
+    let words: Vec<String> = env::args().skip(1).collect();
+    let written: fn(&str) -> String = match words.join(" ").as_str() {
+        "inputs" => str::to_string,
+        "answers" => answer,
+        _ => {
+            eprintln!("usage: record inputs, or record answers");
+            return ExitCode::from(2);
+        }
+    };
+    for line in utf8::inputs().into_iter().chain(token::inputs()) {
+        println!("{}", written(&line));
+    }
+    ExitCode::SUCCESS
+}
