@@ -4,5 +4,6 @@ pub mod DisplayRows
 pub mod Search
 pub mod Lookup
 pub mod Distinct
+pub mod Shown
 pub mod Labels
 pub mod Unique

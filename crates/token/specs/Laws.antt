@@ -1,4 +1,4 @@
--- What the crates above may know of words, as statements; `proofs/Lookup` and `proofs/Distinct` have their proofs.
+-- What the crates above may know of words, as statements; `proofs/Lookup`, `proofs/Distinct` and `proofs/Shown` have their proofs.
 use Prim.Native.Nat.{ℕ, _<_}
 use mathlib.Core.Bool.{true}
 use mathlib.Core.List.{List}
@@ -6,6 +6,7 @@ use mathlib.Core.Path.{_≡_}
 use lib.ListN.{getD}
 use Rattle.scan.specs.Text.{sameText}
 use Rattle.token.specs.declared.Keyword.the-variants.{Kind, Nothing}
+use Rattle.token.specs.Display.{displayOf}
 use Rattle.token.specs.Words.{Entry, word, words, kindIn, keywordOf}
 use Rattle.token.specs.WordRows.{count, wordTable, keywordIn}
 
@@ -28,3 +29,10 @@ EntryFound = (w : List ℕ) (i : ℕ) → i < count → sameText w (entryAt i .t
 -- a word that is no entry's text has none
 abbrev pub NoneFound : Type 0
 NoneFound = (w : List ℕ) → ((i : ℕ) → i < count → sameText w (entryAt i .text) ≡ true → ⊥) → kindIn words w ≡ Nothing
+
+-- a word is shown as itself, but for inf and nan, which are NUMBER
+abbrev pub number : ℕ
+number = 4
+
+abbrev pub WordShown : Type 0
+WordShown = (i : ℕ) → i < count → (entryAt i .kind ≡ number → ⊥) → displayOf (entryAt i .kind) ≡ entryAt i .text
