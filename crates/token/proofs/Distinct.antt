@@ -14,7 +14,7 @@ use Rattle.scan.proofs.Below.{allBelow, below}
 use Rattle.scan.proofs.Same.{same-is-equal}
 use Rattle.token.specs.declared.Keyword.the-variants.{Kind, Nothing}
 use Rattle.token.specs.Words.{Entry, word, words, kindIn}
-use Rattle.token.specs.WordRows.{count}
+use Rattle.token.specs.WordRows.{wordCount}
 use Rattle.token.proofs.Lookup.{counted}
 use Rattle.token.specs.Laws.{entryAt, OneEntry, EntryFound, NoneFound}
 
@@ -22,9 +22,9 @@ use Rattle.token.specs.Laws.{entryAt, OneEntry, EntryFound, NoneFound}
 abbrev apart : ℕ → ℕ → Bool
 apart i j = eqb i j || not (sameText (entryAt i .text) (entryAt j .text))
 
-all-apart : (i j : ℕ) → i < count → j < count → apart i j ≡ true
+all-apart : (i j : ℕ) → i < wordCount → j < wordCount → apart i j ≡ true
 unfolding words sameText
-all-apart i j h k = below (apart i) count (below (λ i. allBelow (apart i) count) count refl i h) j k
+all-apart i j h k = below (apart i) wordCount (below (λ i. allBelow (apart i) wordCount) wordCount refl i h) j k
 
 pub one-entry : OneEntry
 one-entry w i j h k p q = go (eqb i j) refl (all-apart i j h k)

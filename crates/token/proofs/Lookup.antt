@@ -23,20 +23,20 @@ use Rattle.token.specs.Padded.{padded}
 use Rattle.token.proofs.Padding.{padded-length, padded-take}
 use Rattle.token.specs.Words.{Entry, words, lowered, kindIn, keywordOf}
 use Rattle.token.specs.Laws.{TableFinds}
-use Rattle.token.specs.WordRows.{count, widest, row, rowOf, tableOf, wordTable, isRow, foundIn, keywordIn}
+use Rattle.token.specs.WordRows.{wordCount, widestWord, wordRow, rowOf, tableOf, wordTable, isRow, foundIn, keywordIn}
 
-module _ (e : Entry) (h : length (e .text) ≤ widest) where
-  text-length : length (padded widest (e .text)) ≡ widest
-  text-length = padded-length widest (e .text) h
+module _ (e : Entry) (h : length (e .text) ≤ widestWord) where
+  text-length : length (padded widestWord (e .text)) ≡ widestWord
+  text-length = padded-length widestWord (e .text) h
 
-  row-length : length (rowOf e) ≡ row
-  row-length = length-append (padded widest (e .text)) (length (e .text) ∷ e .kind ∷ []) ∙ omega (arith, text-length)
+  row-length : length (rowOf e) ≡ wordRow
+  row-length = length-append (padded widestWord (e .text)) (length (e .text) ∷ e .kind ∷ []) ∙ omega (arith, text-length)
 
-  kind-at : (rest : List ℕ) → getD (rowOf e ++ rest) (suc widest) 0 ≡ e .kind
+  kind-at : (rest : List ℕ) → getD (rowOf e ++ rest) (suc widestWord) 0 ≡ e .kind
   kind-at rest =
-      let p = padded widest (e .text) in
-      let k : suc widest ≡ length p + 1 = omega (arith, text-length) in
-      List·getD-append (rowOf e) rest 0 (suc widest) (omega (arith, row-length))
+      let p = padded widestWord (e .text) in
+      let k : suc widestWord ≡ length p + 1 = omega (arith, text-length) in
+      List·getD-append (rowOf e) rest 0 (suc widestWord) (omega (arith, row-length))
       ∙ ap (λ (n : ℕ). getD (rowOf e) n 0) k
       ∙ getD-append-add p (length (e .text) ∷ e .kind ∷ []) 1 0
 
@@ -44,11 +44,11 @@ module _ (e : Entry) (h : length (e .text) ≤ widest) where
   row-is : (w : List ℕ) → isRow (rowOf e) w ≡ sameText w (e .text)
   unfolding isRow
   row-is w =
-      rw (getD-at (padded widest (e .text)) (length (e .text)) (e .kind ∷ []) 0 widest text-length) (go (ℕ-discrete (length (e .text)) (length w)))
+      rw (getD-at (padded widestWord (e .text)) (length (e .text)) (e .kind ∷ []) 0 widestWord text-length) (go (ℕ-discrete (length (e .text)) (length w)))
     where
       go : Dec (length (e .text) ≡ length w) → eqb (length (e .text)) (length w) && sameText w (take (length w) (rowOf e)) ≡ sameText w (e .text)
       go (yes k) =
-          rw (eq-eqb (length (e .text)) (length w) k, ← k, take-append-le (length (e .text)) (padded widest (e .text)) (length (e .text) ∷ e .kind ∷ []) (omega (arith, text-length)), padded-take widest (e .text))
+          rw (eq-eqb (length (e .text)) (length w) k, ← k, take-append-le (length (e .text)) (padded widestWord (e .text)) (length (e .text) ∷ e .kind ∷ []) (omega (arith, text-length)), padded-take widestWord (e .text))
       go (no k) = rw (ne-eqb (length (e .text)) (length w) k, same-not w (e .text) (λ z. k (sym z)))
 
 -- a test of every entry
@@ -57,29 +57,29 @@ allEntries p [] = true
 allEntries p (e ∷ es) = p e && allEntries p es
 
 abbrev isShort : Entry → Bool
-isShort e = leb (length (e .text)) widest
+isShort e = leb (length (e .text)) widestWord
 
 found-is : (es : List Entry) (w : List ℕ) → allEntries isShort es ≡ true → foundIn (length es) (tableOf es) w ≡ kindIn es w
 unfolding foundIn tableOf kindIn
 found-is [] w h = refl
 found-is (e ∷ es) w h =
-    let s = leb-true (length (e .text)) widest (and-left (isShort e) (allEntries isShort es) h) in
+    let s = leb-true (length (e .text)) widestWord (and-left (isShort e) (allEntries isShort es) h) in
     let l = row-length e s in
     rw (
-      le-ltb (length (rowOf e ++ tableOf es)) row (omega (arith, l, length-append (rowOf e) (tableOf es))),
-      take-at (rowOf e) (tableOf es) row l,
-      drop-at (rowOf e) (tableOf es) row l,
+      le-ltb (length (rowOf e ++ tableOf es)) wordRow (omega (arith, l, length-append (rowOf e) (tableOf es))),
+      take-at (rowOf e) (tableOf es) wordRow l,
+      drop-at (rowOf e) (tableOf es) wordRow l,
       row-is e s w,
       found-is es w (and-right (isShort e) (allEntries isShort es) h),
     )
     (ap (λ (k : ℕ). cond (sameText w (e .text)) (Kind k) (kindIn es w)) (kind-at e s (tableOf es)))
 
 -- a word longer than any is none
-long-none : (es : List Entry) (w : List ℕ) → allEntries isShort es ≡ true → widest < length w → kindIn es w ≡ Nothing
+long-none : (es : List Entry) (w : List ℕ) → allEntries isShort es ≡ true → widestWord < length w → kindIn es w ≡ Nothing
 unfolding kindIn
 long-none [] w h l = refl
 long-none (e ∷ es) w h l =
-    let s = leb-true (length (e .text)) widest (and-left (isShort e) (allEntries isShort es) h) in
+    let s = leb-true (length (e .text)) widestWord (and-left (isShort e) (allEntries isShort es) h) in
     rw (same-not w (e .text) (λ z. omega arith)) (long-none es w (and-right (isShort e) (allEntries isShort es) h) l)
 
 -- a word with a byte that is not ASCII is none, since lowering leaves that byte as it is
@@ -117,7 +117,7 @@ plain : allEntries isPlain words ≡ true
 unfolding words
 plain = refl
 
-pub counted : length words ≡ count
+pub counted : length words ≡ wordCount
 unfolding words
 counted = refl
 
@@ -125,10 +125,10 @@ pub table-finds : TableFinds
 unfolding keywordIn keywordOf wordTable
 table-finds xs = searched ∙ by-bytes Keyword Nothing (λ ys. kindIn words (map lowered ys)) (λ ys. other-none words ys plain) xs
   where
-    searched : cond (ltb widest (length xs)) Nothing (foundIn count (tableOf words) (map lowered xs)) ≡ kindIn words (map lowered xs)
+    searched : cond (ltb widestWord (length xs)) Nothing (foundIn wordCount (tableOf words) (map lowered xs)) ≡ kindIn words (map lowered xs)
     searched =
-        either (λ k. k ≡ kindIn words (map lowered xs)) (ltb widest (length xs))
-        (λ e. sym (long-none words (map lowered xs) short (omega (arith, ltb-true widest (length xs) e, length-map xs lowered))))
+        either (λ k. k ≡ kindIn words (map lowered xs)) (ltb widestWord (length xs))
+        (λ e. sym (long-none words (map lowered xs) short (omega (arith, ltb-true widestWord (length xs) e, length-map xs lowered))))
         (λ e. rw (← counted) (found-is words (map lowered xs) short))
 
 -- the front of a list into which a text was written

@@ -9,22 +9,22 @@ use lib.Seq.{drop-drop, getD-drop}
 use borrow.Author.Tests.{lt-ltb, le-ltb}
 use Rattle.token.specs.declared.Keyword.{Keyword}
 use Rattle.token.specs.declared.Keyword.the-variants.{Kind, Nothing}
-use Rattle.token.specs.WordRows.{count, widest, row, isRow, foundIn}
+use Rattle.token.specs.WordRows.{wordCount, widestWord, wordRow, isRow, foundIn}
 
-module _ (t w : List ℕ) (i : ℕ) (h : i < count) where
+module _ (t w : List ℕ) (i : ℕ) (h : i < wordCount) where
   -- the rows from i on
   abbrev pub from : ℕ → Keyword
-  from k = foundIn (count - k) (drop (k * row) t) w
+  from k = foundIn (wordCount - k) (drop (k * wordRow) t) w
 
-  more : count - i ≡ suc (count - (i + 1))
+  more : wordCount - i ≡ suc (wordCount - (i + 1))
   more = omega arith
 
-  pub row-missing : length t < i * row + row → from i ≡ Nothing
+  pub row-missing : length t < i * wordRow + wordRow → from i ≡ Nothing
   unfolding foundIn
-  row-missing l = rw (more, lt-ltb (length (drop (i * row) t)) row (omega (arith, length-drop (i * row) t)))
+  row-missing l = rw (more, lt-ltb (length (drop (i * wordRow) t)) wordRow (omega (arith, length-drop (i * wordRow) t)))
 
-  pub row-tried : i * row + row ≤ length t → from i ≡ cond (isRow (take row (drop (i * row) t)) w) (Kind (getD t (i * row + suc widest) 0)) (from (i + 1))
+  pub row-tried : i * wordRow + wordRow ≤ length t → from i ≡ cond (isRow (take wordRow (drop (i * wordRow) t)) w) (Kind (getD t (i * wordRow + suc widestWord) 0)) (from (i + 1))
   unfolding foundIn
   row-tried l =
-      let e : i * row + row ≡ (i + 1) * row = omega arith in
-      rw (more, le-ltb (length (drop (i * row) t)) row (omega (arith, length-drop (i * row) t)), drop-drop, getD-drop, e)
+      let e : i * wordRow + wordRow ≡ (i + 1) * wordRow = omega arith in
+      rw (more, le-ltb (length (drop (i * wordRow) t)) wordRow (omega (arith, length-drop (i * wordRow) t)), drop-drop, getD-drop, e)

@@ -9,15 +9,15 @@ use Rattle.scan.proofs.Below.{below}
 use Rattle.scan.proofs.Same.{same-is-equal}
 use Rattle.token.specs.Display.{displays, textIn, displayOf}
 use Rattle.token.specs.Words.{words}
-use Rattle.token.specs.WordRows.{count}
+use Rattle.token.specs.WordRows.{wordCount}
 use Rattle.token.specs.Laws.{entryAt, number, WordShown}
 
 abbrev isShown : ℕ → Bool
 isShown i = eqb (entryAt i .kind) number || sameText (displayOf (entryAt i .kind)) (entryAt i .text)
 
-all-shown : (i : ℕ) → i < count → isShown i ≡ true
+all-shown : (i : ℕ) → i < wordCount → isShown i ≡ true
 unfolding words displays textIn sameText
-all-shown i h = below isShown count refl i h
+all-shown i h = below isShown wordCount refl i h
 
 pub word-shown : WordShown
 word-shown i h n = go (eqb (entryAt i .kind) number) refl (all-shown i h)

@@ -12,17 +12,17 @@ use Rattle.token.specs.Padded.{padded}
 use Rattle.token.specs.Words.{Entry, words, lowered}
 
 -- how many words there are, the bytes of the longest, and those of a row
-abbrev pub count : ℕ
-count = 35
+abbrev pub wordCount : ℕ
+wordCount = 35
 
-abbrev pub widest : ℕ
-widest = 12
+abbrev pub widestWord : ℕ
+widestWord = 12
 
-abbrev pub row : ℕ
-row = 14
+abbrev pub wordRow : ℕ
+wordRow = 14
 
 abbrev pub rowOf : Entry → List ℕ
-rowOf e = padded widest (e .text) ++ (length (e .text) ∷ e .kind ∷ [])
+rowOf e = padded widestWord (e .text) ++ (length (e .text) ∷ e .kind ∷ [])
 
 unfoldable pub tableOf : List Entry → List ℕ
 tableOf [] = []
@@ -33,14 +33,14 @@ wordTable = tableOf words
 
 -- whether a row holds a word
 unfoldable pub isRow : List ℕ → List ℕ → Bool
-isRow r w = eqb (getD r widest 0) (length w) && sameText w (take (length w) r)
+isRow r w = eqb (getD r widestWord 0) (length w) && sameText w (take (length w) r)
 
 -- the kind of the first of k rows that holds a word, so far as the table has them
 unfoldable pub foundIn : ℕ → List ℕ → List ℕ → Keyword
 foundIn zero t w = Nothing
 foundIn (suc k) t w =
-    cond (ltb (length t) row) Nothing (cond (isRow (take row t) w) (Kind (getD t (suc widest) 0)) (foundIn k (drop row t) w))
+    cond (ltb (length t) wordRow) Nothing (cond (isRow (take wordRow t) w) (Kind (getD t (suc widestWord) 0)) (foundIn k (drop wordRow t) w))
 
 -- the search of a table for a word, letters lowered
 unfoldable pub keywordIn : List ℕ → List ℕ → Keyword
-keywordIn t xs = cond (ltb widest (length xs)) Nothing (foundIn count t (map lowered xs))
+keywordIn t xs = cond (ltb widestWord (length xs)) Nothing (foundIn wordCount t (map lowered xs))

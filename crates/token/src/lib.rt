@@ -13,7 +13,7 @@ ghost use Rattle.token.specs.Classes.{isOperator, isComparisonOperator, 
 ghost use Rattle.token.specs.Display.{displayOf, fitted, displayed, leftBy};
 ghost use Rattle.token.specs.DisplayRows.{pastKinds, table};
 ghost use Rattle.token.specs.Words.{lowered, keywordOf};
-ghost use Rattle.token.specs.WordRows.{wordTable, isRow, foundIn, keywordIn};
+ghost use Rattle.token.specs.WordRows.{wordCount, widestWord, wordRow, wordTable, isRow, foundIn, keywordIn};
 ghost use Rattle.token.specs.Label.{isLabel};
 
 // How many bytes of a display text were written, or that it has no room.
@@ -24,14 +24,14 @@ pub enum Display {
 
 const PAST_KINDS: usize = kinds::T_END as usize + 1;
 
-const ROW_SIZE: usize = 14;
+const DISPLAY_ROW: usize = 14;
 
-const LENGTH_AT: usize = ROW_SIZE - 1;
+const LENGTH_AT: usize = DISPLAY_ROW - 1;
 
-const TABLE_SIZE: usize = (PAST_KINDS + 1) * ROW_SIZE;
+const DISPLAY_TABLE: usize = (PAST_KINDS + 1) * DISPLAY_ROW;
 
 // A row for each number through the last kind and one for all above: the text, padded, and its length.
-const DISPLAYS: [u8; TABLE_SIZE] = *b"\
+const DISPLAYS: [u8; DISPLAY_TABLE] = *b"\
     <eof>        \x05\
     {ID}         \x04\
     {Metric_ID}  \x0b\
@@ -184,7 +184,7 @@ fn row_of(kind: u16) -> usize
 }
 
 // The rows of all numbers through PAST_KINDS.
-fn display_table() -> [u8; TABLE_SIZE]
+fn display_table() -> [u8; DISPLAY_TABLE]
     ensures { λ r. ⌜ r ≡ table ⌝ }
 {
     DISPLAYS
@@ -196,20 +196,22 @@ pub fn token_display(kind: u16, out: &mut [u8]) -> Display
     ensures { λ r. ⌜ now (out .exit) ≡ leftBy r (displayOf kind) (now (out .entry)) ⌝ }
 {
     let table = display_table();
-    let from = row_of(kind) * ROW_SIZE;
+    let from = row_of(kind) * DISPLAY_ROW;
     let to = from + table[from + LENGTH_AT] as usize;
     put(&table[from..to], out)
 }
 
-// How many words have a kind, the bytes of the longest, and those of a row of the table.
-const COUNT: usize = 35;
+// How many words have a kind, the bytes of the longest, and those of a row of their table.
+const WORD_COUNT: usize = 35;
 
-const WIDEST: usize = 12;
+const WIDEST_WORD: usize = 12;
 
-const ROW: usize = 14;
+const WORD_ROW: usize = WIDEST_WORD + 2;
 
-// The words in the order of the Rust's KEYWORDS: each padded to WIDEST bytes, then its length and its kind.
-const WORDS: [u8; 490] = *b"\
+const WORD_TABLE: usize = WORD_COUNT * WORD_ROW;
+
+// The words in the order of the Rust's KEYWORDS: each padded to WIDEST_WORD bytes, then its length and its kind.
+const WORDS: [u8; WORD_TABLE] = *b"\
     and         \x03\x23\
     or          \x02\x24\
     unless      \x06\x25\
@@ -253,7 +255,7 @@ pub enum Keyword {
 }
 
 // The table of words, to be lent to `keyword_in` for as many words as there are.
-pub fn words() -> [u8; 490]
+pub fn words() -> [u8; WORD_TABLE]
     ensures { λ r. ⌜ r ≡ wordTable ⌝ }
 {
     WORDS
@@ -271,8 +273,8 @@ fn lower(c: u8) -> u8
 }
 
 // Writes a word in lower case to the front of a buffer that it fits.
-fn lower_into(word: &[u8], buf: &mut [u8; 12])
-    requires { ⌜ length (now word) ≤ 12 ⌝ }
+fn lower_into(word: &[u8], buf: &mut [u8; WIDEST_WORD])
+    requires { ⌜ length (now word) ≤ widestWord ⌝ }
     ensures { λ _. ⌜ now (buf .exit) ≡ sets (now (buf .entry)) 0 (map lowered (now (word .entry))) ⌝ }
 {
     let mut i = 0;
@@ -284,28 +286,28 @@ fn lower_into(word: &[u8], buf: &mut [u8; 12])
 
 // Whether a row of the table holds a word.
 fn is_row(row: &[u8], word: &[u8]) -> bool
-    requires { ⌜ (length (now row) ≡ 14) × (length (now word) ≤ 12) ⌝ }
+    requires { ⌜ (length (now row) ≡ wordRow) × (length (now word) ≤ widestWord) ⌝ }
     ensures { λ r. ⌜ r ≡ isRow (now (row .entry)) (now (word .entry)) ⌝ }
 {
     let n = word.len();
-    row[WIDEST] as usize == n && scan::is_text(word, &row[..n])
+    row[WIDEST_WORD] as usize == n && scan::is_text(word, &row[..n])
 }
 
 // The kind of the first row of a table that holds a word.
 fn find(table: &[u8], word: &[u8]) -> Keyword
-    requires { ⌜ length (now word) ≤ 12 ⌝ }
-    ensures { λ r. ⌜ r ≡ foundIn 35 (now (table .entry)) (now (word .entry)) ⌝ }
+    requires { ⌜ length (now word) ≤ widestWord ⌝ }
+    ensures { λ r. ⌜ r ≡ foundIn wordCount (now (table .entry)) (now (word .entry)) ⌝ }
 {
     let mut i = 0;
-    while i < COUNT {
-        let at = i * ROW;
-        let end = at + ROW;
+    while i < WORD_COUNT {
+        let at = i * WORD_ROW;
+        let end = at + WORD_ROW;
         if table.len() < end {
             break;
         }
         let row = &table[at..end];
         if is_row(row, word) {
-            return Keyword::Kind(row[WIDEST + 1] as u16);
+            return Keyword::Kind(row[WIDEST_WORD + 1] as u16);
         }
         i += 1;
     }
@@ -317,10 +319,10 @@ pub fn keyword_in(table: &[u8], word: &[u8]) -> Keyword
     ensures { λ r. ⌜ r ≡ keywordIn (now (table .entry)) (now (word .entry)) ⌝ }
 {
     let n = word.len();
-    if WIDEST < n {
+    if WIDEST_WORD < n {
         return Keyword::Nothing;
     }
-    let mut buf = [0u8; WIDEST];
+    let mut buf = [0u8; WIDEST_WORD];
     lower_into(word, &mut buf);
     find(table, &buf[..n])
 }

@@ -9,16 +9,16 @@ use denote.Ref.{now}
 use lib.ListN.{length, getD, take, drop, length-drop}
 use lib.Seq.{length-take-le, getD-take, getD-drop}
 use Rattle.token.specs.declared.Keyword.the-variants.{Kind}
-use Rattle.token.specs.WordRows.{count, widest, row, isRow, foundIn}
+use Rattle.token.specs.WordRows.{wordCount, widestWord, wordRow, isRow, foundIn}
 use Rattle.token.proofs.Search.{from, row-missing, row-tried}
 use Rattle.token.proofs.find.Statement.{statement}
 use Rattle.token.proofs.find.Tie as tie
 
 abbrev Inv-loop : tie.InvT-loop
-Inv-loop table word i₀ i = (i ≤ count) × (foundIn count table word ≡ foundIn (count - i) (drop (i * row) table) word)
+Inv-loop table word i₀ i = (i ≤ wordCount) × (foundIn wordCount table word ≡ foundIn (wordCount - i) (drop (i * wordRow) table) word)
 
 abbrev μ-loop : tie.MeasureT-loop
-μ-loop table word i₀ i = count - i
+μ-loop table word i₀ i = wordCount - i
 
 loop-holds : tie.Need-loop-holds Inv-loop μ-loop
 loop-holds c = (search needs, refl)
@@ -50,23 +50,23 @@ module _ (c : tie.After-row Inv-loop μ-loop) where
   place = c .before .before .before .loop .i
 
   abbrev part : List ℕ
-  part = take (place * row + row - place * row) (drop (place * row) table)
+  part = take (place * wordRow + wordRow - place * wordRow) (drop (place * wordRow) table)
 
-  part-is : part ≡ take row (drop (place * row) table)
-  part-is = let e : place * row + row - place * row ≡ row = omega arith in rw e
+  part-is : part ≡ take wordRow (drop (place * wordRow) table)
+  part-is = let e : place * wordRow + wordRow - place * wordRow ≡ wordRow = omega arith in rw e
 
-  part-length : length part ≡ row
-  part-length = ap length part-is ∙ length-take-le row (drop (place * row) table) (omega (arith, length-drop (place * row) table))
+  part-length : length part ≡ wordRow
+  part-length = ap length part-is ∙ length-take-le wordRow (drop (place * wordRow) table) (omega (arith, length-drop (place * wordRow) table))
 
   -- what the rows from here on give
-  turn : foundIn count table word ≡ cond (isRow part word) (Kind (getD table (place * row + suc widest) 0)) (from table word place (omega arith) (place + 1))
+  turn : foundIn wordCount table word ≡ cond (isRow part word) (Kind (getD table (place * wordRow + suc widestWord) 0)) (from table word place (omega arith) (place + 1))
   turn =
       c .before .before .before .loop .inv .1
       ∙ row-tried table word place (omega arith) (omega arith)
-      ∙ ap (λ (r : List ℕ). cond (isRow r word) (Kind (getD table (place * row + suc widest) 0)) (from table word place (omega arith) (place + 1))) (sym part-is)
+      ∙ ap (λ (r : List ℕ). cond (isRow r word) (Kind (getD table (place * wordRow + suc widestWord) 0)) (from table word place (omega arith) (place + 1))) (sym part-is)
 
-  kind-is : getD part (suc widest) 0 ≡ getD table (place * row + suc widest) 0
-  kind-is = ap (λ (r : List ℕ). getD r (suc widest) 0) part-is ∙ getD-take row (drop (place * row) table) (suc widest) 0 (omega arith) ∙ getD-drop (place * row) table (suc widest) 0
+  kind-is : getD part (suc widestWord) 0 ≡ getD table (place * wordRow + suc widestWord) 0
+  kind-is = ap (λ (r : List ℕ). getD r (suc widestWord) 0) part-is ∙ getD-take wordRow (drop (place * wordRow) table) (suc widestWord) 0 (omega arith) ∙ getD-drop (place * wordRow) table (suc widestWord) 0
 
 is-row-requires : tie.Need-is-row-requires Inv-loop μ-loop
 is-row-requires c κs = (part-length c, search needs)
@@ -78,7 +78,7 @@ shared-slice-read-t14 : tie.Need-shared-slice-read-t14 Inv-loop μ-loop
 shared-slice-read-t14 c = omega (arith, part-length (c .before .before .before))
 
 cast-t15 : tie.Need-cast-t15 Inv-loop μ-loop
-cast-t15 c = omega (arith, c .shared-slice-known3 .given (suc widest))
+cast-t15 c = omega (arith, c .shared-slice-known3 .given (suc widestWord))
 
 returns : tie.Need-returns Inv-loop μ-loop
 returns c = let d = c .before .before .before in sym (turn d ∙ rw (← c .before .before .is-row .ensures, c .before .if2 .taken, kind-is d))
@@ -94,7 +94,7 @@ loop-again c = (omega arith, turn (c .before .before) ∙ rw (← c .before .is-
 
 returns-2 : tie.Need-returns-2 Inv-loop μ-loop
 returns-2 c =
-    let e : c .before .loop .i ≡ count = omega arith in
+    let e : c .before .loop .i ≡ wordCount = omega arith in
     sym (c .before .loop .inv .1 ∙ rw e (unfold foundIn in refl))
 
 returns-3 : tie.Need-returns-3 Inv-loop μ-loop

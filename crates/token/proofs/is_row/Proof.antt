@@ -6,7 +6,7 @@ use borrow.Author.Tests.{eq-eqb, ne-eqb}
 use denote.Ref.{now}
 use lib.ListN.{length}
 use lib.Seq.{length-take-le}
-use Rattle.token.specs.WordRows.{widest, isRow}
+use Rattle.token.specs.WordRows.{widestWord, isRow}
 use Rattle.token.proofs.is_row.Statement.{statement}
 use Rattle.token.proofs.is_row.Tie as tie
 
@@ -14,7 +14,7 @@ shared-slice-read-if1 : tie.Need-shared-slice-read-if1
 shared-slice-read-if1 c = search needs
 
 cast-if1 : tie.Need-cast-if1
-cast-if1 c = omega (arith, c .shared-slice-known3 .given widest)
+cast-if1 c = omega (arith, c .shared-slice-known3 .given widestWord)
 
 slice-aggregate-is-text : tie.Need-slice-aggregate-is-text
 slice-aggregate-is-text c =

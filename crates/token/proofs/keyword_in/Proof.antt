@@ -9,7 +9,7 @@ use denote.Ref.{now}
 use lib.ListN.{length, take, replicate, length-map}
 use lib.Seq.{sets, length-sets, length-take-le}
 use Rattle.token.specs.Words.{lowered}
-use Rattle.token.specs.WordRows.{widest, keywordIn}
+use Rattle.token.specs.WordRows.{widestWord, keywordIn}
 use Rattle.token.proofs.Lookup.{written-front}
 use Rattle.token.proofs.keyword_in.Statement.{statement}
 use Rattle.token.proofs.keyword_in.Tie as tie
@@ -28,16 +28,16 @@ module _ (c : tie.After-lower-into) where
   abbrev buffer : List ℕ
   buffer = c .lower-into .last .1 .0
 
-  buffer-is : buffer ≡ sets (replicate widest 0) 0 (map lowered word)
+  buffer-is : buffer ≡ sets (replicate widestWord 0) 0 (map lowered word)
   buffer-is = c .lower-into .ensures
 
-  buffer-length : length buffer ≡ widest
-  buffer-length = ap length buffer-is ∙ length-sets (replicate widest 0) 0 (map lowered word)
+  buffer-length : length buffer ≡ widestWord
+  buffer-length = ap length buffer-is ∙ length-sets (replicate widestWord 0) 0 (map lowered word)
 
   front : take (length word) buffer ≡ map lowered word
   front =
       let e : length word ≡ length (map lowered word) = sym (length-map word lowered) in
-      rw (e, buffer-is) (written-front (replicate widest 0) (map lowered word) (omega (arith, e)))
+      rw (e, buffer-is) (written-front (replicate widestWord 0) (map lowered word) (omega (arith, e)))
 
 array-share-prefix-buf : tie.Need-array-share-prefix-buf
 array-share-prefix-buf c = omega (arith, buffer-length c)
@@ -56,7 +56,7 @@ returns-2 : tie.Need-returns-2
 unfolding keywordIn
 returns-2 c =
     let d = c .before .before in
-    rw (le-ltb widest (length (word d)) (c .before .before .before .before .if1 .left), ← front d) (c .find .ensures)
+    rw (le-ltb widestWord (length (word d)) (c .before .before .before .before .if1 .left), ← front d) (c .find .ensures)
 
 pub keyword-in-spec : {M : Type 1} → statement M
 keyword-in-spec =
