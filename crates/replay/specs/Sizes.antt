@@ -16,3 +16,11 @@ bufferSize = longestLine + 1 + chunk
 -- no answer is longer
 abbrev pub mostAnswer : ℕ
 mostAnswer = 128
+
+-- no display text is longer
+abbrev pub longestText : ℕ
+longestText = 13
+
+-- a kind is a number of 16 bits
+abbrev pub largestKind : ℕ
+largestKind = 65535

@@ -1,6 +1,6 @@
 -- Each piece stands behind those before it, and there is room for three numbers.
 use Rattle.replay.proofs.Says.{past-text, says-text, says-on}
-use Rattle.replay.specs.Answer.{numbered, refusal}
+use Rattle.replay.specs.Lines.{numbered, refusal}
 use Rattle.scan.specs.Ascii.{ascii}
 use native.Mathlib.Omega.{arith}
 use borrow.Author.Needs.{needs}

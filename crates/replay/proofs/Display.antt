@@ -1,0 +1,36 @@
+-- Laws of `display`: no text needs more bytes than the longest (token's `short`), what is shown stands at the front of the lent bytes,
+-- and its hex is short.
+use Prim.Native.Nat.{ℕ, _+_, _*_, _≤_}
+use native.Mathlib.Omega.{arith}
+use mathlib.Core.Bool.{Bool, true, false, cond}
+use mathlib.Core.Path.{_≡_, refl}
+use mathlib.Core.List.{List, [], _∷_}
+use lib.Dec.{leb}
+use lib.ListN.{length, take}
+use lib.Seq.{take-at}
+use borrow.Author.Tests.{le-leb, leb-true}
+use Rattle.record.specs.Hex.{hexText}
+use Rattle.record.proofs.Hex.{hexed-length}
+use Rattle.token.specs.declared.Display.the-variants.{Length, NoRoom}
+use Rattle.token.specs.Display.{displayOf, fitted, displayed, leftBy}
+use Rattle.token.proofs.Displays.{short}
+use Rattle.replay.specs.Sizes.{longestText}
+
+pub room-enough : (n k : ℕ) → longestText ≤ n → displayed n k ≡ Length (length (displayOf k))
+unfolding fitted
+room-enough n k h = rw (le-leb (length (displayOf k)) n (omega (arith, short k)))
+
+pub shown-front : (d xs : List ℕ) (n : ℕ) → fitted (length d) xs ≡ Length n → (n ≤ length d) × (take n (leftBy (Length n) xs d) ≡ xs)
+unfolding fitted
+shown-front d xs n = go (leb (length xs) (length d)) refl
+  where
+    go : (l : Bool) → leb (length xs) (length d) ≡ l → cond l (Length (length xs)) NoRoom ≡ Length n → (n ≤ length d) × (take n (leftBy (Length n) xs d) ≡ xs)
+    go true f e =
+        let size : length xs ≡ n = cc in
+        (omega (arith, size, leb-true (length xs) (length d) f), take-at xs _ n size)
+    go false f e = let z : _≡_ {A = ℕ} 0 1 = cc in absurd (omega arith)
+
+pub hex-few : (xs : List ℕ) → length (hexText xs) ≤ length xs * 2 + 1
+unfolding hexText
+hex-few [] = omega arith
+hex-few (x ∷ xs) = omega (arith, hexed-length (x ∷ xs))

@@ -1,0 +1,63 @@
+-- What `display` is answered with: the text that a kind is shown as, in hex, and of which classes the kind is.
+use Prim.Native.Nat.{ℕ, _≤_}
+use Prim.Native.Char.{code}
+use mathlib.Core.Bool.{Bool, cond}
+use mathlib.Core.Path.{_≡_}
+use mathlib.Core.List.{List, [], _∷_, _++_}
+use lib.Dec.{ltb}
+use lib.ListN.{length}
+use Rattle.scan.specs.Ascii.{ascii}
+use Rattle.utf8.specs.Answers.{noRoom}
+use Rattle.record.specs.declared.Decimal.{Decimal}
+use Rattle.record.specs.declared.Decimal.the-variants.{Value, Bad}
+use Rattle.record.specs.declared.Room.{Room}
+use Rattle.record.specs.declared.Room.the-variants.{Given, Enough}
+use Rattle.record.specs.Decimal.{decimalRead}
+use Rattle.record.specs.Hex.{hexText}
+use Rattle.token.specs.declared.Display.{Display}
+use Rattle.token.specs.declared.Display.the-variants.{Length, NoRoom}
+use Rattle.token.specs.Display.{displayOf, displayed}
+use Rattle.token.specs.Classes.{isOperator, isComparisonOperator, isSetOperator, isAggregator, isAggregatorWithParam}
+use Rattle.replay.specs.Sizes.{longestText, largestKind}
+use Rattle.replay.specs.Lines.{badRecord, refusal}
+
+-- the text in the bytes that a record gives, or in as many as it needs
+abbrev pub shownIn : Room → ℕ → Display
+shownIn (Given n) k = displayed n k
+shownIn Enough k = Length (length (displayOf k))
+
+-- so many bytes are as good as those that a record gives, for every kind
+pub record Lends (room : Room) (r : ℕ) : Type 0 where
+  pub few : r ≤ longestText
+  pub same : (k : ℕ) → displayed r k ≡ shownIn room k
+
+unfoldable pub flagOf : Bool → ℕ
+flagOf b = cond b (code "1") (code "0")
+
+-- the end of the line: a digit for each class
+abbrev pub flagsOf : ℕ → List ℕ
+flagsOf k =
+    code " "
+    ∷ flagOf (isOperator k)
+    ∷ flagOf (isComparisonOperator k)
+    ∷ flagOf (isSetOperator k)
+    ∷ flagOf (isAggregator k)
+    ∷ flagOf (isAggregatorWithParam k)
+    ∷ code "\n"
+    ∷ []
+
+-- `ok TEXTHEX FLAGS`
+abbrev pub shownLine : List ℕ → ℕ → List ℕ
+shownLine text k = ascii "ok " ++ hexText text ++ flagsOf k
+
+unfoldable pub kindAnswer : ℕ → Display → List ℕ
+kindAnswer k (Length n) = shownLine (displayOf k) k
+kindAnswer k NoRoom = refusal noRoom
+
+-- by what the decimal digits say
+abbrev pub numberAnswer : Room → Decimal → List ℕ
+numberAnswer room (Value n) = cond (ltb largestKind n) badRecord (kindAnswer n (shownIn room n))
+numberAnswer room Bad = badRecord
+
+unfoldable pub displayAnswer : Room → List ℕ → List ℕ
+displayAnswer room bytes = numberAnswer room (decimalRead bytes)

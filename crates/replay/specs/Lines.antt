@@ -1,0 +1,23 @@
+-- The lines that several ops answer with.
+use Prim.Native.Nat.{ℕ}
+use mathlib.Core.List.{List, _++_}
+use Rattle.scan.specs.Ascii.{ascii}
+use Rattle.utf8.specs.declared.Refusal.{Refusal}
+use Rattle.record.specs.Decimal.{decimalText}
+
+abbrev pub badRecord : List ℕ
+badRecord = ascii "bad record\n"
+
+-- a number, and what follows it
+abbrev pub numbered : ℕ → List ℕ → List ℕ
+numbered n after = decimalText n ++ after
+
+abbrev pub okLine : ℕ → List ℕ
+okLine n = ascii "ok " ++ numbered n (ascii "\n")
+
+unfoldable pub refusal : Refusal → List ℕ
+refusal r =
+    ascii "refused "
+    ++ numbered (r .number) (ascii " ")
+    ++ numbered (r .place .byte .0) (ascii " ")
+    ++ numbered (r .place .character .0) (ascii "\n")
