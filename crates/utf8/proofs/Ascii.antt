@@ -29,7 +29,7 @@ ascii-text (x ∷ xs) h =
     (ascii-head x xs l .0 ∙ ap suc (r .0), rw (ascii-alone x xs l) (ap (λ (t : List ℕ). x ∷ t) (r .1)))
 
 -- a character of one byte is ASCII
-one-ascii : (x : ℕ) (xs : List ℕ) → charLength (x ∷ xs) ≡ 1 → x < 0x80
+pub one-ascii : (x : ℕ) (xs : List ℕ) → charLength (x ∷ xs) ≡ 1 → x < 0x80
 one-ascii x xs e = go (sizeBy x) (size-range x) (sym (char-by x xs) ∙ e)
   where
     go : (n : ℕ) → Range n x → sized n (second x) xs ≡ 1 → x < 0x80

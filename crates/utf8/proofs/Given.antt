@@ -11,7 +11,7 @@ use Rattle.utf8.specs.declared.Admission.{Admission}
 use Rattle.utf8.specs.declared.Admission.the-variants.{Admitted, Refused}
 use Rattle.utf8.specs.Text.{charsOf, prefixEnd, WellFormed}
 use Rattle.utf8.specs.Answers.{count, placeAt, tooLong, notUtf8, validityOf, admitted}
-use Rattle.utf8.specs.Refusals.{TooLong, NotUtf8, GivenExactly}
+use Rattle.utf8.specs.Refusals.{TooLong, NotUtf8, GivenExactly, AdmittedText}
 
 -- the number that an answer has, 0 where it is no refusal
 abbrev numberOf : Admission → ℕ
@@ -47,3 +47,11 @@ pub given-exactly : GivenExactly
 given-exactly limit xs =
     let r = rows limit xs (decLt limit (length xs)) (ℕ-discrete (prefixEnd xs) (length xs)) in
     ((r .0, long limit xs), (r .1, λ h. broken limit xs (h .0) (h .1)), (r .2, λ h. taken limit xs (h .0) (h .1)))
+
+pub admitted-text : AdmittedText
+admitted-text limit xs n a = go (decLt limit (length xs)) (ℕ-discrete (prefixEnd xs) (length xs))
+  where
+    go : Dec (TooLong limit xs) → Dec (WellFormed xs) → WellFormed xs
+    go d (yes w) = w
+    go (yes l) (no w) = told (long limit xs l) a (λ z. omega arith)
+    go (no l) (no w) = told (broken limit xs l w) a (λ z. omega arith)

@@ -4,6 +4,7 @@ use mathlib.Core.List.{List}
 use mathlib.Core.Logic.{_↔_}
 use mathlib.Core.Path.{_≡_}
 use lib.ListN.{length}
+use Rattle.utf8.specs.declared.CharNumber.{CharNumber}
 use Rattle.utf8.specs.declared.Admission.the-variants.{Admitted, Refused}
 use Rattle.utf8.specs.Text.{charsOf, prefixEnd, WellFormed}
 use Rattle.utf8.specs.Answers.{count, placeAt, tooLong, notUtf8, admitted}
@@ -23,3 +24,7 @@ GivenExactly =
     (admitted limit xs ≡ Refused tooLong ↔ TooLong limit xs)
     × (admitted limit xs ≡ Refused (notUtf8 (placeAt xs (prefixEnd xs))) ↔ (¬ (TooLong limit xs)) × NotUtf8 xs)
     × (admitted limit xs ≡ Admitted (count (length (charsOf xs))) ↔ (¬ (TooLong limit xs)) × WellFormed xs)
+
+-- so whatever is admitted is text
+abbrev pub AdmittedText : Type 0
+AdmittedText = (limit : ℕ) (xs : List ℕ) (n : CharNumber) → admitted limit xs ≡ Admitted n → WellFormed xs
