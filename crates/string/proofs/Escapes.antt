@@ -1,0 +1,141 @@
+-- Laws of escaping. A byte is escaped to one or two; text escaped byte by byte is the text escaped by characters, since the five that
+-- have a letter are ASCII, and the bytes of a longer character have none.
+use Prim.Native.Nat.{ℕ, suc, _+_, _<_, _≤_}
+use native.Mathlib.Nat.{add-zero, zero-add, add-suc, suc-add}
+use native.Mathlib.Numerals.{add-one}
+use native.Mathlib.Omega.{arith}
+use native.Mathlib.Decide.{decLt}
+use mathlib.Core.Bool.{Bool, true, false, cond}
+use mathlib.Core.List.{List, [], _∷_, _++_, append-assoc, append-nil}
+use mathlib.Core.Path.{_≡_, refl, sym, ap, _∙_}
+use lib.Dec.{eqb}
+use lib.ListN.{length, getD, set, drop}
+use lib.Seq.{take-length, drop-cons, sets, sets-eq}
+use borrow.Author.Tests.{eq-eqb, ne-eqb, le-leb, lt-leb}
+use Rattle.scan.specs.Byte.{peekAt}
+use Rattle.utf8.specs.Table.{charLength}
+use Rattle.utf8.specs.Code.{codeOf, encoded}
+use Rattle.utf8.specs.Text.{WellFormed}
+use Rattle.utf8.specs.declared.CharNumber.{CharNumber}
+use Rattle.utf8.specs.declared.Refusal.{Refusal}
+use Rattle.utf8.specs.declared.Admission.the-variants as admission
+use Rattle.utf8.specs.Answers.{textLimit, noRoom, admitted}
+use Rattle.utf8.proofs.Chars.{chars-none}
+use Rattle.utf8.proofs.Texts.{One, chars-one, by-characters}
+use Rattle.utf8.proofs.Laws.{none-empty, rest-well, none-ascii, ascii-code, text-join}
+use Rattle.utf8.proofs.Ascii.{one-ascii}
+use Rattle.utf8.proofs.Given.{admitted-text}
+use Rattle.utf8.proofs.Inverse.{decode-encode, long-code}
+use Rattle.string.specs.declared.Escaping.the-variants.{Written, Refused}
+use Rattle.string.specs.Escape.{backslash, noLetter, letterOf, orLetter, escaped, escapingOf, leftBy}
+use Rattle.string.specs.Laws.{EscapeJoin}
+use Rattle.string.specs.Bytes.{escapedByte, escapedBytes}
+
+module _ (b : ℕ) where
+  pub copied : letterOf b ≡ noLetter → escapedByte b ≡ b ∷ []
+  unfolding orLetter
+  copied e = rw (eq-eqb (letterOf b) noLetter e)
+
+  pub lettered : (letterOf b ≡ noLetter → ⊥) → escapedByte b ≡ backslash ∷ letterOf b ∷ []
+  unfolding orLetter
+  lettered n = rw (ne-eqb (letterOf b) noLetter n)
+
+  pub byte-few : length (escapedByte b) ≤ 2
+  unfolding orLetter
+  byte-few = go (eqb (letterOf b) noLetter)
+    where
+      go : (t : Bool) → length (cond t (b ∷ []) (backslash ∷ letterOf b ∷ [])) ≤ 2
+      go true = omega arith
+      go false = omega arith
+
+-- from i on: the byte there, and what follows it
+pub next : (xs : List ℕ) (i : ℕ) → i < length xs → escapedBytes (drop i xs) ≡ escapedByte (getD xs i 0) ++ escapedBytes (drop (i + 1) xs)
+unfolding escapedBytes
+next xs i h = rw (drop-cons xs i 0 h, add-one)
+
+pub none : escapedBytes [] ≡ []
+unfolding escapedBytes
+none = refl
+
+-- what is stored in two parts is stored one after the other
+pub sets-join : (d xs ys : List ℕ) (at : ℕ) → sets d at (xs ++ ys) ≡ sets (sets d at xs) (at + length xs) ys
+sets-join d [] ys at = rw (add-zero at)
+sets-join d (x ∷ xs) ys at = rw (add-suc at (length xs), ← suc-add at (length xs)) (sets-join (set d at x) xs ys (suc at))
+
+-- what is not ASCII has no letter
+high : (c : ℕ) → 0x80 ≤ c → letterOf c ≡ noLetter
+unfolding letterOf
+high c h =
+    rw (ne-eqb c 92 (λ e. omega arith), ne-eqb c 34 (λ e. omega arith), ne-eqb c 10 (λ e. omega arith), ne-eqb c 13 (λ e. omega arith), ne-eqb c 9 (λ e. omega arith))
+
+high-copied : (xs : List ℕ) → ((i : ℕ) → i < length xs → 0x80 ≤ peekAt xs i) → escapedBytes xs ≡ xs
+unfolding escapedBytes
+high-copied [] h = refl
+high-copied (x ∷ xs) h =
+    rw (copied x (high x (h 0 (omega arith)))) (ap (λ (t : List ℕ). x ∷ t) (high-copied xs (λ i l. h (suc i) (omega arith))))
+
+pub bytes-join : (xs ys : List ℕ) → escapedBytes (xs ++ ys) ≡ escapedBytes xs ++ escapedBytes ys
+unfolding escapedBytes
+bytes-join [] ys = refl
+bytes-join (x ∷ xs) ys = rw (bytes-join xs ys, append-assoc)
+
+-- the bytes of one character: a byte by itself, or more, none of which is ASCII
+module _ (bs : List ℕ) (o : One bs) where
+  abbrev its : ℕ
+  its = codeOf (length bs) bs
+
+  back : encoded its ≡ bs
+  back =
+      let e = decode-encode bs (omega (arith, o .some, o .whole)) .1 in
+      rw (o .whole, take-length bs) at e
+
+  long-one : 1 < length bs → orLetter (encoded its) (letterOf its) ≡ escapedBytes bs
+  unfolding orLetter
+  long-one l =
+      let w : 1 < charLength bs = omega (arith, o .whole) in
+      let h : 0x80 ≤ its = rw (o .whole) at (long-code bs w) in
+      rw (high its h) (back ∙ sym (high-copied bs (λ i m. none-ascii bs i w (omega (arith, o .whole)))))
+
+short-one : (bs : List ℕ) → One bs → length bs ≤ 1 → let c = codeOf (length bs) bs in orLetter (encoded c) (letterOf c) ≡ escapedBytes bs
+unfolding escapedBytes
+short-one [] o l = let f : ⊥ = omega (arith, o .some) in absurd f
+short-one (b ∷ []) o l = rw (append-nil, back (b ∷ []) o, ascii-code b [] (one-ascii b [] (o .whole)))
+short-one (b ∷ b₂ ∷ bs) o l = let f : ⊥ = omega arith in absurd f
+
+escaped-one : (bs : List ℕ) → One bs → let c = codeOf (length bs) bs in orLetter (encoded c) (letterOf c) ≡ escapedBytes bs
+escaped-one bs o = go (decLt 1 (length bs))
+  where
+    go : Dec (1 < length bs) → let c = codeOf (length bs) bs in orLetter (encoded c) (letterOf c) ≡ escapedBytes bs
+    go (yes l) = long-one bs o l
+    go (no l) = short-one bs o (omega arith)
+
+pub by-characters-escaped : (xs : List ℕ) → WellFormed xs → escaped xs ≡ escapedBytes xs
+by-characters-escaped =
+    by-characters (λ xs. WellFormed xs → escaped xs ≡ escapedBytes xs)
+    (λ xs e w. rw (chars-none xs e) (sym (ap escapedBytes (none-empty xs e w) ∙ none)))
+    (λ bs ys o ih w. rw (chars-one bs ys o, escaped-one bs o, ih (rest-well bs ys o w), bytes-join bs ys))
+
+pub escape-join : EscapeJoin
+escape-join xs ys w v =
+    rw (by-characters-escaped xs w, by-characters-escaped ys v) (by-characters-escaped (xs ++ ys) (text-join xs ys w v) ∙ bytes-join xs ys)
+
+-- the answers, by what is admitted and the room
+module _ (xs d : List ℕ) where
+  pub refused-first : (r : Refusal) → admitted textLimit xs ≡ admission.Refused r → Refused r ≡ escapingOf (length d) xs
+  unfolding escapingOf
+  refused-first r a = rw a
+
+  module _ (n : CharNumber) (a : admitted textLimit xs ≡ admission.Admitted n) where
+    by-bytes : escaped xs ≡ escapedBytes xs
+    by-bytes = by-characters-escaped xs (admitted-text textLimit xs n a)
+
+    pub not-fitted : length d < length (escapedBytes xs) → Refused noRoom ≡ escapingOf (length d) xs
+    unfolding escapingOf
+    not-fitted h = rw (a, by-bytes, lt-leb (length (escapedBytes xs)) (length d) h)
+
+    pub written : length (escapedBytes xs) ≤ length d → Written (length (escapedBytes xs)) ≡ escapingOf (length d) xs
+    unfolding escapingOf
+    written h = rw (a, by-bytes, le-leb (length (escapedBytes xs)) (length d) h)
+
+    pub left : length (escapedBytes xs) ≤ length d → sets d 0 (escapedBytes xs) ≡ leftBy (Written (length (escapedBytes xs))) (escaped xs) d
+    left h = rw by-bytes (sets-eq (escapedBytes xs) d 0 (omega arith) ∙ rw zero-add)

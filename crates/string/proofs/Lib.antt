@@ -1,0 +1,3 @@
+pub mod Escapes
+pub mod Given
+pub mod Unique
