@@ -13,6 +13,7 @@ extern "C" {
     fn simmerpath_token_display(kind: u16, out: *mut u8, len: usize) -> u64;
     fn simmerpath_token_classes(kind: u16) -> u64;
     fn simmerpath_is_label(text: *const u8, len: usize) -> u64;
+    fn simmerpath_escape_string(text: *const u8, len: usize, out: *mut u8, room: usize) -> u64;
 }
 
 /// How many guards stand on each side of a list.
@@ -158,4 +159,16 @@ pub fn is_label(text: &mut Lent<u8>) -> Outcome<()> {
     // Safety: the pointer and the length are those of one list.
     let answer = unsafe { simmerpath_is_label(text.start(), text.len()) };
     text.read(answer)
+}
+
+/// How many bytes a text has when it is escaped; they are written to the front of `out`.
+pub fn escape_string<'a>(text: &mut Lent<u8>, out: &'a mut Lent<u8>) -> Outcome<&'a [u8]> {
+    out.restore();
+    // Safety: each pointer and the length behind it are those of one list.
+    let answer =
+        unsafe { simmerpath_escape_string(text.start(), text.len(), out.start(), out.len()) };
+    Outcome {
+        untouched: text.is_untouched() && out.is_guarded(),
+        ..out.written(answer)
+    }
 }

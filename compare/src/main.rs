@@ -8,6 +8,8 @@ mod comparison;
 mod ffi;
 mod input;
 #[cfg(feature = "promql")]
+mod string;
+#[cfg(feature = "promql")]
 mod token;
 mod utf8;
 
@@ -19,6 +21,8 @@ const OPERATIONS: &[fn(u64, usize) -> u64] = &[
     utf8::run,
     #[cfg(feature = "promql")]
     token::run,
+    #[cfg(feature = "promql")]
+    string::run,
 ];
 
 /// The seed and the count that the arguments ask for; none where they are not arguments of this program.

@@ -3,6 +3,8 @@
 use std::fmt::{self, Display, Formatter};
 
 #[cfg(feature = "promql")]
+pub mod string;
+#[cfg(feature = "promql")]
 pub mod token;
 pub mod utf8;
 
@@ -51,6 +53,18 @@ impl Display for Answer {
             Answer::Refused(number, byte, character) => {
                 write!(f, "refused {number} {byte} {character}")
             }
+        }
+    }
+}
+
+/// Writes a text to the front: how many bytes it has.
+#[cfg(feature = "promql")]
+fn write(text: &[u8], out: &mut [u8]) -> Answer {
+    match out.get_mut(..text.len()) {
+        None => Answer::refused(NO_ROOM),
+        Some(front) => {
+            front.copy_from_slice(text);
+            Answer::Value(text.len() as u64)
         }
     }
 }

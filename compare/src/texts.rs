@@ -6,6 +6,7 @@ use std::collections::BTreeSet;
 use std::iter;
 use std::ops::Range;
 
+pub mod escapes;
 pub mod words;
 
 /// The bytes on both sides of each end of a range of RFC 3629's table, and a letter.

@@ -8,8 +8,15 @@ mod parser {
     include!(concat!(env!("OUT_DIR"), "/parser/mod.rs"));
 }
 
+/// The Rust's `src/util`, of which we use a part.
+#[allow(dead_code)]
+mod util {
+    include!(concat!(env!("OUT_DIR"), "/util/mod.rs"));
+}
+
 use parser::lex;
 use parser::token::{self, TokenType};
+use util::string;
 
 /// The kind of a word of the table.
 pub fn keyword(word: &str) -> Option<u16> {
@@ -44,4 +51,9 @@ pub fn lexemes(query: &str) -> Result<Vec<(u16, usize, usize)>, String> {
     Ok(lexemes
         .map(|lexeme| (lexeme.kind, lexeme.start, lexeme.len))
         .collect())
+}
+
+/// A text, escaped.
+pub fn escape(text: &str) -> String {
+    string::escape_string(text)
 }

@@ -5,7 +5,7 @@
 //! - A word is known by its ASCII letters in any case. The Rust lowers all letters, and so takes the KELVIN SIGN for `k`. No
 //!   other character that is not ASCII has ASCII alone for its lower case. The lexer hands over no such word.
 
-use super::{Answer, NO_ROOM};
+use super::{write, Answer};
 use std::str;
 
 /// The number that stands for no kind.
@@ -53,14 +53,7 @@ pub fn is_kind_of_rust(kind: u16) -> bool {
 
 /// Writes the display text of a kind to the front: how many bytes it has.
 pub fn write_display(kind: u16, out: &mut [u8]) -> Answer {
-    let text = display(kind).as_bytes();
-    match out.get_mut(..text.len()) {
-        None => Answer::refused(NO_ROOM),
-        Some(front) => {
-            front.copy_from_slice(text);
-            Answer::Value(text.len() as u64)
-        }
-    }
+    write(display(kind).as_bytes(), out)
 }
 
 /// Whether a kind is an operator, a comparison, a set operator, an aggregator, an aggregator with a parameter.

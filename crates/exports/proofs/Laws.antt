@@ -1,6 +1,6 @@
--- The laws of `specs/Laws`: the parts of a packed refusal are the digits of one number, and an accepted answer is at most a text's
--- bytes or four, well below bit 63.
-use Prim.Native.Nat.{ℕ, _≤_}
+-- The laws of `specs/Laws`: the parts of a packed refusal are the digits of one number, and an accepted answer is at most twice
+-- a text's bytes, well below bit 63.
+use Prim.Native.Nat.{ℕ, _*_, _≤_}
 use native.Mathlib.Omega.{arith}
 use mathlib.Core.Bool.{Bool, true, false, cond, _||_}
 use mathlib.Core.Path.{_≡_, refl}
@@ -14,10 +14,16 @@ use Rattle.utf8.specs.declared.Character.{Character}
 use Rattle.utf8.specs.declared.Character.the-variants.{Scalar, Nothing, IllFormed}
 use Rattle.utf8.specs.declared.Encoding.{Encoding}
 use Rattle.utf8.specs.declared.Encoding.the-variants.{Written, NotScalar, NoRoom}
+use Rattle.string.specs.declared.Escaping.{Escaping}
+use Rattle.string.specs.declared.Escaping.the-variants as escaping
+use Rattle.string.specs.Escape.{escapingOf}
+use Rattle.string.proofs.Bounds as bounds
+use Rattle.string.proofs.Bounds.{escaping-bound}
 use Rattle.utf8.specs.Answers.{placeAt, textLimit, tooLong, notUtf8, admitted, characterAt, encodingOf}
 use Rattle.exports.specs.Packed.{refusedFrom, packedOf}
+use Rattle.exports.specs.String.{escapeCode}
 use Rattle.exports.specs.Utf8.{validateCode, characterCode, charAtCode, encodeCode}
-use Rattle.exports.specs.Laws.{NothingLost, looksRefused, isRefused, ValidateTold, isIllFormed, CharAtTold, isUnwritten, EncodeTold}
+use Rattle.exports.specs.Laws.{NothingLost, looksRefused, isRefused, ValidateTold, isIllFormed, CharAtTold, isUnwritten, EncodeTold, isNotEscaped, EscapeTold}
 use Rattle.utf8.proofs.Bounds.{Bounded, admitted-bound, Within, character-within, AtMostFour, encoding-bound}
 
 pub nothing-lost : NothingLost
@@ -28,7 +34,7 @@ nothing-lost r s p q e =
     λ i. record { number = n i; place = record { byte = record { 0 = b i }; character = record { 0 = c i } } }
 
 -- below bit 63 an answer does not look refused, and a packed refusal does
-small : (n : ℕ) → n ≤ textLimit → looksRefused n ≡ false
+small : (n : ℕ) → n ≤ 2 * textLimit → looksRefused n ≡ false
 small n h = lt-leb refusedFrom n (omega arith)
 
 packed : (r : Refusal) → looksRefused (packedOf r) ≡ true
@@ -38,7 +44,7 @@ pub validate-told : ValidateTold
 validate-told xs = go (admitted textLimit xs) (admitted-bound textLimit xs)
   where
     go : (a : Admission) → Bounded textLimit a → looksRefused (validateCode a) ≡ isRefused a
-    go (Admitted n) h = small (n .0) h
+    go (Admitted n) h = small (n .0) (omega arith)
     go (Refused r) h = packed r
 
 pub char-at-told : CharAtTold
@@ -58,3 +64,10 @@ encode-told c room at = go (encodingOf c room at) (encoding-bound c room at)
     go (Written n) h = small n (omega arith)
     go NotScalar h = refl
     go NoRoom h = refl
+
+pub escape-told : EscapeTold
+escape-told room xs = go (escapingOf room xs) (escaping-bound room xs)
+  where
+    go : (e : Escaping) → bounds.Bounded e → looksRefused (escapeCode e) ≡ isNotEscaped e
+    go (escaping.Written n) h = small n h
+    go (escaping.Refused r) h = packed r

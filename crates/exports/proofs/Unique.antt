@@ -19,6 +19,8 @@ use Rattle.exports.proofs.simmerpath_token_classes.Kinds as token-class
 use Rattle.exports.proofs.simmerpath_token_classes.Reads as token-classes-reads
 use Rattle.exports.proofs.simmerpath_is_label.Kinds as is-label
 use Rattle.exports.proofs.simmerpath_is_label.Reads as is-label-reads
+use Rattle.exports.proofs.simmerpath_escape_string.Kinds as escape-string
+use Rattle.exports.proofs.simmerpath_escape_string.Reads as escape-string-reads
 
 pub same-simmerpath-utf8-validate : OneAnswer validate.ps validate.r validate-reads.Post
 same-simmerpath-utf8-validate κs a x y e f p q = p ∙ sym q
@@ -52,3 +54,9 @@ same-simmerpath-token-display κs a x y e f p q = p .0 ∙ sym (q .0)
 
 pub same-simmerpath-token-display-out : OneContent token-display.ps token-display.r token-display-reads.Post (λ κs e. now (e .1 .0))
 same-simmerpath-token-display-out κs a x y e f p q = p .1 ∙ sym (q .1)
+
+pub same-simmerpath-escape-string : OneAnswer escape-string.ps escape-string.r escape-string-reads.Post
+same-simmerpath-escape-string κs a x y e f p q = p .0 ∙ sym (q .0)
+
+pub same-simmerpath-escape-string-out : OneContent escape-string.ps escape-string.r escape-string-reads.Post (λ κs e. now (e .1 .0))
+same-simmerpath-escape-string-out κs a x y e f p q = p .1 ∙ sym (q .1)

@@ -12,8 +12,12 @@ use Rattle.utf8.specs.declared.Character.{Character}
 use Rattle.utf8.specs.declared.Character.the-variants.{Scalar, Nothing, IllFormed}
 use Rattle.utf8.specs.declared.Encoding.{Encoding}
 use Rattle.utf8.specs.declared.Encoding.the-variants.{Written, NotScalar, NoRoom}
+use Rattle.string.specs.declared.Escaping.{Escaping}
+use Rattle.string.specs.declared.Escaping.the-variants as escaping
+use Rattle.string.specs.Escape.{escapingOf}
 use Rattle.utf8.specs.Answers.{textLimit, admitted, characterAt, encodingOf}
 use Rattle.exports.specs.Packed.{refusedFrom, packedOf, Packable}
+use Rattle.exports.specs.String.{escapeCode}
 use Rattle.exports.specs.Utf8.{validateCode, charAtCode, encodeCode}
 
 -- packing loses nothing: refusals that are packed alike are one
@@ -42,7 +46,7 @@ abbrev pub CharAtTold : Type 0
 CharAtTold =
     (xs : List ℕ) (at : ℕ) → looksRefused (charAtCode xs at) ≡ ltb textLimit (length xs) || isIllFormed (characterAt xs at)
 
--- and of `encode`
+-- of `encode`,
 abbrev pub isUnwritten : Encoding → Bool
 isUnwritten (Written n) = false
 isUnwritten NotScalar = true
@@ -50,3 +54,11 @@ isUnwritten NoRoom = true
 
 abbrev pub EncodeTold : Type 0
 EncodeTold = (c room at : ℕ) → let e = encodingOf c room at in looksRefused (encodeCode e) ≡ isUnwritten e
+
+-- and of `escape_string`
+abbrev pub isNotEscaped : Escaping → Bool
+isNotEscaped (escaping.Written n) = false
+isNotEscaped (escaping.Refused r) = true
+
+abbrev pub EscapeTold : Type 0
+EscapeTold = (room : ℕ) (xs : List ℕ) → let e = escapingOf room xs in looksRefused (escapeCode e) ≡ isNotEscaped e

@@ -1,4 +1,5 @@
 pub mod Packed
 pub mod Utf8
 pub mod Token
+pub mod String
 pub mod Laws

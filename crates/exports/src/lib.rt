@@ -1,5 +1,6 @@
 // The C functions over the library: each answers with one number, and writes what else it gives to what is lent.
 // A refusal is packed into the number: bit 63, document 01's number, the byte offset and the character number.
+use string::Escaping;
 use token::Display;
 use token::Keyword;
 use utf8::Admission;
@@ -12,12 +13,14 @@ use utf8::Refusal;
 ghost use mathlib.Core.Path.{_≡_};
 ghost use Prim.Native.Nat.{_≤_};
 ghost use lib.ListN.{length};
+ghost use Rattle.string.specs.Escape.{escaped, escapingOf, leftBy as escapedBy};
 ghost use Rattle.token.specs.Display.{displayOf, displayed, leftBy as shownBy};
 ghost use Rattle.token.specs.Words.{keywordOf};
 ghost use Rattle.token.specs.Label.{isLabel};
 ghost use Rattle.utf8.specs.Text.{charNumber};
 ghost use Rattle.utf8.specs.Answers.{textLimit, atStart, admitted, encodingOf, leftBy};
 ghost use Rattle.exports.specs.Packed.{numberLimit, packedOf, Packable};
+ghost use Rattle.exports.specs.String.{escapeCode};
 ghost use Rattle.exports.specs.Token.{keywordCode, displayCode, flag, classesCode};
 ghost use Rattle.exports.specs.Utf8.{validateCode, charAtCode, charAtLeft, encodeCode};
 
@@ -183,4 +186,17 @@ pub extern "C" fn simmerpath_is_label(text: &[u8]) -> u64
     ensures { λ r. ⌜ r ≡ flag (isLabel (now (text .entry))) 1 ⌝ }
 {
     worth(token::is_label(text), 1)
+}
+
+// How many bytes of an escaped text were written at the front of a lent buffer, or refusal 1, 2 or 3.
+#[no_mangle]
+pub extern "C" fn simmerpath_escape_string(text: &[u8], out: &mut [u8]) -> u64
+    ensures { λ r. ⌜ r ≡ escapeCode (escapingOf (length (now (out .entry))) (now (text .entry))) ⌝ }
+    ensures { λ _. ⌜ now (out .exit) ≡ escapedBy (escapingOf (length (now (out .entry))) (now (text .entry))) (escaped (now (text .entry))) (now (out .entry)) ⌝ }
+{
+    let e = string::escape_string(text, out);
+    match e {
+        Escaping::Written(n) => n as u64,
+        Escaping::Refused(r) => packed(r),
+    }
 }

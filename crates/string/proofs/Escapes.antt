@@ -127,7 +127,7 @@ module _ (xs d : List ℕ) where
 
   module _ (n : CharNumber) (a : admitted textLimit xs ≡ admission.Admitted n) where
     by-bytes : escaped xs ≡ escapedBytes xs
-    by-bytes = by-characters-escaped xs (admitted-text textLimit xs n a)
+    by-bytes = by-characters-escaped xs (admitted-text textLimit xs n a .1)
 
     pub not-fitted : length d < length (escapedBytes xs) → Refused noRoom ≡ escapingOf (length d) xs
     unfolding escapingOf

@@ -51,7 +51,7 @@ given-exactly limit xs =
 pub admitted-text : AdmittedText
 admitted-text limit xs n a = go (decLt limit (length xs)) (ℕ-discrete (prefixEnd xs) (length xs))
   where
-    go : Dec (TooLong limit xs) → Dec (WellFormed xs) → WellFormed xs
-    go d (yes w) = w
-    go (yes l) (no w) = told (long limit xs l) a (λ z. omega arith)
+    go : Dec (TooLong limit xs) → Dec (WellFormed xs) → (TooLong limit xs → ⊥) × WellFormed xs
+    go (yes l) w = told (long limit xs l) a (λ z. omega arith)
+    go (no l) (yes w) = (l, w)
     go (no l) (no w) = told (broken limit xs l w) a (λ z. omega arith)

@@ -25,6 +25,6 @@ GivenExactly =
     × (admitted limit xs ≡ Refused (notUtf8 (placeAt xs (prefixEnd xs))) ↔ (¬ (TooLong limit xs)) × NotUtf8 xs)
     × (admitted limit xs ≡ Admitted (count (length (charsOf xs))) ↔ (¬ (TooLong limit xs)) × WellFormed xs)
 
--- so whatever is admitted is text
+-- so whatever is admitted is text within the limit
 abbrev pub AdmittedText : Type 0
-AdmittedText = (limit : ℕ) (xs : List ℕ) (n : CharNumber) → admitted limit xs ≡ Admitted n → WellFormed xs
+AdmittedText = (limit : ℕ) (xs : List ℕ) (n : CharNumber) → admitted limit xs ≡ Admitted n → (¬ (TooLong limit xs)) × WellFormed xs
