@@ -1,6 +1,7 @@
 -- Laws of a choice by a test.
+use Prim.Native.Nat.{ℕ}
 use mathlib.Core.Bool.{Bool, true, false, cond, _&&_}
-use mathlib.Core.Path.{_≡_, refl}
+use mathlib.Core.Path.{_≡_, refl, sym, ap, _∙_}
 
 -- a fact of both arms, each with what its test says, is a fact of the choice
 pub either {ℓ} : {A : Type 0} (P : A → Type ℓ) (b : Bool) {x y : A} → (b ≡ true → P x) → (b ≡ false → P y) → P (cond b x y)
@@ -25,3 +26,7 @@ and-left false b e = e
 pub and-right : (a b : Bool) → a && b ≡ true → b ≡ true
 and-right true b e = e
 and-right false b e = let z : _≡_ {A = Bool} true false = cc in cc
+
+-- two answers that a number tells apart are not one
+pub told : {A B : Type 0} (f : A → ℕ) {a b c : A} → a ≡ b → a ≡ c → (f b ≡ f c → ⊥) → B
+told f p q n = absurd (n (ap f (sym p ∙ q)))

@@ -3,9 +3,10 @@ use Prim.Native.Nat.{ℕ}
 use native.Mathlib.Decide.{decLt, ℕ-discrete}
 use native.Mathlib.Omega.{arith}
 use mathlib.Core.List.{List}
-use mathlib.Core.Path.{_≡_, sym, ap, _∙_}
+use mathlib.Core.Path.{_≡_}
 use lib.ListN.{length}
 use borrow.Author.Tests.{le-leb, lt-leb}
+use Rattle.scan.proofs.Choice.{told}
 use Rattle.utf8.specs.declared.Admission.the-variants as admission
 use Rattle.utf8.specs.Text.{prefixEnd, WellFormed}
 use Rattle.utf8.specs.Answers.{textLimit, placeAt, tooLong, notUtf8, noRoom}
@@ -20,10 +21,6 @@ use Rattle.string.specs.Laws.{NoRoom, Taken, EscapingGiven}
 abbrev numberOf : Escaping → ℕ
 numberOf (Written n) = 0
 numberOf (Refused r) = r .number
-
--- an answer whose number differs is another
-told : {A : Type 0} {a b c : Escaping} → a ≡ b → a ≡ c → (numberOf b ≡ numberOf c → ⊥) → A
-told p q n = absurd (n (ap numberOf (sym p ∙ q)))
 
 module _ (room : ℕ) (xs : List ℕ) where
   abbrev answer : Escaping
@@ -57,15 +54,15 @@ module _ (room : ℕ) (xs : List ℕ) where
 
   rows : Dec (TooLong textLimit xs) → Dec (WellFormed xs) → Dec (NoRoom room xs) → Rows
   rows (yes l) w d =
-      ((λ e. l), (λ e. told (one l) e (λ z. omega arith)), (λ e. told (one l) e (λ z. omega arith)), (λ e. told (one l) e (λ z. omega arith)))
+      ((λ e. l), (λ e. told numberOf (one l) e (λ z. omega arith)), (λ e. told numberOf (one l) e (λ z. omega arith)), (λ e. told numberOf (one l) e (λ z. omega arith)))
   rows (no l) (no w) d =
-      ((λ e. told (two (l, w)) e (λ z. omega arith)), (λ e. (l, w)), (λ e. told (two (l, w)) e (λ z. omega arith)), (λ e. told (two (l, w)) e (λ z. omega arith)))
+      ((λ e. told numberOf (two (l, w)) e (λ z. omega arith)), (λ e. (l, w)), (λ e. told numberOf (two (l, w)) e (λ z. omega arith)), (λ e. told numberOf (two (l, w)) e (λ z. omega arith)))
   rows (no l) (yes w) (yes h) =
       let a = three (l, w) h in
-      ((λ e. told a e (λ z. omega arith)), (λ e. told a e (λ z. omega arith)), (λ e. ((l, w), h)), (λ e. told a e (λ z. omega arith)))
+      ((λ e. told numberOf a e (λ z. omega arith)), (λ e. told numberOf a e (λ z. omega arith)), (λ e. ((l, w), h)), (λ e. told numberOf a e (λ z. omega arith)))
   rows (no l) (yes w) (no h) =
       let a = four (l, w) h in
-      ((λ e. told a e (λ z. omega arith)), (λ e. told a e (λ z. omega arith)), (λ e. told a e (λ z. omega arith)), (λ e. ((l, w), h)))
+      ((λ e. told numberOf a e (λ z. omega arith)), (λ e. told numberOf a e (λ z. omega arith)), (λ e. told numberOf a e (λ z. omega arith)), (λ e. ((l, w), h)))
 
 pub escaping-given : EscapingGiven
 escaping-given room xs =

@@ -4,9 +4,10 @@ use Prim.Native.Nat.{ℕ}
 use native.Mathlib.Decide.{decLt, ℕ-discrete}
 use native.Mathlib.Omega.{arith}
 use mathlib.Core.List.{List}
-use mathlib.Core.Path.{_≡_, sym, ap, _∙_}
+use mathlib.Core.Path.{_≡_}
 use lib.ListN.{length}
 use borrow.Author.Tests.{eq-eqb, ne-eqb, lt-ltb, le-ltb}
+use Rattle.scan.proofs.Choice.{told}
 use Rattle.utf8.specs.declared.Admission.{Admission}
 use Rattle.utf8.specs.declared.Admission.the-variants.{Admitted, Refused}
 use Rattle.utf8.specs.Text.{charsOf, prefixEnd, WellFormed}
@@ -17,10 +18,6 @@ use Rattle.utf8.specs.Refusals.{TooLong, NotUtf8, GivenExactly, Admitted
 abbrev numberOf : Admission → ℕ
 numberOf (Admitted n) = 0
 numberOf (Refused r) = r .number
-
--- an answer whose number differs is another
-told : {A : Type 0} {a b c : Admission} → a ≡ b → a ≡ c → (numberOf b ≡ numberOf c → ⊥) → A
-told p q n = absurd (n (ap numberOf (sym p ∙ q)))
 
 module _ (limit : ℕ) (xs : List ℕ) where
   long : TooLong limit xs → admitted limit xs ≡ Refused tooLong
@@ -39,9 +36,9 @@ module _ (limit : ℕ) (xs : List ℕ) where
       → (admitted limit xs ≡ Refused tooLong → TooLong limit xs)
       × (admitted limit xs ≡ Refused (notUtf8 (placeAt xs (prefixEnd xs))) → (TooLong limit xs → ⊥) × NotUtf8 xs)
       × (admitted limit xs ≡ Admitted (count (length (charsOf xs))) → (TooLong limit xs → ⊥) × WellFormed xs)
-  rows (yes l) d = ((λ e. l), (λ e. told (long l) e (λ z. omega arith)), (λ e. told (long l) e (λ z. omega arith)))
-  rows (no l) (yes w) = ((λ e. told (taken l w) e (λ z. omega arith)), (λ e. told (taken l w) e (λ z. omega arith)), (λ e. (l, w)))
-  rows (no l) (no w) = ((λ e. told (broken l w) e (λ z. omega arith)), (λ e. (l, w)), (λ e. told (broken l w) e (λ z. omega arith)))
+  rows (yes l) d = ((λ e. l), (λ e. told numberOf (long l) e (λ z. omega arith)), (λ e. told numberOf (long l) e (λ z. omega arith)))
+  rows (no l) (yes w) = ((λ e. told numberOf (taken l w) e (λ z. omega arith)), (λ e. told numberOf (taken l w) e (λ z. omega arith)), (λ e. (l, w)))
+  rows (no l) (no w) = ((λ e. told numberOf (broken l w) e (λ z. omega arith)), (λ e. (l, w)), (λ e. told numberOf (broken l w) e (λ z. omega arith)))
 
 pub given-exactly : GivenExactly
 given-exactly limit xs =
@@ -52,6 +49,6 @@ pub admitted-text : AdmittedText
 admitted-text limit xs n a = go (decLt limit (length xs)) (ℕ-discrete (prefixEnd xs) (length xs))
   where
     go : Dec (TooLong limit xs) → Dec (WellFormed xs) → (TooLong limit xs → ⊥) × WellFormed xs
-    go (yes l) w = told (long limit xs l) a (λ z. omega arith)
+    go (yes l) w = told numberOf (long limit xs l) a (λ z. omega arith)
     go (no l) (yes w) = (l, w)
-    go (no l) (no w) = told (broken limit xs l w) a (λ z. omega arith)
+    go (no l) (no w) = told numberOf (broken limit xs l w) a (λ z. omega arith)
