@@ -39,6 +39,10 @@ pub above-not : (lo hi c : ℕ) → hi < c → isWithin lo hi c ≡ false
 unfolding isWithin
 above-not lo hi c h = rw (lt-leb c hi h) (and-false (leb lo c))
 
+pub below-not : (lo hi c : ℕ) → c < lo → isWithin lo hi c ≡ false
+unfolding isWithin
+below-not lo hi c h = rw (lt-leb lo c h)
+
 pub within-bounds : (lo hi c : ℕ) → isWithin lo hi c ≡ true → (lo ≤ c) × (c ≤ hi)
 unfolding isWithin
 within-bounds lo hi c h =

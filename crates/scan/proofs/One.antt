@@ -22,3 +22,11 @@ OneContent {n = n} ps r Post lent =
     Post κs a x e →
     Post κs a y f →
     lent κs e ≡ lent κs f
+
+-- and one content of what `shown` reads off a returned part
+abbrev pub OnePart : {A : Type 0} {n : ℕ} (ps : List (PK n)) (r : RK n) → Out n ps r → ((κs : Lfts n) → resT r κs .Denot → A) → Type 0
+OnePart {n = n} ps r Post shown =
+    (κs : Lfts n) (a : Dens κs ps) (x y : resT r κs .Denot) (e f : AtExit (endedOf n ps r) κs) →
+    Post κs a x e →
+    Post κs a y f →
+    shown κs x ≡ shown κs y
