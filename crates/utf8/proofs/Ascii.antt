@@ -14,11 +14,15 @@ use Rattle.utf8.specs.Table.{tail, fits, charLength}
 use Rattle.utf8.specs.Lead.{sizeBy}
 use Rattle.utf8.specs.Code.{codeOf}
 use Rattle.utf8.specs.Text.{charsPast, codesOf, sizeOf, prefixEnd, WellFormed, isWellFormed}
-use Rattle.utf8.specs.Laws.{isAscii, AsciiText, AsciiCodes, ByBytes}
+use Rattle.utf8.specs.Laws.{AsciiBytes, isAscii, AsciiText, AsciiCodes, ByBytes}
 use Rattle.utf8.proofs.Lead.{second, sized, char-by}
 use Rattle.utf8.proofs.Chars.{chars-none, chars-some}
+use Rattle.utf8.proofs.Codes.{one-byte}
 use Rattle.utf8.proofs.Laws.{ascii-alone, ascii-head}
 use Rattle.utf8.proofs.Inverse.{Range, size-range, long-code}
+
+pub ascii-bytes : AsciiBytes
+ascii-bytes c h = one-byte c (omega arith)
 
 pub ascii-text : AsciiText
 unfolding charsPast sizeOf

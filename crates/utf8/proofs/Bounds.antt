@@ -16,6 +16,7 @@ use Rattle.utf8.specs.declared.Encoding.the-variants.{Written, NotScalar
 use Rattle.utf8.specs.Table.{charLength}
 use Rattle.utf8.specs.Code.{isScalar, encoded}
 use Rattle.utf8.specs.Text.{Char, charsOf, sizeOf, prefixEnd, begunIn, charNumber}
+use Rattle.utf8.specs.Laws.{FewBytes}
 use Rattle.utf8.specs.Answers.{validityOf, admittedAs, admitted, characterAt, encodingOf}
 use Rattle.scan.proofs.Choice.{either}
 use Rattle.utf8.proofs.Chars.{char-bound}
@@ -79,7 +80,7 @@ AtMostFour (Written n) = n ≤ 4
 AtMostFour NotScalar = Unit {0}
 AtMostFour NoRoom = Unit {0}
 
-pub encoded-bound : (c : ℕ) → length (encoded c) ≤ 4
+pub encoded-bound : FewBytes
 unfolding encoded
 encoded-bound c =
     let P : List ℕ → Type 0 = λ bs. length bs ≤ 4 in

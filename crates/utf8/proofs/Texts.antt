@@ -8,13 +8,14 @@ use mathlib.Core.Path.{_≡_, refl, sym, ap, subst, _∙_}
 use lib.Dec.{leb}
 use lib.ListN.{length, take, drop, replicate, length-replicate, length-append, length-drop, take-append-drop, List·getD-append}
 use lib.Seq.{length-take-le, take-length, drop-append-seam}
-use borrow.Author.Tests.{leb-false, ne-eqb}
+use borrow.Author.Tests.{leb-false, lt-leb, ne-eqb}
 use Rattle.scan.specs.Byte.{end, peekAt, isWithin}
 use Rattle.utf8.specs.Table.{Bounds, tail, fits, charLength}
 use Rattle.utf8.specs.Lead.{sizeBy}
 use Rattle.utf8.specs.Code.{codeOf}
 use Rattle.utf8.specs.Text.{Char, charOf, charsOf, sizeOf, prefixEnd, begunIn, charNumber}
-use Rattle.utf8.specs.Answers.{place, nextStart}
+use Rattle.utf8.specs.declared.Character.the-variants.{Scalar}
+use Rattle.utf8.specs.Answers.{place, nextStart, characterAt}
 use Rattle.scan.proofs.Choice.{either-same, and-left, and-right}
 use Rattle.utf8.proofs.Lead.{second, sized, char-by}
 use Rattle.utf8.proofs.Chars.{char-bound, chars-none, chars-some}
@@ -95,6 +96,12 @@ chars-one bs ys o =
     let e : charLength (bs ++ ys) ≡ length bs = char-append bs ys h ∙ o .whole in
     chars-some (bs ++ ys) (omega (arith, e, o .some))
     ∙ rw (e, code-append (length bs) bs ys (omega arith) (o .some), drop-append-seam bs ys)
+
+pub character-one : (bs ys : List ℕ) → One bs → characterAt (bs ++ ys) 0 ≡ Scalar (codeOf (length bs) bs) (length bs)
+unfolding characterAt
+character-one bs ys o =
+    let e : charLength (bs ++ ys) ≡ length bs = char-append bs ys (omega (arith, o .some, o .whole)) ∙ o .whole in
+    rw (lt-leb (length (bs ++ ys)) 0 (omega (arith, length-append bs ys, o .some)), e, ne-eqb (length bs) 0 (λ z. omega (arith, o .some)), code-append (length bs) bs ys (omega arith) (o .some))
 
 -- what holds where no character begins, and goes over from a rest to the whole, holds of any bytes
 module _ (P : List ℕ → Type 0) (none : (xs : List ℕ) → charLength xs ≡ 0 → P xs) (more : (bs ys : List ℕ) → One bs → P ys → P (bs ++ ys)) where

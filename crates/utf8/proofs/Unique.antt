@@ -10,6 +10,10 @@ use Rattle.utf8.proofs.char_number.Kinds as char-number
 use Rattle.utf8.proofs.char_number.Reads as char-number-reads
 use Rattle.utf8.proofs.char_at.Kinds as char-at
 use Rattle.utf8.proofs.char_at.Reads as char-at-reads
+use Rattle.utf8.proofs.is_scalar.Kinds as is-scalar
+use Rattle.utf8.proofs.is_scalar.Reads as is-scalar-reads
+use Rattle.utf8.proofs.encoded_size.Kinds as encoded-size
+use Rattle.utf8.proofs.encoded_size.Reads as encoded-size-reads
 use Rattle.utf8.proofs.encode.Kinds as encode
 use Rattle.utf8.proofs.encode.Reads as encode-reads
 
@@ -24,6 +28,12 @@ same-char-number κs a x y e f p q = p ∙ sym q
 
 pub same-char-at : OneAnswer char-at.ps char-at.r char-at-reads.Post
 same-char-at κs a x y e f p q = p ∙ sym q
+
+pub same-is-scalar : OneAnswer is-scalar.ps is-scalar.r is-scalar-reads.Post
+same-is-scalar κs a x y e f p q = p ∙ sym q
+
+pub same-encoded-size : OneAnswer encoded-size.ps encoded-size.r encoded-size-reads.Post
+same-encoded-size κs a x y e f p q = p ∙ sym q
 
 pub same-encode : OneAnswer encode.ps encode.r encode-reads.Post
 same-encode κs a x y e f p q = p .0 ∙ sym (q .0)

@@ -1,4 +1,5 @@
--- What the crates above may know of characters, as statements. Their proofs stand in `proofs/Laws` and `proofs/Inverse`.
+-- What the crates above may know of characters, as statements. Their proofs stand in `proofs/Laws`, `proofs/Cuts`, `proofs/Inverse`,
+-- `proofs/Ascii` and `proofs/Bounds`.
 use Prim.Native.Nat.{ℕ, suc, _+_, _≤_, _<_, min}
 use mathlib.Core.Bool.{Bool, true, false, cond, _&&_}
 use mathlib.Core.List.{List, [], _∷_, _++_}
@@ -54,6 +55,13 @@ abbrev pub ByBytes : Type 1
 ByBytes =
     (A : Type 0) (other : A) (f : List ℕ → A) → ((ys : List ℕ) → isAscii ys ≡ false → f ys ≡ other) →
     (xs : List ℕ) → f xs ≡ cond (isWellFormed xs) (f (codesOf xs)) other
+
+-- an ASCII code point has one byte, itself, and no code point has more than four
+abbrev pub AsciiBytes : Type 0
+AsciiBytes = (c : ℕ) → c < 0x80 → encoded c ≡ c ∷ []
+
+abbrev pub FewBytes : Type 0
+FewBytes = (c : ℕ) → length (encoded c) ≤ 4
 
 -- the bytes of code points, one after the other
 abbrev pub textOf : List ℕ → List ℕ

@@ -57,6 +57,12 @@ pub enum Character {
     IllFormed,
 }
 
+// Whose rules a text is read by where they differ: those of the Rust, or those that Prometheus documents.
+pub enum Reading {
+    Crate,
+    Documented,
+}
+
 // How many bytes of a code point were written, or why none were.
 pub enum Encoding {
     Written(usize),
@@ -246,7 +252,7 @@ pub fn char_at(text: &[u8], at: ByteOffset) -> Character
 }
 
 // Whether a code point is a character: not a surrogate, and at most 10FFFF.
-fn is_scalar(code: u32) -> bool
+pub fn is_scalar(code: u32) -> bool
     ensures { λ r. ⌜ r ≡ isScalar code ⌝ }
 {
     code <= 0x10ffff && (code < 0xd800 || 0xdfff < code)
@@ -260,7 +266,7 @@ fn six_bits(x: u32) -> u8
 }
 
 // How many bytes the character of a code point has.
-fn encoded_size(code: u32) -> usize
+pub fn encoded_size(code: u32) -> usize
     ensures { λ r. ⌜ r ≡ length (encoded code) ⌝ }
 {
     if code <= 0x7f {
