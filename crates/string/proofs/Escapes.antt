@@ -27,7 +27,8 @@ use Rattle.utf8.proofs.Ascii.{one-ascii}
 use Rattle.utf8.proofs.Given.{admitted-text}
 use Rattle.utf8.proofs.Inverse.{decode-encode, long-code}
 use Rattle.string.specs.declared.Escaping.the-variants.{Written, Refused}
-use Rattle.string.specs.Escape.{backslash, noLetter, letterOf, orLetter, escaped, escapingOf, leftBy}
+use Rattle.tile.specs.Tile.{backslash}
+use Rattle.string.specs.Escape.{noLetter, letterOf, orLetter, escaped, escapingOf, leftBy}
 use Rattle.string.specs.Laws.{EscapeJoin}
 use Rattle.string.specs.Bytes.{escapedByte, escapedBytes}
 
@@ -84,7 +85,7 @@ module _ (bs : List ℕ) (o : One bs) where
   abbrev its : ℕ
   its = codeOf (length bs) bs
 
-  back : encoded its ≡ bs
+  pub back : encoded its ≡ bs
   back =
       let e = decode-encode bs (omega (arith, o .some, o .whole)) .1 in
       rw (o .whole, take-length bs) at e

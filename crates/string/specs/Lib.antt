@@ -1,3 +1,6 @@
 pub mod Escape
 pub mod Bytes
+pub mod Tiles
+pub mod Measure
+pub mod Literal
 pub mod Laws

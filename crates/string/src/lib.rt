@@ -1,15 +1,47 @@
-// String literals: a text is escaped, to stand between double quotes. It is measured first, so that a refused call writes nothing.
+// String literals: one is read, and a text is escaped, to stand between double quotes. What is to be written is measured first, so
+// that a refused call writes nothing.
+use tile::Form;
+use tile::Tile;
 use utf8::Admission;
 use utf8::ByteOffset;
 use utf8::CharNumber;
+use utf8::Encoding;
 use utf8::Place;
+use utf8::Reading;
 use utf8::Refusal;
+ghost use mathlib.Core.Bool.{true, false};
+ghost use mathlib.Core.List.{[]};
 ghost use mathlib.Core.Path.{_≡_};
-ghost use Prim.Native.Nat.{_+_, _≤_};
+ghost use Prim.Native.Nat.{_+_, _<_, _≤_};
 ghost use lib.ListN.{length};
 ghost use lib.Seq.{sets};
+ghost use Rattle.utf8.specs.Text.{WellFormed};
+ghost use Rattle.utf8.specs.Answers.{atStart};
+ghost use Rattle.tile.specs.Tile.{isAllowed};
 ghost use Rattle.string.specs.Escape.{letterOf, escaped, escapingOf, leftBy};
 ghost use Rattle.string.specs.Bytes.{escapedByte, escapedBytes};
+ghost use Rattle.string.specs.Tiles.{tilesOf, hasBad, givesByte, pieceBytes, bytesOf};
+ghost use Rattle.string.specs.Literal.{isQuote, isEnclosed, has, isBroken, hasEscape, unquoted, extentOf, unquotingOf, textBy, partOf};
+ghost use Rattle.string.specs.declared.Unquoting.the-variants.{Inner, Written};
+ghost use Rattle.string.specs.Measure.{measured};
+
+// Document 01's "bad literal".
+pub const BAD_LITERAL: usize = 40;
+
+// Where the text of a literal stands: behind the first sign of the literal itself, so many bytes, or at the front of the text buffer;
+// or why there is none.
+pub enum Unquoting {
+    Inner(usize),
+    Written(usize),
+    Refused(Refusal),
+}
+
+// What a literal comes to: so many bytes of its own, so many of text to be written, or nothing.
+pub enum Extent {
+    Inner(usize),
+    Text(usize),
+    Bad,
+}
 
 // How many bytes of an escaped text were written, or why none were.
 pub enum Escaping {
@@ -19,8 +51,30 @@ pub enum Escaping {
 
 const BACKSLASH: u8 = b'\\';
 
+const DOUBLE_QUOTE: u8 = b'"';
+
+const SINGLE_QUOTE: u8 = b'\'';
+
+const BACKQUOTE: u8 = b'`';
+
+const LINE_FEED: u8 = b'\n';
+
+// The bytes of the two signs.
+const SIGNS: usize = 2;
+
 // A byte that is copied has no letter.
 const NO_LETTER: u8 = 0;
+
+// A refusal that names no place.
+fn at_start(number: usize) -> Refusal
+    ensures { λ r. ⌜ r ≡ atStart number ⌝ }
+{
+    let place = Place {
+        byte: ByteOffset(0),
+        character: CharNumber(0),
+    };
+    Refusal { number, place }
+}
 
 // What stands behind the backslash for a byte.
 fn letter_of(c: u8) -> u8
@@ -96,15 +150,209 @@ pub fn escape_string(text: &[u8], out: &mut [u8]) -> Escaping
     }
     let n = escaped_length(text);
     if out.len() < n {
-        let place = Place {
-            byte: ByteOffset(0),
-            character: CharNumber(0),
-        };
-        return Escaping::Refused(Refusal {
-            number: utf8::NO_ROOM,
-            place,
-        });
+        return Escaping::Refused(at_start(utf8::NO_ROOM));
     }
     write_escaped(text, out);
     Escaping::Written(n)
+}
+
+// Whether a list has the byte.
+fn contains(s: &[u8], c: u8) -> bool
+    ensures { λ r. ⌜ r ≡ has c (now (s .entry)) ⌝ }
+{
+    let mut i = 0;
+    while i < s.len() {
+        if s[i] == c {
+            return true;
+        }
+        i += 1;
+    }
+    false
+}
+
+// Whether a byte is a quote sign.
+fn is_quote(c: u8) -> bool
+    ensures { λ r. ⌜ r ≡ isQuote c ⌝ }
+{
+    c == DOUBLE_QUOTE || (c == SINGLE_QUOTE || c == BACKQUOTE)
+}
+
+// Whether a literal stands between two quote signs that are the same.
+fn is_enclosed(literal: &[u8]) -> bool
+    ensures { λ r. ⌜ r ≡ isEnclosed (now (literal .entry)) ⌝ }
+{
+    let n = literal.len();
+    if n < SIGNS {
+        return false;
+    }
+    let sign = literal[0];
+    literal[n - 1] == sign && is_quote(sign)
+}
+
+// Whether there is a line feed where none may be.
+fn is_broken(sign: u8, inner: &[u8]) -> bool
+    ensures { λ r. ⌜ r ≡ isBroken sign (now (inner .entry)) ⌝ }
+{
+    sign != BACKQUOTE && contains(inner, LINE_FEED)
+}
+
+// Whether there is an escape.
+fn has_escape(sign: u8, inner: &[u8]) -> bool
+    ensures { λ r. ⌜ r ≡ hasEscape sign (now (inner .entry)) ⌝ }
+{
+    sign != BACKQUOTE && contains(inner, BACKSLASH)
+}
+
+// Whether a tile gives one byte, and not a character.
+fn gives_byte(reading: Reading, form: Form) -> bool
+    ensures { λ r. ⌜ r ≡ givesByte reading form ⌝ }
+{
+    match reading {
+        Reading::Crate => false,
+        Reading::Documented => tile::is_byte(form),
+    }
+}
+
+// How many bytes a tile gives.
+fn piece_size(reading: Reading, form: Form, value: u32) -> usize
+    ensures { λ r. ⌜ r ≡ length (pieceBytes reading form value) ⌝ }
+{
+    if gives_byte(reading, form) {
+        return 1;
+    }
+    utf8::encoded_size(value)
+}
+
+// How many bytes the tiles of a content give.
+fn measure(inner: &[u8], sign: u8, reading: Reading) -> Extent
+    requires { ⌜ sign < 0x80 ⌝ }
+    ensures { λ r. ⌜ r ≡ measured reading (tilesOf sign (now (inner .entry))) ⌝ }
+{
+    let mut n = 0;
+    let mut at = 0;
+    while at < inner.len() {
+        let t = tile::unquote_char(&inner[at..], sign);
+        let Tile::Piece { form, value, size } = t else {
+            return Extent::Bad;
+        };
+        n += piece_size(reading, form, value);
+        at += size;
+    }
+    Extent::Text(n)
+}
+
+// What a literal comes to.
+fn extent_of(literal: &[u8], reading: Reading) -> Extent
+    requires { ⌜ WellFormed (now literal) ⌝ }
+    ensures { λ r. ⌜ r ≡ extentOf reading (now (literal .entry)) ⌝ }
+{
+    if !is_enclosed(literal) {
+        return Extent::Bad;
+    }
+    let sign = literal[0];
+    let end = literal.len() - 1;
+    let inner = &literal[1..end];
+    if is_broken(sign, inner) {
+        return Extent::Bad;
+    }
+    if has_escape(sign, inner) {
+        return measure(inner, sign, reading);
+    }
+    if contains(inner, sign) {
+        return Extent::Bad;
+    }
+    Extent::Inner(inner.len())
+}
+
+// Writes what a tile gives at a place where it fits, and answers the place past it.
+fn put_piece(reading: Reading, form: Form, value: u32, out: &mut [u8], at: usize) -> usize
+    requires { ⌜ isAllowed form value ≡ true ⌝ }
+    requires { ⌜ at + length (pieceBytes reading form value) ≤ length (now out) ⌝ }
+    ensures { λ r. ⌜ r ≡ at + length (pieceBytes reading form value) ⌝ }
+    ensures { λ _. ⌜ now (out .exit) ≡ sets (now (out .entry)) at (pieceBytes reading form value) ⌝ }
+{
+    if gives_byte(reading, form) {
+        out[at] = value as u8;
+        return at + 1;
+    }
+    let e = utf8::encode(value, out, ByteOffset(at));
+    let Encoding::Written(n) = e else {
+        return at;
+    };
+    at + n
+}
+
+// Writes what the tiles of a content give at the front of a buffer that it fits.
+fn write_pieces(inner: &[u8], sign: u8, reading: Reading, out: &mut [u8])
+    requires { ⌜ (sign < 0x80) × (hasBad (tilesOf sign (now inner)) ≡ false) ⌝ }
+    requires { ⌜ length (bytesOf reading (tilesOf sign (now inner))) ≤ length (now out) ⌝ }
+    ensures { λ _. ⌜ now (out .exit) ≡ sets (now (out .entry)) 0 (bytesOf reading (tilesOf sign (now (inner .entry)))) ⌝ }
+{
+    let mut at = 0;
+    let mut from = 0;
+    while from < inner.len() {
+        let t = tile::unquote_char(&inner[from..], sign);
+        let Tile::Piece { form, value, size } = t else {
+            return;
+        };
+        at = put_piece(reading, form, value, out, at);
+        from += size;
+    }
+}
+
+// Reads a literal: a text without escapes is left where it stands, and another is written at the front of a lent buffer; nothing is
+// written where it is refused.
+pub fn unquote_string(literal: &[u8], reading: Reading, text: &mut [u8]) -> Unquoting
+    ensures { λ r. ⌜ r ≡ unquotingOf reading (length (now (text .entry))) (now (literal .entry)) ⌝ }
+    ensures { λ r. ⌜ now (text .exit) ≡ textBy r (unquoted reading (now (literal .entry))) (now (text .entry)) ⌝ }
+{
+    let a = utf8::admit(literal, utf8::TEXT_LIMIT);
+    if let Admission::Refused(r) = a {
+        return Unquoting::Refused(r);
+    }
+    let e = extent_of(literal, reading);
+    match e {
+        Extent::Inner(n) => Unquoting::Inner(n),
+        Extent::Text(n) => {
+            if text.len() < n {
+                return Unquoting::Refused(at_start(utf8::NO_ROOM));
+            }
+            let end = literal.len() - 1;
+            write_pieces(&literal[1..end], literal[0], reading, text);
+            Unquoting::Written(n)
+        }
+        Extent::Bad => Unquoting::Refused(at_start(BAD_LITERAL)),
+    }
+}
+
+// The part of a literal behind its first sign that has so many bytes; none where it has not.
+fn inner_part(literal: &[u8], n: usize) -> &[u8]
+    ensures { λ r. ⌜ now r ≡ partOf (Inner n) (now (literal .entry)) [] ⌝ }
+{
+    if n < literal.len() {
+        let end = n + 1;
+        return &literal[1..end];
+    }
+    &literal[..0]
+}
+
+// The first so many bytes of a text buffer; none where it has not.
+fn front(text: &[u8], n: usize) -> &[u8]
+    ensures { λ r. ⌜ now r ≡ partOf (Written n) [] (now (text .entry)) ⌝ }
+{
+    if n <= text.len() {
+        return &text[..n];
+    }
+    &text[..0]
+}
+
+// The text that an answer names, of the literal or of the text buffer; none where it is refused, or does not fit them.
+pub fn part<'a>(literal: &'a [u8], text: &'a [u8], answer: Unquoting) -> &'a [u8]
+    ensures { λ r. ⌜ now r ≡ partOf answer (now (literal .entry)) (now (text .entry)) ⌝ }
+{
+    match answer {
+        Unquoting::Inner(n) => inner_part(literal, n),
+        Unquoting::Written(n) => front(text, n),
+        Unquoting::Refused(_) => &text[..0],
+    }
 }

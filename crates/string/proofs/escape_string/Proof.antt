@@ -1,8 +1,9 @@
 -- What is refused is refused first, with nothing written; then the room decides, by the length of the text escaped byte by byte.
-use mathlib.Core.Path.{refl, sym, _∙_}
+use mathlib.Core.Path.{refl, sym, ap, _∙_}
 use native.Mathlib.Omega.{arith}
 use denote.Ref.{now}
 use borrow.Author.Needs.{needs}
+use Rattle.string.specs.declared.Escaping.the-variants.{Refused}
 use Rattle.string.proofs.Escapes.{refused-first, not-fitted, written, left}
 use Rattle.string.proofs.escape_string.Statement.{statement}
 use Rattle.string.proofs.escape_string.Tie as tie
@@ -24,11 +25,14 @@ enum-told c = search needs
 escaped-length-requires : tie.Need-escaped-length-requires
 escaped-length-requires c κs = search needs
 
+at-start-requires : tie.Need-at-start-requires
+at-start-requires c κs = search needs
+
 returns-2 : tie.Need-returns-2
 returns-2 c =
-    let a = sym (c .before .before .before .before .admit .ensures) ∙ c .before .before .enum-told .given .1 in
-    let d = now (c .before .before .before .before .before .before .before .args .out) in
-    (not-fitted _ d _ a (omega (arith, c .before .escaped-length .ensures)), refl)
+    let a = sym (c .before .before .before .before .before .admit .ensures) ∙ c .before .before .before .enum-told .given .1 in
+    let d = now (c .before .before .before .before .before .before .before .before .args .out) in
+    (ap Refused (c .at-start .ensures) ∙ not-fitted _ d _ a (omega (arith, c .before .before .escaped-length .ensures)), refl)
 
 write-escaped-requires : tie.Need-write-escaped-requires
 write-escaped-requires c κs = search needs
@@ -52,6 +56,7 @@ escape-string-spec =
     returns
     enum-told
     escaped-length-requires
+    at-start-requires
     returns-2
     write-escaped-requires
     same-length

@@ -6,7 +6,8 @@ use mathlib.Core.Path.{_≡_, refl, sym, ap, _∙_}
 use lib.ListN.{length, length-set}
 use denote.Ref.{now}
 use borrow.Author.Needs.{needs}
-use Rattle.string.specs.Escape.{backslash, letterOf}
+use Rattle.tile.specs.Tile.{backslash}
+use Rattle.string.specs.Escape.{letterOf}
 use Rattle.string.specs.Bytes.{escapedByte}
 use Rattle.string.proofs.Escapes.{copied, lettered}
 use Rattle.string.proofs.put_escaped.Statement.{statement}

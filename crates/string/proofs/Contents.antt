@@ -1,0 +1,137 @@
+-- Laws of the tiles of a content, from a place on: the first of them, and those from behind it on. A tile takes some of the bytes that are
+-- there and gives no more than it takes (`each-fair`), so both passes end, and what they count fits.
+use Prim.Native.Nat.{ℕ, zero, suc, pred, _+_, _-_, _<_, _≤_}
+use native.Mathlib.Omega.{arith}
+use mathlib.Core.Bool.{true, false}
+use mathlib.Core.List.{List, [], _∷_, _++_}
+use mathlib.Core.Path.{_≡_, refl, sym, ap, subst, _∙_}
+use lib.ListN.{length, drop, length-drop, length-append, drop-of-length-le}
+use lib.Seq.{drop-drop}
+use Rattle.scan.proofs.Choice.{either}
+use Rattle.utf8.specs.declared.Reading.{Reading}
+use Rattle.tile.specs.declared.Form.{Form}
+use Rattle.tile.specs.declared.Tile.{Tile}
+use Rattle.tile.specs.declared.Tile.the-variants.{Piece, Bad}
+use Rattle.tile.specs.Tile.{tileOf}
+use Rattle.tile.specs.Laws.{Fair, FairTile}
+use Rattle.tile.proofs.Tiles.{each-fair}
+use Rattle.string.specs.declared.Extent.the-variants as extent
+use Rattle.string.specs.Tiles.{sizeOf, tilesPast, tilesOf, isBad, hasBad, givesByte, pieceBytes, tileBytes, bytesOf}
+use Rattle.string.specs.Measure.{measured}
+
+piece-few : (r : Reading) {room : ℕ} {f : Form} {v n : ℕ} → Fair room f v n → length (pieceBytes r f v) ≤ n
+unfolding pieceBytes
+piece-few r {f = f} {n = n} a = either (λ (bs : List ℕ). length bs ≤ n) (givesByte r f) (λ t. omega (arith, a .some)) (λ t. a .few)
+
+tiles-past : (q k : ℕ) (xs : List ℕ) → tilesPast q k xs ≡ tilesOf q (drop k xs)
+unfolding tilesPast
+tiles-past q zero [] = refl
+tiles-past q (suc k) [] = refl
+tiles-past q zero (x ∷ xs) = refl
+tiles-past q (suc k) (x ∷ xs) = tiles-past q k xs
+
+pub tiles-none : (q : ℕ) → tilesOf q [] ≡ []
+unfolding tilesPast
+tiles-none q = refl
+
+module _ (q : ℕ) (h : q < 0x80) where
+  -- the first tile, and those behind it
+  pub tiles-some : (xs : List ℕ) → 0 < length xs → tilesOf q xs ≡ tileOf q xs ∷ tilesOf q (drop (sizeOf (tileOf q xs)) xs)
+  unfolding tilesPast
+  tiles-some [] l = let f : ⊥ = omega arith in absurd f
+  tiles-some (x ∷ xs) l = ap (λ (ts : List Tile). tileOf q (x ∷ xs) ∷ ts) (behind (tileOf q (x ∷ xs)) (each-fair q (x ∷ xs) h))
+    where
+      past : (n : ℕ) → 0 < n → tilesPast q (pred n) xs ≡ tilesOf q (drop n (x ∷ xs))
+      past zero z = let f : ⊥ = omega arith in absurd f
+      past (suc n) z = tiles-past q n xs
+
+      behind : (t : Tile) → FairTile (length (x ∷ xs)) t → tilesPast q (pred (sizeOf t)) xs ≡ tilesOf q (drop (sizeOf t) (x ∷ xs))
+      behind (Piece f v n) a = past n (a .some)
+      behind Bad a = past 1 (omega arith)
+
+  pub first-piece : (xs : List ℕ) (f : Form) (v n : ℕ) → 0 < length xs → tileOf q xs ≡ Piece f v n → tilesOf q xs ≡ Piece f v n ∷ tilesOf q (drop n xs)
+  first-piece xs f v n l e = tiles-some xs l ∙ rw e
+
+  pub first-bad : (xs : List ℕ) → 0 < length xs → tileOf q xs ≡ Bad → hasBad (tilesOf q xs) ≡ true
+  unfolding hasBad
+  first-bad xs l e = rw (tiles-some xs l, e)
+
+  -- from a place of a content on
+  module _ (ys : List ℕ) (at : ℕ) (l : at < length ys) where
+    abbrev rest : List ℕ
+    rest = drop at ys
+
+    left : 0 < length rest
+    left = omega (arith, length-drop at ys)
+
+    pub bad-here : tileOf q rest ≡ Bad → hasBad (tilesOf q rest) ≡ true
+    bad-here e = first-bad rest left e
+
+    module _ (f : Form) (v n : ℕ) (e : tileOf q rest ≡ Piece f v n) where
+      pub fair : Fair (length ys - at) f v n
+      fair = let p = subst (FairTile (length rest)) e (each-fair q rest h) in rw (length-drop at ys) at p
+
+      tiles-here : tilesOf q rest ≡ Piece f v n ∷ tilesOf q (drop (at + n) ys)
+      tiles-here = first-piece rest f v n left e ∙ rw drop-drop
+
+      pub bad-behind : hasBad (tilesOf q rest) ≡ hasBad (tilesOf q (drop (at + n) ys))
+      unfolding hasBad
+      bad-behind = rw tiles-here
+
+      pub bytes-here : (r : Reading) → bytesOf r (tilesOf q rest) ≡ pieceBytes r f v ++ bytesOf r (tilesOf q (drop (at + n) ys))
+      unfolding bytesOf
+      bytes-here r = rw tiles-here
+
+      pub few : (r : Reading) → length (pieceBytes r f v) ≤ n
+      few r = piece-few r fair
+
+-- tiles give no more bytes than they have
+module _ (q : ℕ) (h : q < 0x80) (r : Reading) where
+  gives : (room : ℕ) (t : Tile) → 0 < room → FairTile room t → (0 < sizeOf t) × (sizeOf t ≤ room) × (length (tileBytes r t) ≤ sizeOf t)
+  gives room (Piece f v n) l a = (a .some, a .within, piece-few r a)
+  gives room Bad l a = (omega arith, omega arith, omega arith)
+
+  abbrev Few : List ℕ → Type 0
+  Few ys = length (bytesOf r (tilesOf q ys)) ≤ length ys
+
+  up-to : (m : ℕ) (ys : List ℕ) → length ys ≤ m → Few ys
+  unfolding bytesOf
+  up-to zero [] l = rw (tiles-none q) (omega arith)
+  up-to zero (y ∷ ys) l = let f : ⊥ = omega arith in absurd f
+  up-to (suc m) ys l = go ys l (up-to m)
+    where
+      go : (ys : List ℕ) → length ys ≤ suc m → ((zs : List ℕ) → length zs ≤ m → Few zs) → Few ys
+      go [] l ih = rw (tiles-none q) (omega arith)
+      go (y ∷ ys) l ih =
+          let t = tileOf q (y ∷ ys) in
+          let g = gives (length (y ∷ ys)) t (omega arith) (each-fair q (y ∷ ys) h) in
+          let k = length-drop (sizeOf t) (y ∷ ys) in
+          let i = ih (drop (sizeOf t) (y ∷ ys)) (omega (arith, k, g)) in
+          rw (tiles-some q h (y ∷ ys) (omega arith))
+          (omega (arith, length-append (tileBytes r t) (bytesOf r (tilesOf q (drop (sizeOf t) (y ∷ ys)))), g, k, i))
+
+  pub bytes-few : (ys : List ℕ) → Few ys
+  bytes-few ys = up-to (length ys) ys (omega arith)
+
+-- past the last byte there is no tile
+module _ (q : ℕ) (ys : List ℕ) (at : ℕ) (l : length ys ≤ at) where
+  over : tilesOf q (drop at ys) ≡ []
+  over = ap (tilesOf q) (drop-of-length-le ys l) ∙ tiles-none q
+
+  pub bad-over : hasBad (tilesOf q (drop at ys)) ≡ false
+  unfolding hasBad
+  bad-over = rw over
+
+  pub bytes-over : (r : Reading) → bytesOf r (tilesOf q (drop at ys)) ≡ []
+  unfolding bytesOf
+  bytes-over r = rw over
+
+-- what the measuring pass says
+module _ (r : Reading) (ts : List Tile) where
+  pub measured-bad : hasBad ts ≡ true → extent.Bad ≡ measured r ts
+  unfolding measured
+  measured-bad e = rw e
+
+  pub measured-text : (n : ℕ) → hasBad ts ≡ false → n ≡ length (bytesOf r ts) → extent.Text n ≡ measured r ts
+  unfolding measured
+  measured-text n e h = rw (e, h)

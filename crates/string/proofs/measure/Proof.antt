@@ -1,0 +1,152 @@
+-- The invariant: what the tiles from here on give, and n, is what all of them give; and one from here on is bad exactly where one is.
+use Prim.Native.Nat.{ℕ, _+_, _-_, _<_, _≤_}
+use native.Mathlib.Omega.{arith}
+use mathlib.Core.List.{List}
+use mathlib.Core.Path.{_≡_, refl, sym, ap, _∙_}
+use lib.ListN.{length, drop, length-append}
+use denote.Ref.{now}
+use borrow.Author.Needs.{needs}
+use Rattle.utf8.specs.declared.Reading.{Reading}
+use Rattle.utf8.proofs.Chars.{rest-of}
+use Rattle.tile.specs.declared.Form.{Form}
+use Rattle.tile.specs.declared.Tile.{Tile}
+use Rattle.tile.specs.declared.Tile.the-variants.{Piece}
+use Rattle.tile.specs.Tile.{tileOf}
+use Rattle.tile.specs.Laws.{Fair}
+use Rattle.string.specs.Tiles.{tilesOf, hasBad, pieceBytes, bytesOf}
+use Rattle.string.proofs.Contents as contents
+use Rattle.string.proofs.measure.Statement.{statement}
+use Rattle.string.proofs.measure.Tie as tie
+
+abbrev Inv-loop : tie.InvT-loop
+Inv-loop inner sign reading n₀ at₀ n at =
+    (at ≤ length inner) × (n ≤ at) × (hasBad (tilesOf sign inner) ≡ hasBad (tilesOf sign (drop at inner))) × (n + length (bytesOf reading (tilesOf sign (drop at inner))) ≡ length (bytesOf reading (tilesOf sign inner)))
+
+abbrev μ-loop : tie.MeasureT-loop
+μ-loop inner sign reading n₀ at₀ n at = length inner - at
+
+loop-holds : tie.Need-loop-holds Inv-loop μ-loop
+loop-holds c = (omega arith, omega arith, refl, omega arith)
+
+sub-unquote-char : tie.Need-sub-unquote-char Inv-loop μ-loop
+sub-unquote-char c = search needs
+
+part-unquote-char-start : tie.Need-part-unquote-char-start Inv-loop μ-loop
+part-unquote-char-start c = search needs
+
+part-unquote-char-end : tie.Need-part-unquote-char-end Inv-loop μ-loop
+part-unquote-char-end c = search needs
+
+unquote-char-requires : tie.Need-unquote-char-requires Inv-loop μ-loop
+unquote-char-requires c κs = tt
+
+enum-known-t : tie.Need-enum-known-t Inv-loop μ-loop
+enum-known-t c = search needs
+
+enum-told : tie.Need-enum-told Inv-loop μ-loop
+enum-told c = search needs
+
+-- what is known after the call: the tile that stands here
+module _ (c : tie.After-unquote-char Inv-loop μ-loop) where
+  abbrev q : ℕ
+  q = c .before .before .before .before .before .args .sign
+
+  abbrev ys : List ℕ
+  ys = now (c .before .before .before .before .before .args .inner)
+
+  abbrev place : ℕ
+  place = c .before .before .before .loop .at
+
+  abbrev r : Reading
+  r = c .before .before .before .before .before .args .reading
+
+  ascii : q < 0x80
+  ascii = c .before .before .before .before .before .pre
+
+  inside : place < length ys
+  inside = c .before .before .loop-test .taken
+
+  here : c .unquote-char .result ≡ tileOf q (drop place ys)
+  here = c .unquote-char .ensures ∙ ap (tileOf q) (rest-of ys place)
+
+returns : tie.Need-returns Inv-loop μ-loop
+returns c =
+    let d = c .before .before in
+    contents.measured-bad (r d) (tilesOf (q d) (ys d))
+    (d .before .before .before .loop .inv .2 ∙ contents.bad-here (q d) (ascii d) (ys d) (place d) (inside d) (sym (here d) ∙ c .enum-told .given .1))
+
+piece-size-requires : tie.Need-piece-size-requires Inv-loop μ-loop
+piece-size-requires c κs = tt
+
+-- and what it has
+module _ (c : tie.After-piece-size Inv-loop μ-loop) where
+  abbrev d : tie.After-unquote-char Inv-loop μ-loop
+  d = c .before .before .before .before
+
+  abbrev form : Form
+  form = c .before .before .t .given .0 .0
+
+  abbrev value : ℕ
+  value = c .before .before .t .given .0 .1 .0
+
+  abbrev size : ℕ
+  size = c .before .before .t .given .0 .1 .1 .0
+
+  piece : tileOf (q d) (drop (place d) (ys d)) ≡ Piece form value size
+  piece = sym (here d) ∙ c .before .before .t .given .1
+
+  fair : Fair (length (ys d) - place d) form value size
+  fair = contents.fair (q d) (ascii d) (ys d) (place d) (inside d) form value size piece
+
+  few : c .piece-size .result ≤ size
+  few = omega (arith, c .piece-size .ensures, contents.few (q d) (ascii d) (ys d) (place d) (inside d) form value size piece (r d))
+
+add-n : tie.Need-add-n Inv-loop μ-loop
+add-n c = omega (arith, few c, fair c .within)
+
+add-at : tie.Need-add-at Inv-loop μ-loop
+add-at c = omega (arith, fair c .within)
+
+loop-less : tie.Need-loop-less Inv-loop μ-loop
+loop-less c = omega (arith, fair c .within, fair c .some)
+
+loop-again : tie.Need-loop-again Inv-loop μ-loop
+loop-again c =
+    let e = d c in
+    let b = contents.bad-behind (q e) (ascii e) (ys e) (place e) (inside e) (form c) (value c) (size c) (piece c) in
+    let g = contents.bytes-here (q e) (ascii e) (ys e) (place e) (inside e) (form c) (value c) (size c) (piece c) (r e) in
+    let l = ap length g ∙ length-append (pieceBytes (r e) (form c) (value c)) (bytesOf (r e) (tilesOf (q e) (drop (place e + size c) (ys e)))) in (
+      omega (arith, fair c .within),
+      omega (arith, few c),
+      e .before .before .before .loop .inv .2 ∙ b,
+      omega (arith, l, c .piece-size .ensures, e .before .before .before .loop .inv .3),
+    )
+
+returns-2 : tie.Need-returns-2 Inv-loop μ-loop
+returns-2 c =
+    let a = c .before .before .before .args in
+    let l = c .before .loop in
+    contents.measured-text (a .reading) (tilesOf (a .sign) (now (a .inner))) (l .n)
+    (l .inv .2 ∙ contents.bad-over (a .sign) (now (a .inner)) (l .at) (c .loop-test .left))
+    (omega (arith, l .inv .3, ap length (contents.bytes-over (a .sign) (now (a .inner)) (l .at) (c .loop-test .left) (a .reading))))
+
+pub measure-spec : {M : Type 1} → statement M
+measure-spec =
+    tie.close
+    (tie.spec
+    Inv-loop
+    μ-loop
+    loop-holds
+    sub-unquote-char
+    part-unquote-char-start
+    part-unquote-char-end
+    unquote-char-requires
+    enum-known-t
+    enum-told
+    returns
+    piece-size-requires
+    add-n
+    add-at
+    loop-less
+    loop-again
+    returns-2)

@@ -1,0 +1,155 @@
+-- A byte is stored, since a byte escape has a value of at most 255; a character is encoded, and every value that a form may have is one.
+use Prim.Native.Nat.{ℕ, _+_, _≤_}
+use native.Mathlib.Omega.{arith}
+use mathlib.Core.Bool.{Bool, true, false}
+use mathlib.Core.List.{List, [], _∷_}
+use mathlib.Core.Logic.{inl, inr}
+use mathlib.Core.Path.{_≡_, refl, sym, ap, _∙_}
+use lib.ListN.{length}
+use lib.Seq.{sets-eq}
+use types.Run.{OneOf}
+use denote.Enum.Declared.{tagOf}
+use denote.Ref.{now}
+use borrow.Author.Tests.{le-leb, lt-ltb, leb-true}
+use Rattle.scan.proofs.Choice.{told}
+use Rattle.utf8.specs.declared.Encoding.{Encoding}
+use Rattle.utf8.specs.declared.Encoding.the-variants.{Written, NotScalar, NoRoom}
+use Rattle.utf8.specs.declared.Reading.{Reading}
+use Rattle.utf8.specs.declared.Reading.the-variants.{Crate, Documented}
+use Rattle.utf8.specs.Code.{isScalar, encoded}
+use Rattle.utf8.specs.Answers.{encodingOf, leftBy}
+use Rattle.utf8.proofs.Encoding as encoding
+use Rattle.tile.specs.declared.Form.{Form}
+use Rattle.tile.specs.Tile.{isByte, isAllowed}
+use Rattle.string.specs.Tiles.{givesByte, pieceBytes}
+use borrow.Author.Needs.{needs}
+use Rattle.string.proofs.put_piece.Statement.{statement}
+use Rattle.string.proofs.put_piece.Tie as tie
+
+module _ (f : Form) (v : ℕ) (a : isAllowed f v ≡ true) where
+  byte-small : (r : Reading) → givesByte r f ≡ true → v ≤ 0xff
+  unfolding isAllowed
+  byte-small Crate e = let z : _≡_ {A = ℕ} 0 1 = cc in omega arith
+  byte-small Documented e = leb-true v 0xff (rw e at a)
+
+  scalar : isScalar v ≡ true
+  unfolding isAllowed
+  scalar = go (isByte f) refl
+    where
+      go : (t : Bool) → isByte f ≡ t → isScalar v ≡ true
+      go true e = let l : v ≤ 0xff = leb-true v 0xff (rw e at a) in unfold isScalar in rw (le-leb v 0x10ffff (omega arith), lt-ltb v 0xd800 (omega arith))
+      go false e = rw e at a
+
+module _ (r : Reading) (f : Form) (v : ℕ) where
+  one-byte : givesByte r f ≡ true → pieceBytes r f v ≡ v ∷ []
+  unfolding pieceBytes
+  one-byte e = rw e
+
+  character : givesByte r f ≡ false → pieceBytes r f v ≡ encoded v
+  unfolding pieceBytes
+  character e = rw e
+
+abbrev tag : Encoding → ℕ
+tag (Written n) = 0
+tag NotScalar = 1
+tag NoRoom = 2
+
+abbrev sizeOf : Encoding → ℕ
+sizeOf (Written n) = n
+sizeOf NotScalar = 0
+sizeOf NoRoom = 0
+
+encodes : (v room at : ℕ) → isScalar v ≡ true → at + length (encoded v) ≤ room → encodingOf v room at ≡ Written (length (encoded v))
+unfolding encodingOf
+encodes v room at s h = rw (s, le-leb (at + length (encoded v)) room h)
+
+gives-byte-requires : tie.Need-gives-byte-requires
+gives-byte-requires c κs = search needs
+
+byte : (c : tie.Then1) → givesByte (c .before .before .before .args .reading) (c .before .before .before .args .form) ≡ true
+byte c = sym (c .before .gives-byte .ensures) ∙ c .if1 .taken
+
+stored : (c : tie.Then1) → let a = c .before .before .before .args in pieceBytes (a .reading) (a .form) (a .value) ≡ a .value ∷ []
+stored c = let a = c .before .before .before .args in one-byte (a .reading) (a .form) (a .value) (byte c)
+
+cast-out : tie.Need-cast-out
+cast-out c =
+    let a = c .before .before .before in
+    omega (arith, byte-small (a .args .form) (a .args .value) (a .pre .0) (a .args .reading) (byte c))
+
+slice-write-out : tie.Need-slice-write-out
+slice-write-out c = omega (arith, c .before .before .before .pre .1, ap length (stored c))
+
+add-result : tie.Need-add-result
+add-result c = search needs
+
+same-length : tie.Need-same-length
+same-length c = search needs
+
+returns : tie.Need-returns
+returns c = rw (stored c) (refl, refl)
+
+encode-requires : tie.Need-encode-requires
+encode-requires c κs = search needs
+
+enum-known-e : tie.Need-enum-known-e
+enum-known-e c = search needs
+
+same-length-2 : tie.Need-same-length-2
+same-length-2 c = search needs
+
+-- the character has room
+module _ (c : tie.After-encode) where
+  abbrev a : tie.Start
+  a = c .before .before .before .before .before
+
+  its : pieceBytes (a .args .reading) (a .args .form) (a .args .value) ≡ encoded (a .args .value)
+  its = character (a .args .reading) (a .args .form) (a .args .value) (sym (c .before .before .before .gives-byte .ensures) ∙ c .before .before .if1 .left)
+
+  fits : a .args .at + length (encoded (a .args .value)) ≤ length (now (a .args .out))
+  fits = omega (arith, a .pre .1, ap length its)
+
+  written : c .encode .result ≡ Written (length (encoded (a .args .value)))
+  written = c .encode .ensures .0 ∙ encodes (a .args .value) (length (now (a .args .out))) (a .args .at) (scalar (a .args .form) (a .args .value) (a .pre .0)) fits
+
+no-other : (e : Encoding) (n : ℕ) → e ≡ Written n → OneOf (1 ∷ 2 ∷ []) (tagOf encoding.the-type e) → ⊥
+no-other (Written m) n e (inl t) = omega arith
+no-other (Written m) n e (inr t) = omega arith
+no-other NotScalar n e t = told tag e refl (λ z. omega arith)
+no-other NoRoom n e t = told tag e refl (λ z. omega arith)
+
+returns-2 : tie.Need-returns-2
+returns-2 c = absurd (no-other _ _ (written (c .before .before .before)) (c .match .keys2))
+
+size : (c : tie.After-known-told) → c .before .e .given .0 .0 ≡ length (encoded (a (c .before .before .before .before .before) .args .value))
+size c = ap sizeOf (sym (c .before .e .given .1) ∙ written (c .before .before .before .before .before))
+
+add-result-2 : tie.Need-add-result-2
+add-result-2 c = omega (arith, size c, fits (c .before .before .before .before .before))
+
+same-length-3 : tie.Need-same-length-3
+same-length-3 c = search needs
+
+returns-3 : tie.Need-returns-3
+returns-3 c =
+    let d = c .before .before .before .before .before in
+    let out = now (a d .args .out) in
+    rw (size c, its d) (refl, d .encode .ensures .1 ∙ ap (λ (e : Encoding). leftBy e (a d .args .value) (a d .args .at) out) (written d) ∙ sym (sets-eq (encoded (a d .args .value)) out (a d .args .at) (fits d)))
+
+pub put-piece-spec : {M : Type 1} → statement M
+put-piece-spec =
+    tie.close
+    (tie.spec
+    gives-byte-requires
+    cast-out
+    slice-write-out
+    add-result
+    same-length
+    returns
+    encode-requires
+    enum-known-e
+    same-length-2
+    returns-2
+    add-result-2
+    same-length-3
+    returns-3)

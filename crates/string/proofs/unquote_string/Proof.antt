@@ -1,0 +1,167 @@
+-- What is refused is refused first, with nothing written; then what the literal comes to decides, and the room.
+use Prim.Native.Nat.{ℕ, _≤_}
+use native.Mathlib.Nat.{zero-add}
+use native.Mathlib.Omega.{arith}
+use mathlib.Core.List.{List}
+use mathlib.Core.Path.{_≡_, refl, sym, ap, _∙_}
+use lib.ListN.{length}
+use lib.Seq.{sets, sets-eq}
+use denote.Ref.{now}
+use borrow.Author.Tests.{le-leb, lt-leb}
+use Rattle.utf8.specs.declared.Admission.the-variants as admission
+use Rattle.utf8.specs.declared.Reading.{Reading}
+use Rattle.utf8.specs.Text.{WellFormed}
+use Rattle.utf8.specs.Answers.{textLimit, admitted}
+use Rattle.utf8.proofs.Given.{admitted-text}
+use Rattle.string.specs.declared.Extent.{Extent}
+use Rattle.string.specs.declared.Extent.the-variants as extent
+use Rattle.string.specs.declared.Unquoting.the-variants.{Inner, Written, Refused}
+use Rattle.string.specs.Literal.{unquoted, extentOf, unquotingBy, unquotingOf}
+use Rattle.string.proofs.Literals as literals
+use borrow.Author.Needs.{needs}
+use Rattle.string.proofs.unquote_string.Statement.{statement}
+use Rattle.string.proofs.unquote_string.Tie as tie
+
+admit-requires : tie.Need-admit-requires
+admit-requires c κs = search needs
+
+enum-known-a : tie.Need-enum-known-a
+enum-known-a c = search needs
+
+returns : tie.Need-returns
+returns c =
+    let a = c .before .before .before .before .before .before .args in
+    (literals.refused-first (a .reading) (length (now (a .text))) (now (a .literal)) _ (sym (c .before .before .before .admit .ensures) ∙ c .before .a .given .1), refl)
+
+enum-told : tie.Need-enum-told
+enum-told c = search needs
+
+extent-of-requires : tie.Need-extent-of-requires
+extent-of-requires c κs = admitted-text textLimit (now (c .before .before .before .before .before .args .literal)) _ (sym (c .before .before .admit .ensures) ∙ c .enum-told .given .1) .1
+
+-- what is known of a literal that was admitted
+module _ (c : tie.After-extent-of) where
+  abbrev a : tie.Start
+  a = c .before .before .before .before .before .before
+
+  abbrev xs : List ℕ
+  xs = now (a .args .literal)
+
+  abbrev reads : Reading
+  reads = a .args .reading
+
+  abbrev room : ℕ
+  room = length (now (a .args .text))
+
+  taken : admitted textLimit xs ≡ admission.Admitted (c .before .enum-told .given .0 .0)
+  taken = sym (c .before .before .before .admit .ensures) ∙ c .before .enum-told .given .1
+
+  answer : (e : Extent) → c .extent-of .result ≡ e → unquotingBy room e ≡ unquotingOf reads room xs
+  answer e g = literals.by-extent reads room xs _ e taken (sym (c .extent-of .ensures) ∙ g)
+
+enum-known-e : tie.Need-enum-known-e
+enum-known-e c = search needs
+
+enum-known-e-2 : tie.Need-enum-known-e-2
+enum-known-e-2 c = search needs
+
+at-start-requires : tie.Need-at-start-requires
+at-start-requires c κs = search needs
+
+returns-2 : tie.Need-returns-2
+returns-2 c =
+    let d = c .before .before .before .before .before in
+    (ap Refused (c .at-start .ensures) ∙ literals.too-small (reads d) (room d) (xs d) _ _ (taken d) (sym (d .extent-of .ensures) ∙ c .before .before .before .e2 .given .1) (c .before .if1 .taken), refl)
+
+-- a text to be written
+module _ (c : tie.Else1) where
+  abbrev d : tie.After-extent-of
+  d = c .before .before .before .before
+
+  abbrev n : ℕ
+  n = c .before .before .e2 .given .0 .0
+
+  extent-is : extentOf (reads d) (xs d) ≡ extent.Text n
+  extent-is = sym (d .extent-of .ensures) ∙ c .before .before .e2 .given .1
+
+  text : (literals.Sound (xs d)) × (n ≡ length (unquoted (reads d) (xs d)))
+  text = literals.text-told (reads d) (xs d) n extent-is
+
+  two : 2 ≤ length (xs d)
+  two = literals.two (xs d) (text .0 .enclosed)
+
+sub-end : tie.Need-sub-end
+sub-end c = omega (arith, two c)
+
+sub-write-pieces : tie.Need-sub-write-pieces
+sub-write-pieces c = omega (arith, two c)
+
+part-write-pieces-start : tie.Need-part-write-pieces-start
+part-write-pieces-start c = omega (arith, two c)
+
+part-write-pieces-end : tie.Need-part-write-pieces-end
+part-write-pieces-end c = search needs
+
+shared-slice-read-write-pieces : tie.Need-shared-slice-read-write-pieces
+shared-slice-read-write-pieces c = omega (arith, two (c .before .before))
+
+write-pieces-requires : tie.Need-write-pieces-requires
+write-pieces-requires c κs =
+    let b = c .before .before .before in
+    let s = text b .0 in
+    rw (literals.sign-is (xs (d b)) (s .enclosed), literals.cut-is (xs (d b)) (s .enclosed))
+    ((literals.sign-ascii (xs (d b)) (s .enclosed), s .good), omega (arith, text b .1))
+
+enum-told-2 : tie.Need-enum-told-2
+enum-told-2 c = search needs
+
+at-start-requires-2 : tie.Need-at-start-requires-2
+at-start-requires-2 c κs = search needs
+
+returns-3 : tie.Need-returns-3
+returns-3 c = (answer (c .before .before .before) _ (c .before .e .given .1), refl)
+
+same-length : tie.Need-same-length
+same-length c = search needs
+
+returns-4 : tie.Need-returns-4
+returns-4 c =
+    let b = c .before .before .before .before .before .before in
+    let e = d b in
+    let s = text b .0 in
+    let out = now (a e .args .text) in (
+      literals.fitted (reads e) (room e) (xs e) _ (n b) (taken e) (extent-is b) (omega arith),
+      c .before .before .write-pieces .ensures
+          ∙ rw (literals.sign-is (xs e) (s .enclosed), literals.cut-is (xs e) (s .enclosed))
+          (sets-eq (unquoted (reads e) (xs e)) out 0 (omega (arith, text b .1)) ∙ rw (zero-add, ← text b .1)),
+    )
+
+returns-5 : tie.Need-returns-5
+returns-5 c =
+    (ap Refused (c .at-start2 .ensures) ∙ answer (c .before .before .before) extent.Bad (c .before .enum-told2 .given .1), refl)
+
+pub unquote-string-spec : {M : Type 1} → statement M
+unquote-string-spec =
+    tie.close
+    (tie.spec
+    admit-requires
+    enum-known-a
+    returns
+    enum-told
+    extent-of-requires
+    enum-known-e
+    enum-known-e-2
+    at-start-requires
+    returns-2
+    sub-end
+    sub-write-pieces
+    part-write-pieces-start
+    part-write-pieces-end
+    shared-slice-read-write-pieces
+    write-pieces-requires
+    enum-told-2
+    at-start-requires-2
+    returns-3
+    same-length
+    returns-4
+    returns-5)

@@ -1,0 +1,170 @@
+-- The invariant: with what the tiles from here on give written from `at` on, the buffer is as with what all of them give written from its
+-- front; that fits, and none of them is bad.
+use Prim.Native.Nat.{ℕ, _+_, _-_, _<_, _≤_}
+use native.Mathlib.Omega.{arith}
+use mathlib.Core.Bool.{false, true≢false}
+use mathlib.Core.List.{List, _++_}
+use mathlib.Core.Path.{_≡_, refl, sym, ap, _∙_}
+use lib.ListN.{length, drop, length-append}
+use lib.Seq.{sets}
+use denote.Ref.{now}
+use borrow.Author.Needs.{needs}
+use Rattle.utf8.specs.declared.Reading.{Reading}
+use Rattle.utf8.proofs.Chars.{rest-of}
+use Rattle.tile.specs.declared.Form.{Form}
+use Rattle.tile.specs.declared.Tile.the-variants.{Piece}
+use Rattle.tile.specs.Tile.{tileOf}
+use Rattle.tile.specs.Laws.{Fair}
+use Rattle.string.specs.Tiles.{tilesOf, hasBad, pieceBytes, bytesOf}
+use Rattle.string.proofs.Escapes.{sets-join}
+use Rattle.string.proofs.Contents as contents
+use Rattle.string.proofs.write_pieces.Statement.{statement}
+use Rattle.string.proofs.write_pieces.Tie as tie
+
+abbrev Inv-loop : tie.InvT-loop
+Inv-loop inner sign reading out₀ at₀ from₀ out at from =
+    let rest = bytesOf reading (tilesOf sign (drop from inner)) in
+    (from ≤ length inner) × (length out ≡ length out₀) × (hasBad (tilesOf sign (drop from inner)) ≡ false) × (at + length rest ≤ length out) × (sets out₀ 0 (bytesOf reading (tilesOf sign inner)) ≡ sets out at rest)
+
+abbrev μ-loop : tie.MeasureT-loop
+μ-loop inner sign reading out₀ at₀ from₀ out at from = length inner - from
+
+loop-holds : tie.Need-loop-holds Inv-loop μ-loop
+loop-holds c = (omega arith, refl, c .before .before .pre .0 .1, omega (arith, c .before .before .pre .1), refl)
+
+sub-unquote-char : tie.Need-sub-unquote-char Inv-loop μ-loop
+sub-unquote-char c = search needs
+
+part-unquote-char-start : tie.Need-part-unquote-char-start Inv-loop μ-loop
+part-unquote-char-start c = search needs
+
+part-unquote-char-end : tie.Need-part-unquote-char-end Inv-loop μ-loop
+part-unquote-char-end c = search needs
+
+unquote-char-requires : tie.Need-unquote-char-requires Inv-loop μ-loop
+unquote-char-requires c κs = tt
+
+enum-known-t : tie.Need-enum-known-t Inv-loop μ-loop
+enum-known-t c = search needs
+
+enum-told : tie.Need-enum-told Inv-loop μ-loop
+enum-told c = search needs
+
+-- what is known after the call: the tile that stands here, which is not bad
+module _ (c : tie.After-unquote-char Inv-loop μ-loop) where
+  abbrev a : tie.Start Inv-loop μ-loop
+  a = c .before .before .before .before .before .before
+
+  abbrev q : ℕ
+  q = a .args .sign
+
+  abbrev ys : List ℕ
+  ys = now (a .args .inner)
+
+  abbrev place : ℕ
+  place = c .before .before .before .loop .from
+
+  ascii : q < 0x80
+  ascii = a .pre .0 .0
+
+  inside : place < length ys
+  inside = c .before .before .loop-test .taken
+
+  here : c .unquote-char .result ≡ tileOf q (drop place ys)
+  here = c .unquote-char .ensures ∙ ap (tileOf q) (rest-of ys place)
+
+never : (c : tie.After-enum-told Inv-loop μ-loop) → ⊥
+never c =
+    let d = c .before .before in
+    true≢false (sym (contents.bad-here (q d) (ascii d) (ys d) (place d) (inside d) (sym (here d) ∙ c .enum-told .given .1)) ∙ d .before .before .before .loop .inv .2)
+
+same-length : tie.Need-same-length Inv-loop μ-loop
+same-length c = absurd (never c)
+
+returns : tie.Need-returns Inv-loop μ-loop
+returns c = absurd (never c)
+
+-- and what it has
+module _ (c : tie.After-known-told Inv-loop μ-loop) where
+  abbrev d : tie.After-unquote-char Inv-loop μ-loop
+  d = c .before .before .before
+
+  abbrev form : Form
+  form = c .before .t .given .0 .0
+
+  abbrev value : ℕ
+  value = c .before .t .given .0 .1 .0
+
+  abbrev size : ℕ
+  size = c .before .t .given .0 .1 .1 .0
+
+  abbrev given : List ℕ
+  given = pieceBytes (a d .args .reading) form value
+
+  abbrev behind : List ℕ
+  behind = bytesOf (a d .args .reading) (tilesOf (q d) (drop (place d + size) (ys d)))
+
+  piece : tileOf (q d) (drop (place d) (ys d)) ≡ Piece form value size
+  piece = sym (here d) ∙ c .before .t .given .1
+
+  fair : Fair (length (ys d) - place d) form value size
+  fair = contents.fair (q d) (ascii d) (ys d) (place d) (inside d) form value size piece
+
+  bytes : bytesOf (a d .args .reading) (tilesOf (q d) (drop (place d) (ys d))) ≡ given ++ behind
+  bytes = contents.bytes-here (q d) (ascii d) (ys d) (place d) (inside d) form value size piece (a d .args .reading)
+
+  long : length (bytesOf (a d .args .reading) (tilesOf (q d) (drop (place d) (ys d)))) ≡ length given + length behind
+  long = ap length bytes ∙ length-append given behind
+
+put-piece-requires : tie.Need-put-piece-requires Inv-loop μ-loop
+put-piece-requires c κs = let e = c .before in (fair e .allowed, omega (arith, long e, d e .before .before .before .loop .inv .3))
+
+add-from : tie.Need-add-from Inv-loop μ-loop
+add-from c = omega (arith, fair (c .before .before .before .before) .within)
+
+loop-less : tie.Need-loop-less Inv-loop μ-loop
+loop-less c = let e = c .before .before .before .before in omega (arith, fair e .within, fair e .some)
+
+loop-again : tie.Need-loop-again Inv-loop μ-loop
+loop-again c =
+    let e = c .before .before .before .before in
+    let p = c .before .before .put-piece in
+    let inv = d e .before .before .before .loop .inv in
+    let b = contents.bad-behind (q (d e)) (ascii (d e)) (ys (d e)) (place (d e)) (inside (d e)) (form e) (value e) (size e) (piece e) in (
+      omega (arith, fair e .within),
+      omega (arith, p .kept, inv .1),
+      sym b ∙ inv .2,
+      omega (arith, long e, p .kept, p .ensures .0, inv .3),
+      inv .4 ∙ rw (bytes e, sets-join, p .ensures .1, p .ensures .0),
+    )
+
+same-length-2 : tie.Need-same-length-2 Inv-loop μ-loop
+same-length-2 c = c .before .loop .inv .1
+
+returns-2 : tie.Need-returns-2 Inv-loop μ-loop
+returns-2 c =
+    let a = c .before .before .before .before .args in
+    let l = c .before .loop in
+    sym (l .inv .4 ∙ rw (contents.bytes-over (a .sign) (now (a .inner)) (l .from) (c .loop-test .left) (a .reading)))
+
+pub write-pieces-spec : {M : Type 1} → statement M
+write-pieces-spec =
+    tie.close
+    (tie.spec
+    Inv-loop
+    μ-loop
+    loop-holds
+    sub-unquote-char
+    part-unquote-char-start
+    part-unquote-char-end
+    unquote-char-requires
+    enum-known-t
+    enum-told
+    same-length
+    returns
+    put-piece-requires
+    add-from
+    loop-less
+    loop-again
+    same-length-2
+    returns-2)

@@ -1,0 +1,101 @@
+-- Reading a string literal: document 01, "String literals (003)". The tests stand in the order in which a literal is found bad.
+use Prim.Native.Nat.{ℕ, suc, _-_}
+use Prim.Native.Char.{code}
+use mathlib.Core.Bool.{Bool, true, false, cond, _&&_, _||_, not}
+use mathlib.Core.List.{List, [], _∷_, _++_}
+use lib.Dec.{eqb, leb, ltb}
+use lib.ListN.{length, take, drop}
+use Rattle.scan.specs.Byte.{peekAt}
+use Rattle.utf8.specs.declared.Admission.{Admission}
+use Rattle.utf8.specs.declared.Admission.the-variants as admission
+use Rattle.utf8.specs.declared.Reading.{Reading}
+use Rattle.utf8.specs.declared.Refusal.{Refusal}
+use Rattle.utf8.specs.Answers.{textLimit, atStart, noRoom, admitted}
+use Rattle.tile.specs.Tile.{backslash, backquote}
+use Rattle.string.specs.declared.Extent.{Extent}
+use Rattle.string.specs.declared.Extent.the-variants as extent
+use Rattle.string.specs.declared.Unquoting.{Unquoting}
+use Rattle.string.specs.declared.Unquoting.the-variants.{Inner, Written, Refused}
+use Rattle.string.specs.Tiles.{tilesOf, hasBad, bytesOf}
+
+abbrev pub doubleQuote : ℕ
+doubleQuote = code "\""
+
+abbrev pub singleQuote : ℕ
+singleQuote = code "'"
+
+abbrev pub lineFeed : ℕ
+lineFeed = code "\n"
+
+unfoldable pub isQuote : ℕ → Bool
+isQuote c = eqb c doubleQuote || (eqb c singleQuote || eqb c backquote)
+
+-- the literal's sign, and what stands between it and the last byte
+abbrev pub signOf : List ℕ → ℕ
+signOf xs = peekAt xs 0
+
+abbrev pub innerOf : List ℕ → List ℕ
+innerOf xs = take (length xs - 2) (drop 1 xs)
+
+-- "At least two bytes, first byte equal to last and a quote sign."
+unfoldable pub isEnclosed : List ℕ → Bool
+isEnclosed xs = leb 2 (length xs) && (eqb (peekAt xs (length xs - 1)) (signOf xs) && isQuote (signOf xs))
+
+unfoldable pub has : ℕ → List ℕ → Bool
+has c [] = false
+has c (x ∷ xs) = eqb x c || has c xs
+
+-- "Backquotes: content taken as it is .. Else: no LF in it"
+unfoldable pub isBroken : ℕ → List ℕ → Bool
+isBroken q ys = not (eqb q backquote) && has lineFeed ys
+
+abbrev pub isBadLiteral : List ℕ → Bool
+isBadLiteral xs =
+    not (isEnclosed xs)
+    || (isBroken (signOf xs) (innerOf xs)
+    || hasBad (tilesOf (signOf xs) (innerOf xs)))
+
+-- "A literal with no escape": a backquoted one, or one without a backslash
+unfoldable pub hasEscape : ℕ → List ℕ → Bool
+hasEscape q ys = not (eqb q backquote) && has backslash ys
+
+-- the text that a literal stands for
+abbrev pub unquoted : Reading → List ℕ → List ℕ
+unquoted r xs = bytesOf r (tilesOf (signOf xs) (innerOf xs))
+
+-- "handed back as that part of the literal itself, otherwise as the first bytes of the text buffer"
+unfoldable pub extentOf : Reading → List ℕ → Extent
+extentOf r xs =
+    cond (isBadLiteral xs) extent.Bad
+    (cond (hasEscape (signOf xs) (innerOf xs)) (extent.Text (length (unquoted r xs)))
+    (extent.Inner (length (innerOf xs))))
+
+-- 40 "bad literal", without a place
+abbrev pub badLiteral : Refusal
+badLiteral = atStart 40
+
+-- "only then can 3 occur"
+abbrev pub unquotingBy : ℕ → Extent → Unquoting
+unquotingBy room (extent.Inner n) = Inner n
+unquotingBy room (extent.Text n) = cond (leb n room) (Written n) (Refused noRoom)
+unquotingBy room extent.Bad = Refused badLiteral
+
+abbrev pub unquotingAs : Reading → ℕ → List ℕ → Admission → Unquoting
+unquotingAs r room xs (admission.Admitted n) = unquotingBy room (extentOf r xs)
+unquotingAs r room xs (admission.Refused s) = Refused s
+
+-- refusals 1 and 2, 40, then 3
+unfoldable pub unquotingOf : Reading → ℕ → List ℕ → Unquoting
+unquotingOf r room xs = unquotingAs r room xs (admitted textLimit xs)
+
+-- what the buffer holds then
+abbrev pub textBy : Unquoting → List ℕ → List ℕ → List ℕ
+textBy (Inner n) ys d = d
+textBy (Written n) ys d = ys ++ drop n d
+textBy (Refused s) ys d = d
+
+-- the part that an answer names, of a literal or of a text buffer; none where it is refused, or names more than there is
+unfoldable pub partOf : Unquoting → List ℕ → List ℕ → List ℕ
+partOf (Inner n) xs d = cond (ltb n (length xs)) (take n (drop 1 xs)) []
+partOf (Written n) xs d = cond (leb n (length d)) (take n d) []
+partOf (Refused s) xs d = []

@@ -1,0 +1,105 @@
+-- Every tile is fair: a character is by what `utf8` says of one; a letter has one byte; and an escape by digits has as many bytes as digits
+-- were read, and the letter before them, which makes four at least, where no code point has more.
+use Prim.Native.Nat.{ℕ, suc, _+_, _<_, _≤_}
+use native.Mathlib.Omega.{arith}
+use native.Mathlib.Decide.{decLt}
+use mathlib.Core.Bool.{true, not}
+use mathlib.Core.List.{List}
+use mathlib.Core.Path.{_≡_, refl, ap, _∙_}
+use lib.Dec.{eqb, leb, ltb}
+use lib.ListN.{length, take, List·getD-eq-default}
+use lib.Seq.{length-take-le}
+use borrow.Author.Tests.{le-leb, lt-ltb, eqb-false, ne-eqb, not-true}
+use Rattle.scan.specs.Byte.{end, peekAt}
+use Rattle.scan.proofs.Choice.{either}
+use Rattle.utf8.specs.Table.{charLength}
+use Rattle.utf8.specs.Code.{codeOf, isScalar, encoded}
+use Rattle.utf8.specs.declared.Character.{Character}
+use Rattle.utf8.specs.Answers.{characterAt}
+use Rattle.utf8.proofs.Chars.{char-bound}
+use Rattle.utf8.proofs.Ascii.{ascii-bytes}
+use Rattle.utf8.proofs.Bounds.{encoded-bound}
+use Rattle.utf8.proofs.Inverse.{decode-encode}
+use Rattle.tile.specs.declared.Form.{Form}
+use Rattle.tile.specs.declared.Form.the-variants.{Plain, Letter, Hex, Octal, Point}
+use Rattle.tile.specs.declared.Numeral.{Numeral}
+use Rattle.tile.specs.declared.Numeral.the-variants.{Value, NotDigits}
+use Rattle.tile.specs.declared.Tile.{Tile}
+use Rattle.tile.specs.Tile.{noValue, letterValue, numeralFrom, isAllowed, numberedAs, numbered, escapeOf, beginsEscape, plainOf, tileOf}
+use Rattle.tile.specs.Laws.{Fair, FairTile, EachFair}
+use Rattle.tile.proofs.Digits.{digits-within}
+
+module _ (xs : List ℕ) where
+  abbrev n : ℕ
+  n = charLength xs
+
+  character-fair : (n ≡ 0 → ⊥) → Fair (length xs) Plain (codeOf n xs) n
+  character-fair z =
+      let d = decode-encode xs (omega arith) in
+      let t = ap length (d .1) ∙ length-take-le n xs (char-bound xs) in
+      record { some = omega arith; within = char-bound xs; allowed = unfold isAllowed in d .0; few = omega (arith, t) }
+
+  plain-fair : FairTile (length xs) (plainOf (characterAt xs 0))
+  unfolding characterAt
+  plain-fair =
+      let P : Character → Type 0 = λ a. FairTile (length xs) (plainOf a) in
+      either P (leb (length xs) 0) (λ e. tt)
+      (λ e. either P (eqb n 0) (λ t. tt) (λ t. character-fair (eqb-false n 0 t)))
+
+ascii-allowed : (v : ℕ) → v < 0x80 → isAllowed Letter v ≡ true
+unfolding isAllowed isScalar
+ascii-allowed v l = rw (le-leb v 0x10ffff (omega arith), lt-ltb v 0xd800 (omega arith))
+
+module _ (q : ℕ) (h : q < 0x80) where
+  letter-ascii : (c : ℕ) → letterValue q c < 0x80
+  unfolding letterValue
+  letter-ascii c =
+      let P : ℕ → Type 0 = λ v. v < 0x80 in
+      either P (eqb c q) (λ e. h)
+      (λ e. either P (eqb c 97) (λ e. omega arith)
+      (λ e. either P (eqb c 98) (λ e. omega arith)
+      (λ e. either P (eqb c 102) (λ e. omega arith)
+      (λ e. either P (eqb c 110) (λ e. omega arith)
+      (λ e. either P (eqb c 114) (λ e. omega arith)
+      (λ e. either P (eqb c 116) (λ e. omega arith)
+      (λ e. either P (eqb c 118) (λ e. omega arith)
+      (λ e. either P (eqb c 92) (λ e. omega arith) (λ e. omega arith)))))))))
+
+  no-letter : letterValue q end ≡ noValue
+  unfolding letterValue
+  no-letter = rw (ne-eqb end q (λ e. omega arith))
+
+  letter-fair : (xs : List ℕ) → (letterValue q (peekAt xs 1) ≡ noValue → ⊥) → Fair (length xs) Letter (letterValue q (peekAt xs 1)) 2
+  letter-fair xs n =
+      let v = letterValue q (peekAt xs 1) in
+      let l = letter-ascii (peekAt xs 1) in
+      record { some = omega arith; within = inside (decLt 1 (length xs)); allowed = ascii-allowed v l; few = omega (arith, ap length (ascii-bytes v l)) }
+    where
+      inside : Dec (1 < length xs) → 2 ≤ length xs
+      inside (yes l) = omega arith
+      inside (no l) = absurd (n (ap (letterValue q) (List·getD-eq-default xs end (omega arith)) ∙ no-letter))
+
+numbered-fair : (f : Form) (radix at n : ℕ) (xs : List ℕ) → 4 ≤ at + suc n → FairTile (length xs) (numbered f radix at (suc n) xs)
+unfolding numbered
+numbered-fair f radix at n xs h = go (numeralFrom radix 0 (suc n) at xs) refl
+  where
+    go : (m : Numeral) → numeralFrom radix 0 (suc n) at xs ≡ m → FairTile (length xs) (numberedAs f (at + suc n) m)
+    go (Value v) e =
+        either (FairTile (length xs)) (isAllowed f v)
+        (λ t. record { some = omega arith; within = digits-within radix xs n 0 at v e; allowed = t; few = omega (arith, encoded-bound v) })
+        (λ t. tt)
+    go NotDigits e = tt
+
+pub each-fair : EachFair
+unfolding tileOf escapeOf
+each-fair q xs h =
+    let P : Tile → Type 0 = FairTile (length xs) in
+    let c = peekAt xs 1 in
+    either P (eqb (peekAt xs 0) q) (λ e. tt)
+    (λ e. either P (beginsEscape q (peekAt xs 0))
+    (λ e. either P (not (eqb (letterValue q c) noValue)) (λ e. letter-fair q h xs (eqb-false (letterValue q c) noValue (not-true (eqb (letterValue q c) noValue) e)))
+    (λ e. either P (eqb c 120) (λ e. numbered-fair Hex 16 2 1 xs (omega arith))
+    (λ e. either P (eqb c 117) (λ e. numbered-fair Point 16 2 3 xs (omega arith))
+    (λ e. either P (eqb c 85) (λ e. numbered-fair Point 16 2 7 xs (omega arith))
+    (λ e. numbered-fair Octal 8 1 2 xs (omega arith))))))
+    (λ e. plain-fair xs))

@@ -1,0 +1,127 @@
+-- The byte behind the backslash decides, as in the definition; where there is none, what stands there is no digit either.
+use Prim.Native.Nat.{ℕ, _<_, _≤_}
+use native.Mathlib.Omega.{arith}
+use mathlib.Core.Bool.{Bool, true, false, not}
+use mathlib.Core.List.{List}
+use mathlib.Core.Path.{_≡_, sym, ap, _∙_}
+use lib.Dec.{eqb}
+use lib.ListN.{length, getD, List·getD-eq-default}
+use denote.Ref.{now}
+use borrow.Author.Tests.{eq-eqb, ne-eqb}
+use Rattle.scan.specs.Byte.{end, peekAt, isWithin, isHexDigit}
+use Rattle.scan.proofs.Classes.{getD-any}
+use Rattle.tile.specs.declared.Form.the-variants.{Letter, Hex, Octal, Point}
+use Rattle.tile.specs.declared.Tile.the-variants.{Piece, Bad}
+use Rattle.tile.specs.Tile.{noValue, letterValue, isDigitIn, numeralFrom, numbered, escapeOf}
+use borrow.Author.Needs.{needs}
+use Rattle.tile.proofs.escape.Statement.{statement}
+use Rattle.tile.proofs.escape.Tie as tie
+
+module _ (q : ℕ) (xs : List ℕ) where
+  none : q < end → length xs ≤ 1 → Bad ≡ escapeOf q xs
+  unfolding escapeOf letterValue numbered numeralFrom isDigitIn isHexDigit isWithin
+  none h l = rw (List·getD-eq-default xs end l, ne-eqb end q (λ e. omega arith))
+
+  abbrev second : ℕ
+  second = peekAt xs 1
+
+  letter : (letterValue q second ≡ noValue → ⊥) → Piece Letter (letterValue q second) 2 ≡ escapeOf q xs
+  unfolding escapeOf
+  letter n = rw (ne-eqb (letterValue q second) noValue n)
+
+  module _ (v : letterValue q second ≡ noValue) where
+    hex : second ≡ 120 → numbered Hex 16 2 2 xs ≡ escapeOf q xs
+    unfolding escapeOf
+    hex e = rw (v, e)
+
+    short : second ≡ 117 → numbered Point 16 2 4 xs ≡ escapeOf q xs
+    unfolding escapeOf
+    short e = rw (v, e)
+
+    long : second ≡ 85 → numbered Point 16 2 8 xs ≡ escapeOf q xs
+    unfolding escapeOf
+    long e = rw (v, e)
+
+    octal : (second ≡ 120 → ⊥) → (second ≡ 117 → ⊥) → (second ≡ 85 → ⊥) → numbered Octal 8 1 3 xs ≡ escapeOf q xs
+    unfolding escapeOf
+    octal x u l = rw (v, ne-eqb second 120 x, ne-eqb second 117 u, ne-eqb second 85 l)
+
+returns : tie.Need-returns
+returns c = none (c .before .before .args .quote) (now (c .before .before .args .s)) (omega arith) (c .if1 .taken)
+
+-- the byte that was read
+module _ (c : tie.After-letter-value) where
+  abbrev q : ℕ
+  q = c .before .before .before .before .args .quote
+
+  abbrev xs : List ℕ
+  xs = now (c .before .before .before .before .args .s)
+
+  read : getD xs 1 0 ≡ peekAt xs 1
+  read = getD-any xs 1 0 end (omega arith)
+
+  value : c .letter-value .result ≡ letterValue q (peekAt xs 1)
+  value = c .letter-value .ensures ∙ ap (letterValue q) read
+
+shared-slice-read-c : tie.Need-shared-slice-read-c
+shared-slice-read-c c = search needs
+
+letter-value-requires : tie.Need-letter-value-requires
+letter-value-requires c κs = search needs
+
+returns-2 : tie.Need-returns-2
+returns-2 c = rw (value (c .before)) (letter (q (c .before)) (xs (c .before)) (λ e. c .if2 .taken (value (c .before) ∙ e)))
+
+numbered-requires : tie.Need-numbered-requires
+numbered-requires c κs = search needs
+
+numbered-requires-2 : tie.Need-numbered-requires-2
+numbered-requires-2 c κs = search needs
+
+numbered-requires-3 : tie.Need-numbered-requires-3
+numbered-requires-3 c κs = search needs
+
+numbered-requires-4 : tie.Need-numbered-requires-4
+numbered-requires-4 c κs = search needs
+
+unlettered : (c : tie.Else2) → letterValue (q (c .before)) (peekAt (xs (c .before)) 1) ≡ noValue
+unlettered c = sym (value (c .before)) ∙ omega (arith, c .if2 .left)
+
+returns-3 : tie.Need-returns-3
+returns-3 c =
+    let d = c .before .before in
+    c .numbered .ensures ∙ hex (q (d .before)) (xs (d .before)) (unlettered d) (sym (read (d .before)) ∙ c .before .match .keys1)
+
+returns-4 : tie.Need-returns-4
+returns-4 c =
+    let d = c .before .before in
+    c .numbered2 .ensures ∙ short (q (d .before)) (xs (d .before)) (unlettered d) (sym (read (d .before)) ∙ c .before .match .keys2)
+
+returns-5 : tie.Need-returns-5
+returns-5 c =
+    let d = c .before .before in
+    c .numbered3 .ensures ∙ long (q (d .before)) (xs (d .before)) (unlettered d) (sym (read (d .before)) ∙ c .before .match .keys3)
+
+returns-6 : tie.Need-returns-6
+returns-6 c =
+    let d = c .before .before in
+    let r = c .before .match .rest in
+    let e = read (d .before) in
+    c .numbered4 .ensures ∙ octal (q (d .before)) (xs (d .before)) (unlettered d) (λ x. r .0 .0 .1 (e ∙ x)) (λ x. r .0 .1 (e ∙ x)) (λ x. r .1 (e ∙ x))
+
+pub escape-spec : {M : Type 1} → statement M
+escape-spec =
+    tie.close
+    (tie.spec
+    returns
+    shared-slice-read-c
+    letter-value-requires
+    returns-2
+    numbered-requires
+    numbered-requires-2
+    numbered-requires-3
+    numbered-requires-4
+    returns-3
+    returns-4
+    returns-5
+    returns-6)

@@ -1,0 +1,22 @@
+-- Each way out knows what the two tests said.
+use borrow.Author.Needs.{needs}
+use Rattle.tile.specs.Tile.{isDigitIn}
+use Rattle.tile.proofs.is_digit_in.Statement.{statement}
+use Rattle.tile.proofs.is_digit_in.Tie as tie
+
+is-hex-digit-requires : tie.Need-is-hex-digit-requires
+is-hex-digit-requires c κs = search needs
+
+digit-of-requires : tie.Need-digit-of-requires
+digit-of-requires c κs = search needs
+
+returns : tie.Need-returns
+unfolding isDigitIn
+returns c = rw (← c .before .before .is-hex-digit .ensures, c .before .if1 .taken, c .digit-of .ensures)
+
+returns-2 : tie.Need-returns-2
+unfolding isDigitIn
+returns-2 c = rw (← c .before .is-hex-digit .ensures, c .if1 .left)
+
+pub is-digit-in-spec : {M : Type 1} → statement M
+is-digit-in-spec = tie.close (tie.spec is-hex-digit-requires digit-of-requires returns returns-2)
