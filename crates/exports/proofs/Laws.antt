@@ -2,9 +2,9 @@
 -- a text's bytes, well below bit 63.
 use Prim.Native.Nat.{ℕ, _*_, _≤_}
 use native.Mathlib.Omega.{arith}
-use mathlib.Core.Bool.{Bool, true, false, cond, _||_}
+use mathlib.Core.Bool.{Bool, true, false, cond, _&&_, _||_, not}
 use mathlib.Core.Path.{_≡_, refl}
-use lib.Dec.{ltb}
+use lib.Dec.{leb, ltb}
 use lib.ListN.{length}
 use borrow.Author.Tests.{le-leb, lt-leb, ltb-false}
 use Rattle.utf8.specs.declared.Refusal.{Refusal}
@@ -16,14 +16,17 @@ use Rattle.utf8.specs.declared.Encoding.{Encoding}
 use Rattle.utf8.specs.declared.Encoding.the-variants.{Written, NotScalar, NoRoom}
 use Rattle.string.specs.declared.Escaping.{Escaping}
 use Rattle.string.specs.declared.Escaping.the-variants as escaping
+use Rattle.string.specs.declared.Unquoting.{Unquoting}
+use Rattle.string.specs.declared.Unquoting.the-variants as unquoting
 use Rattle.string.specs.Escape.{escapingOf}
+use Rattle.string.specs.Literal.{unquotingOf}
 use Rattle.string.proofs.Bounds as bounds
-use Rattle.string.proofs.Bounds.{escaping-bound}
+use Rattle.string.proofs.Bounds.{escaping-bound, unquoting-bound}
 use Rattle.utf8.specs.Answers.{placeAt, textLimit, tooLong, notUtf8, admitted, characterAt, encodingOf}
 use Rattle.exports.specs.Packed.{refusedFrom, packedOf}
-use Rattle.exports.specs.String.{escapeCode}
+use Rattle.exports.specs.String.{escapeCode, innerFrom, unquoteCode}
 use Rattle.exports.specs.Utf8.{validateCode, characterCode, charAtCode, encodeCode}
-use Rattle.exports.specs.Laws.{NothingLost, looksRefused, isRefused, ValidateTold, isIllFormed, CharAtTold, isUnwritten, EncodeTold, isNotEscaped, EscapeTold}
+use Rattle.exports.specs.Laws.{NothingLost, looksRefused, isRefused, ValidateTold, isIllFormed, CharAtTold, isUnwritten, EncodeTold, isNotEscaped, EscapeTold, isUnread, isInner, UnquoteTold}
 use Rattle.utf8.proofs.Bounds.{Bounded, admitted-bound, Within, character-within, AtMostFour, encoding-bound}
 
 pub nothing-lost : NothingLost
@@ -71,3 +74,11 @@ escape-told room xs = go (escapingOf room xs) (escaping-bound room xs)
     go : (e : Escaping) → bounds.Bounded e → looksRefused (escapeCode e) ≡ isNotEscaped e
     go (escaping.Written n) h = small n h
     go (escaping.Refused r) h = packed r
+
+pub unquote-told : UnquoteTold
+unquote-told r room xs = go (unquotingOf r room xs) (unquoting-bound r room xs)
+  where
+    go : (u : Unquoting) → bounds.BoundedText u → (looksRefused (unquoteCode u) ≡ isUnread u) × (not (looksRefused (unquoteCode u)) && leb innerFrom (unquoteCode u) ≡ isInner u)
+    go (unquoting.Inner n) h = rw (lt-leb refusedFrom (unquoteCode (unquoting.Inner n)) (omega arith), le-leb innerFrom (unquoteCode (unquoting.Inner n)) (omega arith)) (refl, refl)
+    go (unquoting.Written n) h = rw (small n (omega arith), lt-leb innerFrom n (omega arith)) (refl, refl)
+    go (unquoting.Refused s) h = rw (packed s) (refl, refl)

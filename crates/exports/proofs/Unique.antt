@@ -21,6 +21,8 @@ use Rattle.exports.proofs.simmerpath_is_label.Kinds as is-label
 use Rattle.exports.proofs.simmerpath_is_label.Reads as is-label-reads
 use Rattle.exports.proofs.simmerpath_escape_string.Kinds as escape-string
 use Rattle.exports.proofs.simmerpath_escape_string.Reads as escape-string-reads
+use Rattle.exports.proofs.simmerpath_unquote_string.Kinds as unquote-string
+use Rattle.exports.proofs.simmerpath_unquote_string.Reads as unquote-string-reads
 
 pub same-simmerpath-utf8-validate : OneAnswer validate.ps validate.r validate-reads.Post
 same-simmerpath-utf8-validate κs a x y e f p q = p ∙ sym q
@@ -60,3 +62,9 @@ same-simmerpath-escape-string κs a x y e f p q = p .0 ∙ sym (q .0)
 
 pub same-simmerpath-escape-string-out : OneContent escape-string.ps escape-string.r escape-string-reads.Post (λ κs e. now (e .1 .0))
 same-simmerpath-escape-string-out κs a x y e f p q = p .1 ∙ sym (q .1)
+
+pub same-simmerpath-unquote-string : OneAnswer unquote-string.ps unquote-string.r unquote-string-reads.Post
+same-simmerpath-unquote-string κs a x y e f p q = p .0 ∙ sym (q .0)
+
+pub same-simmerpath-unquote-string-text : OneContent unquote-string.ps unquote-string.r unquote-string-reads.Post (λ κs e. now (e .1 .1 .0))
+same-simmerpath-unquote-string-text κs a x y e f p q = p .1 ∙ sym (q .1)

@@ -1,6 +1,6 @@
 -- What a caller in C may rely on to read an answer, as statements; `proofs/Laws` has their proofs.
 use Prim.Native.Nat.{ℕ}
-use mathlib.Core.Bool.{Bool, true, false, _||_}
+use mathlib.Core.Bool.{Bool, true, false, _&&_, _||_, not}
 use mathlib.Core.List.{List}
 use mathlib.Core.Path.{_≡_}
 use lib.Dec.{leb, ltb}
@@ -14,10 +14,14 @@ use Rattle.utf8.specs.declared.Encoding.{Encoding}
 use Rattle.utf8.specs.declared.Encoding.the-variants.{Written, NotScalar, NoRoom}
 use Rattle.string.specs.declared.Escaping.{Escaping}
 use Rattle.string.specs.declared.Escaping.the-variants as escaping
+use Rattle.string.specs.declared.Unquoting.{Unquoting}
+use Rattle.string.specs.declared.Unquoting.the-variants as unquoting
 use Rattle.string.specs.Escape.{escapingOf}
+use Rattle.string.specs.Literal.{unquotingOf}
+use Rattle.utf8.specs.declared.Reading.{Reading}
 use Rattle.utf8.specs.Answers.{textLimit, admitted, characterAt, encodingOf}
 use Rattle.exports.specs.Packed.{refusedFrom, packedOf, Packable}
-use Rattle.exports.specs.String.{escapeCode}
+use Rattle.exports.specs.String.{escapeCode, innerFrom, unquoteCode}
 use Rattle.exports.specs.Utf8.{validateCode, charAtCode, encodeCode}
 
 -- packing loses nothing: refusals that are packed alike are one
@@ -55,10 +59,28 @@ isUnwritten NoRoom = true
 abbrev pub EncodeTold : Type 0
 EncodeTold = (c room at : ℕ) → let e = encodingOf c room at in looksRefused (encodeCode e) ≡ isUnwritten e
 
--- and of `escape_string`
+-- of `escape_string`,
 abbrev pub isNotEscaped : Escaping → Bool
 isNotEscaped (escaping.Written n) = false
 isNotEscaped (escaping.Refused r) = true
 
 abbrev pub EscapeTold : Type 0
 EscapeTold = (room : ℕ) (xs : List ℕ) → let e = escapingOf room xs in looksRefused (escapeCode e) ≡ isNotEscaped e
+
+-- and of `unquote_string`, where it takes another answer for a text in the literal itself from bit 32 on
+abbrev pub isUnread : Unquoting → Bool
+isUnread (unquoting.Inner n) = false
+isUnread (unquoting.Written n) = false
+isUnread (unquoting.Refused r) = true
+
+abbrev pub isInner : Unquoting → Bool
+isInner (unquoting.Inner n) = true
+isInner (unquoting.Written n) = false
+isInner (unquoting.Refused r) = false
+
+abbrev pub UnquoteTold : Type 0
+UnquoteTold =
+    (r : Reading) (room : ℕ) (xs : List ℕ) →
+    let u = unquotingOf r room xs in
+    let code = unquoteCode u in
+    (looksRefused code ≡ isUnread u) × (not (looksRefused code) && leb innerFrom code ≡ isInner u)

@@ -1,6 +1,7 @@
 // The C functions over the library: each answers with one number, and writes what else it gives to what is lent.
 // A refusal is packed into the number: bit 63, document 01's number, the byte offset and the character number.
 use string::Escaping;
+use string::Unquoting;
 use token::Display;
 use token::Keyword;
 use utf8::Admission;
@@ -9,18 +10,20 @@ use utf8::CharNumber;
 use utf8::Character;
 use utf8::Encoding;
 use utf8::Place;
+use utf8::Reading;
 use utf8::Refusal;
 ghost use mathlib.Core.Path.{_≡_};
 ghost use Prim.Native.Nat.{_≤_};
 ghost use lib.ListN.{length};
 ghost use Rattle.string.specs.Escape.{escaped, escapingOf, leftBy as escapedBy};
+ghost use Rattle.string.specs.Literal.{unquoted, unquotingOf, textBy};
 ghost use Rattle.token.specs.Display.{displayOf, displayed, leftBy as shownBy};
 ghost use Rattle.token.specs.Words.{keywordOf};
 ghost use Rattle.token.specs.Label.{isLabel};
 ghost use Rattle.utf8.specs.Text.{charNumber};
 ghost use Rattle.utf8.specs.Answers.{textLimit, atStart, admitted, encodingOf, leftBy};
 ghost use Rattle.exports.specs.Packed.{numberLimit, packedOf, Packable};
-ghost use Rattle.exports.specs.String.{escapeCode};
+ghost use Rattle.exports.specs.String.{escapeCode, readingOf, unquoteCode};
 ghost use Rattle.exports.specs.Token.{keywordCode, displayCode, flag, classesCode};
 ghost use Rattle.exports.specs.Utf8.{validateCode, charAtCode, charAtLeft, encodeCode};
 
@@ -32,8 +35,8 @@ const NUMBER_UNIT: u64 = 0x1_0000_0000;
 
 const BYTE_UNIT: u64 = 0x1_0000;
 
-// Document 01's "bad literal", for a code point that is no character's.
-const BAD_LITERAL: usize = 40;
+// Bit 32: a text stands in the literal itself.
+const INNER: u64 = 0x1_0000_0000;
 
 // No kind has this number: a word that has none of its own is answered with it.
 const NO_KIND: u64 = 0x1_0000;
@@ -121,7 +124,7 @@ pub extern "C" fn simmerpath_utf8_char_at(text: &[u8], at: usize, code: &mut u32
     }
 }
 
-// How many bytes of a code point were written at an offset of a lent buffer, or refusal 40 or 3.
+// How many bytes of a code point were written at an offset of a lent buffer, or refusal 40, where it is no character's, or 3.
 #[no_mangle]
 pub extern "C" fn simmerpath_utf8_encode(code: u32, out: &mut [u8], at: usize) -> u64
     ensures { λ r. ⌜ r ≡ encodeCode (encodingOf code (length (now (out .entry))) at) ⌝ }
@@ -130,7 +133,7 @@ pub extern "C" fn simmerpath_utf8_encode(code: u32, out: &mut [u8], at: usize) -
     let e = utf8::encode(code, out, ByteOffset(at));
     match e {
         Encoding::Written(n) => n as u64,
-        Encoding::NotScalar => packed_at_start(BAD_LITERAL),
+        Encoding::NotScalar => packed_at_start(string::BAD_LITERAL),
         Encoding::NoRoom => packed_at_start(utf8::NO_ROOM),
     }
 }
@@ -198,5 +201,31 @@ pub extern "C" fn simmerpath_escape_string(text: &[u8], out: &mut [u8]) -> u64
     match e {
         Escaping::Written(n) => n as u64,
         Escaping::Refused(r) => packed(r),
+    }
+}
+
+// The reading that a number stands for: 0 is the Rust's, and any other the documented one.
+fn reading_of(documented: u32) -> Reading
+    ensures { λ r. ⌜ r ≡ readingOf documented ⌝ }
+{
+    if documented == 0 {
+        Reading::Crate
+    } else {
+        Reading::Documented
+    }
+}
+
+// How many bytes the text of a literal has, which it wrote at the front of a lent buffer, or with bit 32, which stand behind the
+// literal's first byte; or refusal 1, 2, 40 or 3.
+#[no_mangle]
+pub extern "C" fn simmerpath_unquote_string(literal: &[u8], documented: u32, text: &mut [u8]) -> u64
+    ensures { λ r. ⌜ r ≡ unquoteCode (unquotingOf (readingOf documented) (length (now (text .entry))) (now (literal .entry))) ⌝ }
+    ensures { λ _. ⌜ now (text .exit) ≡ textBy (unquotingOf (readingOf documented) (length (now (text .entry))) (now (literal .entry))) (unquoted (readingOf documented) (now (literal .entry))) (now (text .entry)) ⌝ }
+{
+    let u = string::unquote_string(literal, reading_of(documented), text);
+    match u {
+        Unquoting::Inner(n) => INNER + n as u64,
+        Unquoting::Written(n) => n as u64,
+        Unquoting::Refused(r) => packed(r),
     }
 }
