@@ -1,5 +1,6 @@
 pub mod Ways
 pub mod Choice
+pub mod Tests
 pub mod Below
 pub mod Classes
 pub mod Runs

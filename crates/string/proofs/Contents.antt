@@ -4,7 +4,7 @@ use Prim.Native.Nat.{ℕ, zero, suc, pred, _+_, _-_, _<_, _≤_}
 use native.Mathlib.Omega.{arith}
 use mathlib.Core.Bool.{true, false}
 use mathlib.Core.List.{List, [], _∷_, _++_}
-use mathlib.Core.Path.{_≡_, refl, sym, ap, subst, _∙_}
+use mathlib.Core.Path.{_≡_, refl, ap, subst, _∙_}
 use lib.ListN.{length, drop, length-drop, length-append, drop-of-length-le}
 use lib.Seq.{drop-drop}
 use Rattle.scan.proofs.Choice.{either}
@@ -16,7 +16,7 @@ use Rattle.tile.specs.Tile.{tileOf}
 use Rattle.tile.specs.Laws.{Fair, FairTile}
 use Rattle.tile.proofs.Tiles.{each-fair}
 use Rattle.string.specs.declared.Extent.the-variants as extent
-use Rattle.string.specs.Tiles.{sizeOf, tilesPast, tilesOf, isBad, hasBad, givesByte, pieceBytes, tileBytes, bytesOf}
+use Rattle.string.specs.Tiles.{sizeOf, tilesPast, tilesOf, hasBad, givesByte, pieceBytes, tileBytes, bytesOf}
 use Rattle.string.specs.Measure.{measured}
 
 piece-few : (r : Reading) {room : ℕ} {f : Form} {v n : ℕ} → Fair room f v n → length (pieceBytes r f v) ≤ n

@@ -8,27 +8,30 @@ use native.Mathlib.Decide.{decLt}
 use mathlib.Core.Bool.{Bool, true, false, cond}
 use mathlib.Core.List.{List, [], _∷_, _++_, append-assoc, append-nil}
 use mathlib.Core.Path.{_≡_, refl, sym, ap, _∙_}
-use lib.Dec.{eqb}
+use lib.Dec.{eqb, leb}
 use lib.ListN.{length, getD, set, drop}
 use lib.Seq.{take-length, drop-cons, sets, sets-eq}
-use borrow.Author.Tests.{eq-eqb, ne-eqb, le-leb, lt-leb}
+use borrow.Author.Tests.{eq-eqb, ne-eqb, le-leb, lt-leb, lt-ltb}
 use Rattle.scan.specs.Byte.{peekAt}
+use Rattle.scan.proofs.Choice.{either, told}
 use Rattle.utf8.specs.Table.{charLength}
 use Rattle.utf8.specs.Code.{codeOf, encoded}
 use Rattle.utf8.specs.Text.{WellFormed}
 use Rattle.utf8.specs.declared.CharNumber.{CharNumber}
 use Rattle.utf8.specs.declared.Refusal.{Refusal}
+use Rattle.utf8.specs.declared.Admission.{Admission}
 use Rattle.utf8.specs.declared.Admission.the-variants as admission
 use Rattle.utf8.specs.Answers.{textLimit, noRoom, admitted}
 use Rattle.utf8.proofs.Chars.{chars-none}
 use Rattle.utf8.proofs.Texts.{One, chars-one, by-characters}
-use Rattle.utf8.proofs.Laws.{none-empty, rest-well, none-ascii, ascii-code, text-join}
-use Rattle.utf8.proofs.Ascii.{one-ascii}
+use Rattle.utf8.proofs.Laws.{none-empty, rest-well, none-ascii, ascii-code, one-text, text-join}
+use Rattle.utf8.proofs.Ascii.{ascii-text, one-ascii}
 use Rattle.utf8.proofs.Given.{admitted-text}
 use Rattle.utf8.proofs.Inverse.{decode-encode, long-code}
+use Rattle.string.specs.declared.Escaping.{Escaping}
 use Rattle.string.specs.declared.Escaping.the-variants.{Written, Refused}
 use Rattle.tile.specs.Tile.{backslash}
-use Rattle.string.specs.Escape.{noLetter, letterOf, orLetter, escaped, escapingOf, leftBy}
+use Rattle.string.specs.Escape.{noLetter, letterOf, orLetter, escaped, escapingAs, escapingOf, leftBy}
 use Rattle.string.specs.Laws.{EscapeJoin}
 use Rattle.string.specs.Bytes.{escapedByte, escapedBytes}
 
@@ -69,7 +72,7 @@ unfolding letterOf
 high c h =
     rw (ne-eqb c 92 (λ e. omega arith), ne-eqb c 34 (λ e. omega arith), ne-eqb c 10 (λ e. omega arith), ne-eqb c 13 (λ e. omega arith), ne-eqb c 9 (λ e. omega arith))
 
-high-copied : (xs : List ℕ) → ((i : ℕ) → i < length xs → 0x80 ≤ peekAt xs i) → escapedBytes xs ≡ xs
+pub high-copied : (xs : List ℕ) → ((i : ℕ) → i < length xs → 0x80 ≤ peekAt xs i) → escapedBytes xs ≡ xs
 unfolding escapedBytes
 high-copied [] h = refl
 high-copied (x ∷ xs) h =
@@ -120,6 +123,42 @@ pub escape-join : EscapeJoin
 escape-join xs ys w v =
     rw (by-characters-escaped xs w, by-characters-escaped ys v) (by-characters-escaped (xs ++ ys) (text-join xs ys w v) ∙ bytes-join xs ys)
 
+-- an escape is text: of what is copied it is the character, and otherwise two ASCII bytes
+letter-ascii : (b : ℕ) → letterOf b < 0x80
+unfolding letterOf
+letter-ascii b =
+    let P : ℕ → Type 0 = λ l. l < 0x80 in
+    either P (eqb b 92) (λ e. omega arith)
+    (λ e. either P (eqb b 34) (λ e. omega arith)
+    (λ e. either P (eqb b 10) (λ e. omega arith)
+    (λ e. either P (eqb b 13) (λ e. omega arith)
+    (λ e. either P (eqb b 9) (λ e. omega arith) (λ e. omega arith)))))
+
+byte-text : (b : ℕ) → b < 0x80 → WellFormed (escapedByte b)
+unfolding orLetter
+byte-text b l =
+    either WellFormed (eqb (letterOf b) noLetter)
+    (λ e. ascii-text (b ∷ []) (rw (lt-ltb b 0x80 l)) .0)
+    (λ e. ascii-text (backslash ∷ letterOf b ∷ []) (rw (lt-ltb (letterOf b) 0x80 (letter-ascii b))) .0)
+
+one-escaped : (bs : List ℕ) → One bs → WellFormed (escapedBytes bs)
+one-escaped bs o = go bs o (decLt 1 (length bs))
+  where
+    go : (bs : List ℕ) → One bs → Dec (1 < length bs) → WellFormed (escapedBytes bs)
+    go bs o (yes l) = rw (high-copied bs (λ i m. none-ascii bs i (omega (arith, o .whole)) (omega (arith, o .whole)))) (one-text bs o)
+    go [] o (no l) = let f : ⊥ = omega (arith, o .some) in absurd f
+    go (b ∷ []) o (no l) = unfold escapedBytes in rw append-nil (byte-text b (one-ascii b [] (o .whole)))
+    go (b ∷ b₂ ∷ bs) o (no l) = let f : ⊥ = omega arith in absurd f
+
+pub escaped-text : (xs : List ℕ) → WellFormed xs → WellFormed (escaped xs)
+escaped-text xs w = rw (by-characters-escaped xs w) (go xs w)
+  where
+    go : (xs : List ℕ) → WellFormed xs → WellFormed (escapedBytes xs)
+    go =
+        by-characters (λ xs. WellFormed xs → WellFormed (escapedBytes xs))
+        (λ xs e w. rw (none-empty xs e w, none) (ascii-text [] refl .0))
+        (λ bs ys o ih w. rw (bytes-join bs ys) (text-join (escapedBytes bs) (escapedBytes ys) (one-escaped bs o) (ih (rest-well bs ys o w))))
+
 -- the answers, by what is admitted and the room
 module _ (xs d : List ℕ) where
   pub refused-first : (r : Refusal) → admitted textLimit xs ≡ admission.Refused r → Refused r ≡ escapingOf (length d) xs
@@ -140,3 +179,24 @@ module _ (xs d : List ℕ) where
 
     pub left : length (escapedBytes xs) ≤ length d → sets d 0 (escapedBytes xs) ≡ leftBy (Written (length (escapedBytes xs))) (escaped xs) d
     left h = rw by-bytes (sets-eq (escapedBytes xs) d 0 (omega arith) ∙ rw zero-add)
+
+-- and what an accepted one says
+abbrev tag : Escaping → ℕ
+tag (Written n) = 0
+tag (Refused r) = 1
+
+abbrev sizeOf : Escaping → ℕ
+sizeOf (Written n) = n
+sizeOf (Refused r) = 0
+
+pub written-told : (room : ℕ) (xs : List ℕ) (n : ℕ) → escapingOf room xs ≡ Written n → WellFormed xs × (n ≡ length (escaped xs))
+unfolding escapingOf
+written-told room xs n = go (admitted textLimit xs) refl
+  where
+    fits : (t : Bool) → cond t (Written (length (escaped xs))) (Refused noRoom) ≡ Written n → n ≡ length (escaped xs)
+    fits true e = sym (ap sizeOf e)
+    fits false e = told tag e refl (λ z. omega arith)
+
+    go : (a : Admission) → admitted textLimit xs ≡ a → escapingAs room xs a ≡ Written n → WellFormed xs × (n ≡ length (escaped xs))
+    go (admission.Admitted m) a e = (admitted-text textLimit xs m a .1, fits (leb (length (escaped xs)) room) e)
+    go (admission.Refused r) a e = told tag e refl (λ z. omega arith)

@@ -1,13 +1,15 @@
--- When each answer of escaping is given. One of the four conditions holds of any text and room, and each has its own answer.
+-- When each answer of escaping is given: of any text and room one of the four rows holds, which gives its own answer, and no two rows give
+-- the same (`exactly`).
 use Prim.Native.Nat.{ℕ}
 use native.Mathlib.Decide.{decLt, ℕ-discrete}
 use native.Mathlib.Omega.{arith}
+use mathlib.Core.Bool.{cond}
 use mathlib.Core.List.{List}
-use mathlib.Core.Path.{_≡_}
+use mathlib.Core.Path.{_≡_, refl}
+use lib.Dec.{eqb}
 use lib.ListN.{length}
 use borrow.Author.Tests.{le-leb, lt-leb}
-use Rattle.scan.proofs.Choice.{told}
-use Rattle.utf8.specs.declared.Admission.the-variants as admission
+use Rattle.scan.proofs.Choice.{exactly}
 use Rattle.utf8.specs.Text.{prefixEnd, WellFormed}
 use Rattle.utf8.specs.Answers.{textLimit, placeAt, tooLong, notUtf8, noRoom}
 use Rattle.utf8.specs.Refusals.{TooLong, NotUtf8}
@@ -15,56 +17,55 @@ use Rattle.utf8.proofs.Given.{given-exactly}
 use Rattle.string.specs.declared.Escaping.{Escaping}
 use Rattle.string.specs.declared.Escaping.the-variants.{Written, Refused}
 use Rattle.string.specs.Escape.{escaped, escapingOf}
-use Rattle.string.specs.Laws.{NoRoom, Taken, EscapingGiven}
+use Rattle.string.specs.Refusals.{Taken, NoRoom, EscapingGiven}
 
--- a written text has the number 0
-abbrev numberOf : Escaping → ℕ
-numberOf (Written n) = 0
-numberOf (Refused r) = r .number
+data Row : Type 0 where
+  long : Row
+  broken : Row
+  short : Row
+  written : Row
+
+abbrev rowOf : Escaping → Row
+rowOf (Written n) = written
+rowOf (Refused r) = cond (eqb (r .number) 1) long (cond (eqb (r .number) 2) broken short)
 
 module _ (room : ℕ) (xs : List ℕ) where
-  abbrev answer : Escaping
-  answer = escapingOf room xs
+  abbrev Holds : Row → Type 0
+  Holds long = TooLong textLimit xs
+  Holds broken = (TooLong textLimit xs → ⊥) × NotUtf8 xs
+  Holds short = Taken xs × NoRoom room xs
+  Holds written = Taken xs × (NoRoom room xs → ⊥)
 
-  abbrev broken : Escaping
-  broken = Refused (notUtf8 (placeAt xs (prefixEnd xs)))
+  abbrev given : Row → Escaping
+  given long = Refused tooLong
+  given broken = Refused (notUtf8 (placeAt xs (prefixEnd xs)))
+  given short = Refused noRoom
+  given written = Written (length (escaped xs))
 
-  one : TooLong textLimit xs → answer ≡ Refused tooLong
+  back : (w : Row) → rowOf (given w) ≡ w
+  back long = refl
+  back broken = refl
+  back short = refl
+  back written = refl
+
+  gives : (w : Row) → Holds w → escapingOf room xs ≡ given w
   unfolding escapingOf
-  one h = rw (given-exactly textLimit xs .0 .1 h)
+  gives long h = rw (given-exactly textLimit xs .0 .1 h)
+  gives broken h = rw (given-exactly textLimit xs .1 .1 h)
+  gives short h = rw (given-exactly textLimit xs .2 .1 (h .0), lt-leb (length (escaped xs)) room (h .1))
+  gives written h = rw (given-exactly textLimit xs .2 .1 (h .0), le-leb (length (escaped xs)) room (omega (arith, h .1)))
 
-  two : (TooLong textLimit xs → ⊥) × NotUtf8 xs → answer ≡ broken
-  unfolding escapingOf
-  two h = rw (given-exactly textLimit xs .1 .1 h)
+  some : Dec (TooLong textLimit xs) → Dec (WellFormed xs) → Dec (NoRoom room xs) → (w : Row) × Holds w
+  some (yes l) w d = (long, l)
+  some (no l) (no w) d = (broken, (l, w))
+  some (no l) (yes w) (yes h) = (short, ((l, w), h))
+  some (no l) (yes w) (no h) = (written, ((l, w), h))
 
-  three : Taken xs → NoRoom room xs → answer ≡ Refused noRoom
-  unfolding escapingOf
-  three t h = rw (given-exactly textLimit xs .2 .1 t, lt-leb (length (escaped xs)) room h)
-
-  four : Taken xs → (NoRoom room xs → ⊥) → answer ≡ Written (length (escaped xs))
-  unfolding escapingOf
-  four t h = rw (given-exactly textLimit xs .2 .1 t, le-leb (length (escaped xs)) room (omega arith))
-
-  abbrev Rows : Type 0
-  Rows =
-      (answer ≡ Refused tooLong → TooLong textLimit xs)
-      × (answer ≡ broken → (TooLong textLimit xs → ⊥) × NotUtf8 xs)
-      × (answer ≡ Refused noRoom → Taken xs × NoRoom room xs)
-      × (answer ≡ Written (length (escaped xs)) → Taken xs × (NoRoom room xs → ⊥))
-
-  rows : Dec (TooLong textLimit xs) → Dec (WellFormed xs) → Dec (NoRoom room xs) → Rows
-  rows (yes l) w d =
-      ((λ e. l), (λ e. told numberOf (one l) e (λ z. omega arith)), (λ e. told numberOf (one l) e (λ z. omega arith)), (λ e. told numberOf (one l) e (λ z. omega arith)))
-  rows (no l) (no w) d =
-      ((λ e. told numberOf (two (l, w)) e (λ z. omega arith)), (λ e. (l, w)), (λ e. told numberOf (two (l, w)) e (λ z. omega arith)), (λ e. told numberOf (two (l, w)) e (λ z. omega arith)))
-  rows (no l) (yes w) (yes h) =
-      let a = three (l, w) h in
-      ((λ e. told numberOf a e (λ z. omega arith)), (λ e. told numberOf a e (λ z. omega arith)), (λ e. ((l, w), h)), (λ e. told numberOf a e (λ z. omega arith)))
-  rows (no l) (yes w) (no h) =
-      let a = four (l, w) h in
-      ((λ e. told numberOf a e (λ z. omega arith)), (λ e. told numberOf a e (λ z. omega arith)), (λ e. told numberOf a e (λ z. omega arith)), (λ e. ((l, w), h)))
+  only : (w : Row) → escapingOf room xs ≡ given w → Holds w
+  only w e =
+      let v = some (decLt textLimit (length xs)) (ℕ-discrete (prefixEnd xs) (length xs)) (decLt room (length (escaped xs))) in
+      exactly rowOf given back Holds (v .0) (v .1) (gives (v .0) (v .1)) w e
 
 pub escaping-given : EscapingGiven
 escaping-given room xs =
-    let r = rows room xs (decLt textLimit (length xs)) (ℕ-discrete (prefixEnd xs) (length xs)) (decLt room (length (escaped xs))) in
-    ((r .0, one room xs), (r .1, two room xs), (r .2, λ h. three room xs (h .0) (h .1)), (r .3, λ h. four room xs (h .0) (h .1)))
+    ((only room xs long, gives room xs long), (only room xs broken, gives room xs broken), (only room xs short, gives room xs short), (only room xs written, gives room xs written))

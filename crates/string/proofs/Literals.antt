@@ -3,14 +3,13 @@
 use Prim.Native.Nat.{ℕ, suc, _-_, _<_, _≤_}
 use native.Mathlib.Omega.{arith}
 use mathlib.Core.Bool.{Bool, true, false, cond, _&&_, _||_, not}
-use mathlib.Core.List.{List, [], _∷_, _++_}
-use mathlib.Core.Path.{_≡_, refl, sym, ap, _∙_}
+use mathlib.Core.List.{List, [], _∷_}
+use mathlib.Core.Path.{_≡_, refl, sym, ap}
 use lib.Dec.{eqb, leb}
 use lib.ListN.{length, take, drop, getD}
-use lib.Seq.{sets, sets-eq}
 use borrow.Author.Tests.{eqb-true, leb-true, le-leb, lt-leb, not-false}
 use Rattle.scan.specs.Byte.{end, peekAt}
-use Rattle.scan.proofs.Choice.{either, and-left, and-right, told}
+use Rattle.scan.proofs.Choice.{and-left, and-right, told}
 use Rattle.scan.proofs.Classes.{getD-any, below-not}
 use Rattle.utf8.specs.declared.CharNumber.{CharNumber}
 use Rattle.utf8.specs.declared.Reading.{Reading}
@@ -24,7 +23,7 @@ use Rattle.tile.specs.Tile.{backquote}
 use Rattle.string.specs.declared.Extent.{Extent}
 use Rattle.string.specs.declared.Extent.the-variants as extent
 use Rattle.string.specs.declared.Unquoting.the-variants.{Written, Refused}
-use Rattle.string.specs.Tiles.{tilesOf, hasBad, bytesOf}
+use Rattle.string.specs.Tiles.{tilesOf, hasBad}
 use Rattle.string.specs.Literal.{doubleQuote, singleQuote, isQuote, signOf, innerOf, isEnclosed, has, isBroken, isBadLiteral, hasEscape, unquoted, extentOf, unquotingBy, unquotingOf}
 use Rattle.string.specs.Measure.{measured}
 use Rattle.string.proofs.Plain.{neither, unescaped}

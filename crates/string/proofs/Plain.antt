@@ -1,26 +1,25 @@
 -- A content without escapes stands for itself: each of its characters is a tile, which gives the character's bytes, unless it is the sign.
 -- The sign and the backslash are ASCII, so neither stands inside a longer character.
-use Prim.Native.Nat.{ℕ, zero, suc, _<_, _≤_}
+use Prim.Native.Nat.{ℕ, suc, _<_, _≤_}
 use native.Mathlib.Omega.{arith}
 use native.Mathlib.Decide.{decLt, ℕ-discrete}
-use mathlib.Core.Bool.{Bool, true, false, cond, _&&_, _||_, not, and-or-distrib-left, true≢false}
-use mathlib.Core.List.{List, [], _∷_, _++_, append-nil}
+use mathlib.Core.Bool.{Bool, true, false, _&&_, _||_, not, and-or-distrib-left, true≢false}
+use mathlib.Core.List.{List, [], _∷_, _++_}
 use mathlib.Core.Path.{_≡_, refl, sym, ap, _∙_}
 use lib.Dec.{eqb}
-use lib.ListN.{length, drop, length-append, List·getD-append}
+use lib.ListN.{length, length-append, List·getD-append}
 use lib.Seq.{drop-append-seam}
 use borrow.Author.Tests.{eq-eqb, ne-eqb}
 use Rattle.scan.specs.Byte.{end, peekAt}
 use Rattle.utf8.specs.declared.Reading.{Reading}
 use Rattle.utf8.specs.declared.Reading.the-variants.{Crate, Documented}
-use Rattle.utf8.specs.Code.{codeOf, encoded}
+use Rattle.utf8.specs.Code.{codeOf}
 use Rattle.utf8.specs.Text.{WellFormed}
-use Rattle.utf8.specs.Answers.{characterAt}
 use Rattle.utf8.proofs.Texts.{One, character-one, by-characters}
 use Rattle.utf8.proofs.Laws.{none-empty, rest-well, none-ascii}
 use Rattle.tile.specs.declared.Form.the-variants.{Plain}
 use Rattle.tile.specs.declared.Tile.the-variants.{Piece, Bad}
-use Rattle.tile.specs.Tile.{backslash, backquote, beginsEscape, plainOf, tileOf}
+use Rattle.tile.specs.Tile.{backslash, backquote, beginsEscape, tileOf}
 use Rattle.string.specs.Tiles.{tilesOf, hasBad, givesByte, pieceBytes, bytesOf}
 use Rattle.string.specs.Literal.{has, hasEscape}
 use Rattle.string.proofs.Escapes.{back}

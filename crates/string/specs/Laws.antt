@@ -1,32 +1,74 @@
--- What holds of escaping, as statements: document 01's rows 1, 2 and 3 for it, each given exactly when, and the join.
--- Their proofs stand in `proofs/Given` and `proofs/Escapes`.
-use Prim.Native.Nat.{ℕ, _<_}
-use mathlib.Core.List.{List, _++_}
-use mathlib.Core.Logic.{_↔_}
+-- What holds of escaping and of reading a literal, as statements. Their proofs stand in `proofs/Escapes`, `proofs/Readings` and
+-- `proofs/Back`.
+use Prim.Native.Nat.{ℕ, _≤_}
+use mathlib.Core.Bool.{Bool, true, false, _&&_, _||_}
+use mathlib.Core.List.{List, [], _∷_, _++_}
 use mathlib.Core.Path.{_≡_}
+use lib.Dec.{leb}
 use lib.ListN.{length}
-use Rattle.utf8.specs.Text.{prefixEnd, WellFormed}
-use Rattle.utf8.specs.Answers.{textLimit, placeAt, tooLong, notUtf8, noRoom}
-use Rattle.utf8.specs.Refusals.{TooLong, NotUtf8}
-use Rattle.string.specs.declared.Escaping.the-variants.{Written, Refused}
-use Rattle.string.specs.Escape.{escaped, escapingOf}
-
--- 3 "result needs more room"
-abbrev pub NoRoom : ℕ → List ℕ → Type 0
-NoRoom room xs = room < length (escaped xs)
-
--- a text within the limit
-abbrev pub Taken : List ℕ → Type 0
-Taken xs = (¬ (TooLong textLimit xs)) × WellFormed xs
-
-abbrev pub EscapingGiven : Type 0
-EscapingGiven =
-    (room : ℕ) (xs : List ℕ) →
-    (escapingOf room xs ≡ Refused tooLong ↔ TooLong textLimit xs)
-    × (escapingOf room xs ≡ Refused (notUtf8 (placeAt xs (prefixEnd xs))) ↔ (¬ (TooLong textLimit xs)) × NotUtf8 xs)
-    × (escapingOf room xs ≡ Refused noRoom ↔ Taken xs × NoRoom room xs)
-    × (escapingOf room xs ≡ Written (length (escaped xs)) ↔ Taken xs × (¬ (NoRoom room xs)))
+use Rattle.utf8.specs.declared.Reading.{Reading}
+use Rattle.utf8.specs.declared.Reading.the-variants.{Crate, Documented}
+use Rattle.utf8.specs.Text.{WellFormed}
+use Rattle.utf8.specs.Answers.{textLimit}
+use Rattle.tile.specs.declared.Tile.{Tile}
+use Rattle.tile.specs.declared.Tile.the-variants.{Piece, Bad}
+use Rattle.tile.specs.Tile.{isByte}
+use Rattle.string.specs.declared.Unquoting.{Unquoting}
+use Rattle.string.specs.declared.Unquoting.the-variants.{Inner, Written, Refused}
+use Rattle.string.specs.Escape.{escaped}
+use Rattle.string.specs.Tiles.{tilesOf}
+use Rattle.string.specs.Literal.{doubleQuote, signOf, innerOf, isBadLiteral, unquoted, unquotingOf, textBy, partOf}
 
 -- the escape of joined texts is their escapes, joined
 abbrev pub EscapeJoin : Type 0
 EscapeJoin = (xs ys : List ℕ) → WellFormed xs → WellFormed ys → escaped (xs ++ ys) ≡ escaped xs ++ escaped ys
+
+-- an answer that is no refusal names the text of the literal, in the literal or in the buffer as it was left
+abbrev pub isRead : Unquoting → Bool
+isRead (Inner n) = true
+isRead (Written n) = true
+isRead (Refused s) = false
+
+abbrev pub PartIsText : Type 0
+PartIsText =
+    (r : Reading) (xs d : List ℕ) →
+    let u = unquotingOf r (length d) xs in
+    isRead u ≡ true → partOf u xs (textBy u (unquoted r xs) d) ≡ unquoted r xs
+
+-- the two readings give the same where no byte escape has a value of 80 hex or more
+abbrev pub isHighByte : Tile → Bool
+isHighByte (Piece f v n) = isByte f && leb 0x80 v
+isHighByte Bad = false
+
+unfoldable pub hasHighByte : List Tile → Bool
+hasHighByte [] = false
+hasHighByte (t ∷ ts) = isHighByte t || hasHighByte ts
+
+abbrev pub ReadingsAgree : Type 0
+ReadingsAgree =
+    (xs : List ℕ) → hasHighByte (tilesOf (signOf xs) (innerOf xs)) ≡ false →
+    (unquoted Crate xs ≡ unquoted Documented xs) × ((room : ℕ) → unquotingOf Crate room xs ≡ unquotingOf Documented room xs)
+
+-- a text between double quotes
+abbrev pub quoted : List ℕ → List ℕ
+quoted ys = doubleQuote ∷ ys ++ (doubleQuote ∷ [])
+
+-- reading the escape of a text gives the text, in both readings
+abbrev pub ReadBack : Type 0
+ReadBack =
+    (r : Reading) (xs : List ℕ) → WellFormed xs →
+    let literal = quoted (escaped xs) in (isBadLiteral literal ≡ false) × (unquoted r literal ≡ xs)
+
+-- and so of joined texts, from their joined escapes
+abbrev pub ReadBackJoin : Type 0
+ReadBackJoin =
+    (r : Reading) (xs ys : List ℕ) → WellFormed xs → WellFormed ys →
+    let literal = quoted (escaped xs ++ escaped ys) in (isBadLiteral literal ≡ false) × (unquoted r literal ≡ xs ++ ys)
+
+-- where the limit and the room are kept, that is the part which the answer names
+abbrev pub ReadBackPart : Type 0
+ReadBackPart =
+    (r : Reading) (xs d : List ℕ) → WellFormed xs →
+    let literal = quoted (escaped xs) in
+    let u = unquotingOf r (length d) literal in
+    length literal ≤ textLimit → length xs ≤ length d → partOf u literal (textBy u (unquoted r literal) d) ≡ xs

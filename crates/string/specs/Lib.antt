@@ -3,4 +3,5 @@ pub mod Bytes
 pub mod Tiles
 pub mod Measure
 pub mod Literal
+pub mod Refusals
 pub mod Laws

@@ -7,14 +7,13 @@ use native.Mathlib.Omega.{arith}
 use native.Mathlib.Decide.{decLt}
 use mathlib.Core.Bool.{Bool, true, false, true≢false}
 use mathlib.Core.List.{List}
-use mathlib.Core.Path.{_≡_, refl, sym, ap, _∙_}
-use lib.Dec.{leb, ltb}
+use mathlib.Core.Path.{_≡_, refl, sym, _∙_}
+use lib.Dec.{leb}
 use lib.ListN.{length, List·getD-eq-default}
 use borrow.Author.Tests.{leb-true}
 use Rattle.scan.specs.Byte.{end, peekAt, isWithin, isHexDigit, digitOf}
 use Rattle.scan.proofs.Below.{below}
-use Rattle.scan.proofs.Choice.{either, told}
-use Rattle.scan.proofs.Classes.{digit-bound}
+use Rattle.scan.proofs.Choice.{told}
 use Rattle.tile.specs.declared.Numeral.{Numeral}
 use Rattle.tile.specs.declared.Numeral.the-variants.{Value, NotDigits}
 use Rattle.tile.specs.Tile.{isDigitIn, numeralFrom}

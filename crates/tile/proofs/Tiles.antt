@@ -6,14 +6,14 @@ use native.Mathlib.Decide.{decLt}
 use mathlib.Core.Bool.{true, not}
 use mathlib.Core.List.{List}
 use mathlib.Core.Path.{_≡_, refl, ap, _∙_}
-use lib.Dec.{eqb, leb, ltb}
-use lib.ListN.{length, take, List·getD-eq-default}
+use lib.Dec.{eqb, leb}
+use lib.ListN.{length, List·getD-eq-default}
 use lib.Seq.{length-take-le}
 use borrow.Author.Tests.{le-leb, lt-ltb, eqb-false, ne-eqb, not-true}
 use Rattle.scan.specs.Byte.{end, peekAt}
 use Rattle.scan.proofs.Choice.{either}
 use Rattle.utf8.specs.Table.{charLength}
-use Rattle.utf8.specs.Code.{codeOf, isScalar, encoded}
+use Rattle.utf8.specs.Code.{codeOf, isScalar}
 use Rattle.utf8.specs.declared.Character.{Character}
 use Rattle.utf8.specs.Answers.{characterAt}
 use Rattle.utf8.proofs.Chars.{char-bound}

@@ -4,7 +4,7 @@ use Prim.Native.Nat.{ℕ, zero, suc, _+_, _-_, _<_, _≤_}
 use native.Mathlib.Nat.{zero-add}
 use native.Mathlib.Omega.{arith}
 use mathlib.Core.Bool.{Bool, true, false, cond, _&&_, _||_, true≢false}
-use mathlib.Core.List.{List, [], _∷_, _++_, append-assoc}
+use mathlib.Core.List.{List, [], _∷_, _++_, append-assoc, append-nil}
 use mathlib.Core.Path.{_≡_, refl, sym, ap, _∙_}
 use lib.Dec.{eqb, leb}
 use lib.ListN.{length, drop, length-append}
@@ -38,6 +38,11 @@ size-join (c ∷ cs) ds = omega (arith, size-join cs ds)
 pub rest-well : (bs ys : List ℕ) → One bs → WellFormed (bs ++ ys) → WellFormed ys
 unfolding sizeOf
 rest-well bs ys o w = omega (arith, sym (ap sizeOf (chars-one bs ys o)) ∙ w, length-append bs ys)
+
+-- the bytes of one character are text
+pub one-text : (bs : List ℕ) → One bs → WellFormed bs
+unfolding sizeOf charsPast
+one-text bs o = let e = chars-one bs [] o in omega (arith, ap sizeOf (sym (ap charsOf (append-nil bs)) ∙ e))
 
 pub chars-join : CharsJoin
 chars-join xs ys =

@@ -9,9 +9,7 @@ use denote.Ref.{now}
 use borrow.Author.Tests.{not-true, not-false}
 use Rattle.utf8.specs.declared.Reading.{Reading}
 use Rattle.string.specs.declared.Extent.the-variants as extent
-use Rattle.string.specs.Tiles.{tilesOf}
 use Rattle.string.specs.Literal.{signOf, innerOf, isEnclosed, has, isBroken, hasEscape}
-use Rattle.string.specs.Measure.{measured}
 use Rattle.string.proofs.Literals as literals
 use borrow.Author.Needs.{needs}
 use Rattle.string.proofs.extent_of.Statement.{statement}

@@ -1,8 +1,6 @@
 -- A part that fits is the first so many bytes; none is the first 0.
-use native.Mathlib.Omega.{arith}
 use mathlib.Core.Path.{sym}
 use lib.Seq.{length-take-le}
-use denote.Ref.{now}
 use borrow.Author.Tests.{le-leb, lt-leb}
 use Rattle.string.specs.Literal.{partOf}
 use borrow.Author.Needs.{needs}

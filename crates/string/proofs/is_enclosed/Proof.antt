@@ -1,13 +1,12 @@
 -- Each way out knows what the tests before it said; both bytes are within the literal.
 use Prim.Native.Nat.{_-_}
 use native.Mathlib.Omega.{arith}
-use mathlib.Core.Path.{_≡_, sym, ap, _∙_}
-use lib.ListN.{length, getD}
+use lib.ListN.{length}
 use denote.Ref.{now}
 use borrow.Author.Tests.{le-leb, lt-leb, eq-eqb, ne-eqb}
-use Rattle.scan.specs.Byte.{end, peekAt}
+use Rattle.scan.specs.Byte.{end}
 use Rattle.scan.proofs.Classes.{getD-any}
-use Rattle.string.specs.Literal.{isQuote, isEnclosed}
+use Rattle.string.specs.Literal.{isEnclosed}
 use borrow.Author.Needs.{needs}
 use Rattle.string.proofs.is_enclosed.Statement.{statement}
 use Rattle.string.proofs.is_enclosed.Tie as tie

@@ -9,7 +9,6 @@ use borrow.Author.Needs.{needs}
 use Rattle.utf8.specs.declared.Reading.{Reading}
 use Rattle.utf8.proofs.Chars.{rest-of}
 use Rattle.tile.specs.declared.Form.{Form}
-use Rattle.tile.specs.declared.Tile.{Tile}
 use Rattle.tile.specs.declared.Tile.the-variants.{Piece}
 use Rattle.tile.specs.Tile.{tileOf}
 use Rattle.tile.specs.Laws.{Fair}

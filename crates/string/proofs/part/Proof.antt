@@ -1,6 +1,5 @@
 -- Each answer has its own part.
-use mathlib.Core.Path.{_≡_, sym, ap, _∙_}
-use denote.Ref.{now}
+use mathlib.Core.Path.{_∙_}
 use Rattle.string.specs.Literal.{partOf}
 use borrow.Author.Needs.{needs}
 use Rattle.string.proofs.part.Statement.{statement}

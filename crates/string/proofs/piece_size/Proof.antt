@@ -1,5 +1,4 @@
 -- Each way out knows whether the tile gives a byte.
-use mathlib.Core.Path.{_∙_}
 use Rattle.string.specs.Tiles.{pieceBytes}
 use borrow.Author.Needs.{needs}
 use Rattle.string.proofs.piece_size.Statement.{statement}

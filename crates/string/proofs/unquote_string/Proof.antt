@@ -5,17 +5,15 @@ use native.Mathlib.Omega.{arith}
 use mathlib.Core.List.{List}
 use mathlib.Core.Path.{_≡_, refl, sym, ap, _∙_}
 use lib.ListN.{length}
-use lib.Seq.{sets, sets-eq}
+use lib.Seq.{sets-eq}
 use denote.Ref.{now}
-use borrow.Author.Tests.{le-leb, lt-leb}
 use Rattle.utf8.specs.declared.Admission.the-variants as admission
 use Rattle.utf8.specs.declared.Reading.{Reading}
-use Rattle.utf8.specs.Text.{WellFormed}
 use Rattle.utf8.specs.Answers.{textLimit, admitted}
 use Rattle.utf8.proofs.Given.{admitted-text}
 use Rattle.string.specs.declared.Extent.{Extent}
 use Rattle.string.specs.declared.Extent.the-variants as extent
-use Rattle.string.specs.declared.Unquoting.the-variants.{Inner, Written, Refused}
+use Rattle.string.specs.declared.Unquoting.the-variants.{Refused}
 use Rattle.string.specs.Literal.{unquoted, extentOf, unquotingBy, unquotingOf}
 use Rattle.string.proofs.Literals as literals
 use borrow.Author.Needs.{needs}

@@ -9,7 +9,6 @@ use lib.ListN.{length, drop, length-append}
 use lib.Seq.{sets}
 use denote.Ref.{now}
 use borrow.Author.Needs.{needs}
-use Rattle.utf8.specs.declared.Reading.{Reading}
 use Rattle.utf8.proofs.Chars.{rest-of}
 use Rattle.tile.specs.declared.Form.{Form}
 use Rattle.tile.specs.declared.Tile.the-variants.{Piece}

@@ -1,13 +1,11 @@
 -- The byte behind the backslash decides, as in the definition; where there is none, what stands there is no digit either.
 use Prim.Native.Nat.{ℕ, _<_, _≤_}
 use native.Mathlib.Omega.{arith}
-use mathlib.Core.Bool.{Bool, true, false, not}
 use mathlib.Core.List.{List}
 use mathlib.Core.Path.{_≡_, sym, ap, _∙_}
-use lib.Dec.{eqb}
 use lib.ListN.{length, getD, List·getD-eq-default}
 use denote.Ref.{now}
-use borrow.Author.Tests.{eq-eqb, ne-eqb}
+use borrow.Author.Tests.{ne-eqb}
 use Rattle.scan.specs.Byte.{end, peekAt, isWithin, isHexDigit}
 use Rattle.scan.proofs.Classes.{getD-any}
 use Rattle.tile.specs.declared.Form.the-variants.{Letter, Hex, Octal, Point}

@@ -14,8 +14,7 @@ use Rattle.utf8.specs.declared.Character.{Character}
 use Rattle.utf8.specs.declared.Character.the-variants.{Scalar, Nothing, IllFormed}
 use Rattle.utf8.specs.Answers.{characterAt}
 use Rattle.utf8.proofs.Character as character
-use Rattle.tile.specs.declared.Form.the-variants.{Plain}
-use Rattle.tile.specs.declared.Tile.the-variants.{Piece, Bad}
+use Rattle.tile.specs.declared.Tile.the-variants.{Bad}
 use Rattle.tile.specs.Tile.{beginsEscape, escapeOf, plainOf, tileOf}
 use borrow.Author.Needs.{needs}
 use Rattle.tile.proofs.unquote_char.Statement.{statement}

@@ -1,0 +1,180 @@
+-- Reading the escape of a text gives the text. Character by character: what is escaped is a tile of two bytes that stands for it (one test of
+-- all ASCII bytes), and what is copied is neither the sign nor a backslash, so it is a tile as it is. No LF is copied.
+use Prim.Native.Nat.{ℕ, suc, _-_, _<_, _≤_}
+use native.Mathlib.Omega.{arith}
+use native.Mathlib.Decide.{decLt, ℕ-discrete}
+use mathlib.Core.Bool.{Bool, true, false, cond, _&&_, not}
+use mathlib.Core.List.{List, [], _∷_, _++_, append-nil}
+use mathlib.Core.Path.{_≡_, refl, ap, _∙_}
+use lib.Dec.{eqb}
+use lib.ListN.{length, length-append}
+use lib.Seq.{take-append-seam, getD-append-seam}
+use borrow.Author.Tests.{ne-eqb, eqb-true, eqb-false, le-leb, not-true}
+use Rattle.scan.specs.Byte.{end, peekAt}
+use Rattle.scan.proofs.Below.{below}
+use Rattle.scan.proofs.Choice.{and-left, and-right}
+use Rattle.utf8.specs.declared.Reading.{Reading}
+use Rattle.utf8.specs.declared.Reading.the-variants.{Crate, Documented}
+use Rattle.utf8.specs.Text.{WellFormed}
+use Rattle.utf8.proofs.Texts.{One, by-characters}
+use Rattle.utf8.proofs.Laws.{none-empty, rest-well, none-ascii, text-join}
+use Rattle.utf8.proofs.Ascii.{ascii-bytes, ascii-text, one-ascii}
+use Rattle.tile.specs.declared.Form.the-variants.{Letter}
+use Rattle.tile.specs.declared.Tile.the-variants.{Piece}
+use Rattle.tile.specs.Tile.{backslash, letterValue, beginsEscape, escapeOf, tileOf}
+use Rattle.string.specs.Escape.{noLetter, letterOf, escaped}
+use Rattle.string.specs.Bytes.{escapedBytes}
+use Rattle.string.specs.Tiles.{tilesOf, hasBad, pieceBytes, bytesOf}
+use Rattle.string.specs.Literal.{doubleQuote, lineFeed, isQuote, innerOf, isEnclosed, has, isBroken}
+use Rattle.string.specs.Laws.{quoted, ReadBack, ReadBackJoin, ReadBackPart}
+use Rattle.string.proofs.Escapes.{copied, lettered, high-copied, none, bytes-join, by-characters-escaped, escape-join, escaped-text}
+use Rattle.string.proofs.Readings.{part-is-text, reads}
+use Rattle.string.proofs.Contents.{tiles-none, first-piece}
+use Rattle.string.proofs.Plain.{plain-bad, plain-bytes, has-join, has-not}
+
+-- an ASCII byte is copied, and is then no sign, backslash or LF; or its letter stands for it, and is no LF
+abbrev fine : ℕ → Bool
+fine b =
+    cond (eqb (letterOf b) noLetter)
+    (not (eqb b doubleQuote) && (not (eqb b backslash) && not (eqb b lineFeed)))
+    (eqb (letterValue doubleQuote (letterOf b)) b && not (eqb (letterOf b) lineFeed))
+
+all-fine : (b : ℕ) → b < 0x80 → fine b ≡ true
+unfolding letterOf letterValue
+all-fine = below fine 0x80 refl
+
+-- a byte behind a backslash, and what follows the two
+module _ (b : ℕ) (l : b < 0x80) (n : letterOf b ≡ noLetter → ⊥) (ys : List ℕ) where
+  fine-letter : eqb (letterValue doubleQuote (letterOf b)) b && not (eqb (letterOf b) lineFeed) ≡ true
+  fine-letter = let f = all-fine b l in rw (ne-eqb (letterOf b) noLetter n) at f
+
+  stands : letterValue doubleQuote (letterOf b) ≡ b
+  stands = eqb-true (letterValue doubleQuote (letterOf b)) b (and-left (eqb (letterValue doubleQuote (letterOf b)) b) (not (eqb (letterOf b) lineFeed)) fine-letter)
+
+  tile : tileOf doubleQuote (backslash ∷ letterOf b ∷ ys) ≡ Piece Letter b 2
+  unfolding tileOf beginsEscape escapeOf
+  tile = rw (stands, ne-eqb b 0 (λ e. n (zero-letter b e)))
+    where
+      zero-letter : (b : ℕ) → b ≡ 0 → letterOf b ≡ noLetter
+      zero-letter b e = unfold letterOf in rw e
+
+  tiles : tilesOf doubleQuote (backslash ∷ letterOf b ∷ ys) ≡ Piece Letter b 2 ∷ tilesOf doubleQuote ys
+  tiles = first-piece doubleQuote (omega arith) (backslash ∷ letterOf b ∷ ys) Letter b 2 (omega arith) tile
+
+  no-feed : eqb (letterOf b) lineFeed ≡ false
+  no-feed = not-true (eqb (letterOf b) lineFeed) (and-right (eqb (letterValue doubleQuote (letterOf b)) b) (not (eqb (letterOf b) lineFeed)) fine-letter)
+
+-- it gives the byte in both readings
+letter-bytes : (r : Reading) (b : ℕ) → b < 0x80 → pieceBytes r Letter b ≡ b ∷ []
+unfolding pieceBytes
+letter-bytes Crate b l = ascii-bytes b l
+letter-bytes Documented b l = ascii-bytes b l
+
+-- a byte that is copied
+fine-copy : (b : ℕ) → b < 0x80 → letterOf b ≡ noLetter → (b ≡ doubleQuote → ⊥) × (b ≡ backslash → ⊥) × (b ≡ lineFeed → ⊥)
+fine-copy b l e =
+    let f = all-fine b l in
+    let g : not (eqb b doubleQuote) && (not (eqb b backslash) && not (eqb b lineFeed)) ≡ true = rw e at f in
+    let t = and-right (not (eqb b doubleQuote)) (not (eqb b backslash) && not (eqb b lineFeed)) g in
+    (unlike (and-left (not (eqb b doubleQuote)) (not (eqb b backslash) && not (eqb b lineFeed)) g), unlike (and-left (not (eqb b backslash)) (not (eqb b lineFeed)) t), unlike (and-right (not (eqb b backslash)) (not (eqb b lineFeed)) t))
+  where
+    unlike : {c : ℕ} → not (eqb b c) ≡ true → b ≡ c → ⊥
+    unlike {c = c} n = eqb-false b c (not-true (eqb b c) n)
+
+-- what reading an escape gives, and that no LF is in it
+module _ (r : Reading) where
+  pub record Back (xs : List ℕ) : Type 0 where
+    pub good : hasBad (tilesOf doubleQuote (escapedBytes xs)) ≡ false
+    pub text : bytesOf r (tilesOf doubleQuote (escapedBytes xs)) ≡ xs
+    pub whole : has lineFeed (escapedBytes xs) ≡ false
+
+  at-end : Back []
+  unfolding hasBad bytesOf has
+  at-end = record { good = rw (none, tiles-none doubleQuote); text = rw (none, tiles-none doubleQuote); whole = rw none }
+
+  -- a character that is copied
+  copy : (bs ys : List ℕ) → One bs → escapedBytes bs ≡ bs → (peekAt bs 0 ≡ doubleQuote → ⊥) → (peekAt bs 0 ≡ backslash → ⊥) → (peekAt bs 0 ≡ lineFeed → ⊥) → Back ys → Back (bs ++ ys)
+  copy bs ys o e q s f b =
+      let j : escapedBytes (bs ++ ys) ≡ bs ++ escapedBytes ys = bytes-join bs ys ∙ rw e in
+      let h : doubleQuote < 0x80 = omega arith in
+      let t : beginsEscape doubleQuote (peekAt bs 0) ≡ false = unfold beginsEscape in rw (ne-eqb (peekAt bs 0) backslash s) in
+      record {
+        good = rw j (plain-bad doubleQuote h bs (escapedBytes ys) o q t ∙ b .good);
+        text = rw j (plain-bytes doubleQuote h bs (escapedBytes ys) o q t r ∙ rw (b .text));
+        whole = rw j (has-join lineFeed bs (escapedBytes ys) ∙ rw (has-not lineFeed (omega arith) bs o f) (b .whole));
+      }
+
+  -- a byte that is escaped
+  letter : (b : ℕ) (ys : List ℕ) → b < 0x80 → (letterOf b ≡ noLetter → ⊥) → Back ys → Back (b ∷ ys)
+  unfolding hasBad bytesOf has
+  letter b ys l n k =
+      let j : escapedBytes (b ∷ ys) ≡ backslash ∷ letterOf b ∷ escapedBytes ys = unfold escapedBytes in rw (lettered b n) in
+      let t = tiles b l n (escapedBytes ys) in
+      record {
+        good = rw (j, t) (k .good);
+        text = rw (j, t, letter-bytes r b l) (ap (λ (zs : List ℕ). b ∷ zs) (k .text));
+        whole = rw (j, no-feed b l n (escapedBytes ys)) (k .whole);
+      }
+
+  one : (bs ys : List ℕ) → One bs → Back ys → Back (bs ++ ys)
+  one bs ys o k = go bs o (decLt 1 (length bs))
+    where
+      short : (b : ℕ) → b < 0x80 → One (b ∷ []) → Dec (letterOf b ≡ noLetter) → Back (b ∷ ys)
+      short b l o (yes e) =
+          let f = fine-copy b l e in
+          copy (b ∷ []) ys o (unfold escapedBytes in rw (append-nil, copied b e)) (f .0) (f .1) (f .2) k
+      short b l o (no n) = letter b ys l n k
+
+      go : (bs : List ℕ) → One bs → Dec (1 < length bs) → Back (bs ++ ys)
+      go bs o (yes l) =
+          let h : (i : ℕ) → i < length bs → 0x80 ≤ peekAt bs i = λ i m. none-ascii bs i (omega (arith, o .whole)) (omega (arith, o .whole)) in
+          let z = h 0 (o .some) in
+          copy bs ys o (high-copied bs h) (λ e. omega arith) (λ e. omega arith) (λ e. omega arith) k
+      go [] o (no l) = let f : ⊥ = omega (arith, o .some) in absurd f
+      go (b ∷ []) o (no l) = short b (one-ascii b [] (o .whole)) o (ℕ-discrete (letterOf b) noLetter)
+      go (b ∷ b₂ ∷ bs) o (no l) = let f : ⊥ = omega arith in absurd f
+
+  back : (xs : List ℕ) → WellFormed xs → Back xs
+  back =
+      by-characters (λ xs. WellFormed xs → Back xs)
+      (λ xs e w. rw (none-empty xs e w) at-end)
+      (λ bs ys o ih w. one bs ys o (ih (rest-well bs ys o w)))
+
+-- a content between double quotes
+module _ (ys : List ℕ) where
+  inner-is : innerOf (quoted ys) ≡ ys
+  inner-is =
+      let k : length (quoted ys) - 2 ≡ length ys = omega (arith, length-append ys (doubleQuote ∷ [])) in
+      rw k (take-append-seam ys (doubleQuote ∷ []))
+
+  last-is : peekAt (quoted ys) (length (quoted ys) - 1) ≡ doubleQuote
+  last-is =
+      let k : length (quoted ys) - 1 ≡ suc (length ys) = omega (arith, length-append ys (doubleQuote ∷ [])) in
+      rw k (getD-append-seam ys doubleQuote [] end)
+
+  enclosed : isEnclosed (quoted ys) ≡ true
+  unfolding isEnclosed isQuote
+  enclosed = rw (le-leb 2 (length (quoted ys)) (omega (arith, length-append ys (doubleQuote ∷ []))), last-is)
+
+pub read-back : ReadBack
+unfolding isBroken
+read-back r xs w =
+    let b = back r xs w in
+    let e = by-characters-escaped xs w in
+    rw (e, inner-is (escapedBytes xs), enclosed (escapedBytes xs), b .whole, b .good) (refl, b .text)
+
+pub read-back-join : ReadBackJoin
+read-back-join r xs ys w v = rw (← escape-join xs ys w v) (read-back r (xs ++ ys) (text-join xs ys w v))
+
+-- what stands between double quotes is text where it is text
+pub quoted-text : (ys : List ℕ) → WellFormed ys → WellFormed (quoted ys)
+quoted-text ys w =
+    let sign : WellFormed (doubleQuote ∷ []) = ascii-text (doubleQuote ∷ []) refl .0 in
+    text-join (doubleQuote ∷ []) (ys ++ (doubleQuote ∷ [])) sign (text-join ys (doubleQuote ∷ []) w sign)
+
+pub read-back-part : ReadBackPart
+read-back-part r xs d w l h =
+    let b = read-back r xs w in
+    let literal = quoted (escaped xs) in
+    let t : WellFormed literal = quoted-text (escaped xs) (escaped-text xs w) in
+    part-is-text r literal d (reads r literal (length d) ((λ n. omega arith), t) (b .0) (omega (arith, ap length (b .1)))) ∙ b .1
