@@ -14,14 +14,16 @@ use Rattle.utf8.specs.declared.Character.{Character}
 use Rattle.utf8.specs.declared.Character.the-variants.{Scalar, Nothing, IllFormed}
 use Rattle.utf8.specs.declared.Encoding.{Encoding}
 use Rattle.utf8.specs.declared.Encoding.the-variants.{Written, NotScalar, NoRoom}
-use Rattle.string.specs.declared.Escaping.{Escaping}
-use Rattle.string.specs.declared.Escaping.the-variants as escaping
+use Rattle.escape.specs.declared.Escaping.{Escaping}
+use Rattle.escape.specs.declared.Escaping.the-variants as escaping
 use Rattle.string.specs.declared.Unquoting.{Unquoting}
 use Rattle.string.specs.declared.Unquoting.the-variants as unquoting
-use Rattle.string.specs.Escape.{escapingOf}
+use Rattle.escape.specs.Escape.{escapingOf}
 use Rattle.string.specs.Literal.{unquotingOf}
-use Rattle.string.proofs.Bounds as bounds
-use Rattle.string.proofs.Bounds.{escaping-bound, unquoting-bound}
+use Rattle.escape.proofs.Bounds as escaping-bounds
+use Rattle.escape.proofs.Bounds.{escaping-bound}
+use Rattle.string.proofs.Bounds as unquoting-bounds
+use Rattle.string.proofs.Bounds.{unquoting-bound}
 use Rattle.utf8.specs.Answers.{placeAt, textLimit, tooLong, notUtf8, admitted, characterAt, encodingOf}
 use Rattle.exports.specs.Packed.{refusedFrom, packedOf}
 use Rattle.exports.specs.String.{escapeCode, innerFrom, unquoteCode}
@@ -71,14 +73,14 @@ encode-told c room at = go (encodingOf c room at) (encoding-bound c room at)
 pub escape-told : EscapeTold
 escape-told room xs = go (escapingOf room xs) (escaping-bound room xs)
   where
-    go : (e : Escaping) → bounds.Bounded e → looksRefused (escapeCode e) ≡ isNotEscaped e
+    go : (e : Escaping) → escaping-bounds.Bounded e → looksRefused (escapeCode e) ≡ isNotEscaped e
     go (escaping.Written n) h = small n h
     go (escaping.Refused r) h = packed r
 
 pub unquote-told : UnquoteTold
 unquote-told r room xs = go (unquotingOf r room xs) (unquoting-bound r room xs)
   where
-    go : (u : Unquoting) → bounds.BoundedText u → (looksRefused (unquoteCode u) ≡ isUnread u) × (not (looksRefused (unquoteCode u)) && leb innerFrom (unquoteCode u) ≡ isInner u)
+    go : (u : Unquoting) → unquoting-bounds.Bounded u → (looksRefused (unquoteCode u) ≡ isUnread u) × (not (looksRefused (unquoteCode u)) && leb innerFrom (unquoteCode u) ≡ isInner u)
     go (unquoting.Inner n) h = rw (lt-leb refusedFrom (unquoteCode (unquoting.Inner n)) (omega arith), le-leb innerFrom (unquoteCode (unquoting.Inner n)) (omega arith)) (refl, refl)
     go (unquoting.Written n) h = rw (small n (omega arith), lt-leb innerFrom n (omega arith)) (refl, refl)
     go (unquoting.Refused s) h = rw (packed s) (refl, refl)

@@ -1,12 +1,11 @@
 // The C functions over the library: each answers with one number, and writes what else it gives to what is lent.
 // A refusal is packed into the number: bit 63, document 01's number, the byte offset and the character number.
-use string::Escaping;
+use escape::Escaping;
 use string::Unquoting;
 use token::Display;
 use token::Keyword;
 use utf8::Admission;
 use utf8::ByteOffset;
-use utf8::CharNumber;
 use utf8::Character;
 use utf8::Encoding;
 use utf8::Place;
@@ -15,7 +14,7 @@ use utf8::Refusal;
 ghost use mathlib.Core.Path.{_≡_};
 ghost use Prim.Native.Nat.{_≤_};
 ghost use lib.ListN.{length};
-ghost use Rattle.string.specs.Escape.{escaped, escapingOf, leftBy as escapedBy};
+ghost use Rattle.escape.specs.Escape.{escaped, escapingOf, leftBy as escapedBy};
 ghost use Rattle.string.specs.Literal.{unquoted, unquotingOf, textBy};
 ghost use Rattle.token.specs.Display.{displayOf, displayed, leftBy as shownBy};
 ghost use Rattle.token.specs.Words.{keywordOf};
@@ -68,11 +67,7 @@ fn packed_at_start(number: usize) -> u64
     requires { ⌜ number ≤ numberLimit ⌝ }
     ensures { λ p. ⌜ p ≡ packedOf (atStart number) ⌝ }
 {
-    let place = Place {
-        byte: ByteOffset(0),
-        character: CharNumber(0),
-    };
-    packed(Refusal { number, place })
+    packed(utf8::at_start(number))
 }
 
 // The number of characters of a text, or refusal 1 or 2.
@@ -197,7 +192,7 @@ pub extern "C" fn simmerpath_escape_string(text: &[u8], out: &mut [u8]) -> u64
     ensures { λ r. ⌜ r ≡ escapeCode (escapingOf (length (now (out .entry))) (now (text .entry))) ⌝ }
     ensures { λ _. ⌜ now (out .exit) ≡ escapedBy (escapingOf (length (now (out .entry))) (now (text .entry))) (escaped (now (text .entry))) (now (out .entry)) ⌝ }
 {
-    let e = string::escape_string(text, out);
+    let e = escape::escape_string(text, out);
     match e {
         Escaping::Written(n) => n as u64,
         Escaping::Refused(r) => packed(r),

@@ -22,12 +22,12 @@ use Rattle.utf8.proofs.Ascii.{ascii-bytes, ascii-text, one-ascii}
 use Rattle.tile.specs.declared.Form.the-variants.{Letter}
 use Rattle.tile.specs.declared.Tile.the-variants.{Piece}
 use Rattle.tile.specs.Tile.{backslash, letterValue, beginsEscape, escapeOf, tileOf}
-use Rattle.string.specs.Escape.{noLetter, letterOf, escaped}
-use Rattle.string.specs.Bytes.{escapedBytes}
+use Rattle.escape.specs.Escape.{noLetter, letterOf, escaped}
+use Rattle.escape.specs.Bytes.{escapedBytes}
 use Rattle.string.specs.Tiles.{tilesOf, hasBad, pieceBytes, bytesOf}
 use Rattle.string.specs.Literal.{doubleQuote, lineFeed, isQuote, innerOf, isEnclosed, has, isBroken}
 use Rattle.string.specs.Laws.{quoted, ReadBack, ReadBackJoin, ReadBackPart}
-use Rattle.string.proofs.Escapes.{copied, lettered, high-copied, none, bytes-join, by-characters-escaped, escape-join, escaped-text}
+use Rattle.escape.proofs.Escapes.{copied, lettered, high-copied, none, bytes-join, by-characters-escaped, escape-join, escaped-text}
 use Rattle.string.proofs.Readings.{part-is-text, reads}
 use Rattle.string.proofs.Contents.{tiles-none, first-piece}
 use Rattle.string.proofs.Plain.{plain-bad, plain-bytes, has-join, has-not}

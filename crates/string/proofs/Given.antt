@@ -1,71 +1,163 @@
--- When each answer of escaping is given: of any text and room one of the four rows holds, which gives its own answer, and no two rows give
--- the same (`exactly`).
-use Prim.Native.Nat.{ℕ}
+-- When each answer of reading a literal is given: of any literal and room one of the six rows holds, which gives its own answer, and no two
+-- rows give the same (`exactly`). What makes a literal bad is read off the tests, in their order.
+use Prim.Native.Nat.{ℕ, _-_}
 use native.Mathlib.Decide.{decLt, ℕ-discrete}
 use native.Mathlib.Omega.{arith}
-use mathlib.Core.Bool.{cond}
-use mathlib.Core.List.{List}
-use mathlib.Core.Path.{_≡_, refl}
-use lib.Dec.{eqb}
+use mathlib.Core.Bool.{Bool, true, false, cond, _&&_, _||_, not, true≢false}
+use mathlib.Core.List.{List, [], _∷_}
+use mathlib.Core.Logic.{_⊎_, inl, inr}
+use mathlib.Core.Path.{_≡_, refl, sym, ap, subst}
+use lib.Dec.{eqb, leb}
 use lib.ListN.{length}
-use borrow.Author.Tests.{le-leb, lt-leb}
+use borrow.Author.Tests.{le-leb, lt-leb, leb-false, not-true}
+use Rattle.scan.specs.Byte.{peekAt}
 use Rattle.scan.proofs.Choice.{exactly}
+use Rattle.scan.proofs.Tests.{Tests, affirmed, decided, tests-or, tests-and, tests-not, tests-eq}
+use Rattle.utf8.specs.declared.Reading.{Reading}
 use Rattle.utf8.specs.Text.{prefixEnd, WellFormed}
 use Rattle.utf8.specs.Answers.{textLimit, placeAt, tooLong, notUtf8, noRoom}
-use Rattle.utf8.specs.Refusals.{TooLong, NotUtf8}
+use Rattle.utf8.specs.Refusals.{TooLong, NotUtf8, Taken}
 use Rattle.utf8.proofs.Given.{given-exactly}
-use Rattle.string.specs.declared.Escaping.{Escaping}
-use Rattle.string.specs.declared.Escaping.the-variants.{Written, Refused}
-use Rattle.string.specs.Escape.{escaped, escapingOf}
-use Rattle.string.specs.Refusals.{Taken, NoRoom, EscapingGiven}
+use Rattle.tile.specs.declared.Tile.{Tile}
+use Rattle.tile.specs.declared.Tile.the-variants.{Piece, Bad}
+use Rattle.tile.specs.Tile.{backslash, backquote}
+use Rattle.string.specs.declared.Unquoting.{Unquoting}
+use Rattle.string.specs.declared.Unquoting.the-variants.{Inner, Written, Refused}
+use Rattle.string.specs.Tiles.{tilesOf, isBad, hasBad}
+use Rattle.string.specs.Literal.{doubleQuote, singleQuote, lineFeed, isQuote, signOf, innerOf, isEnclosed, has, isBroken, isBadLiteral, hasEscape, unquoted, extentOf, badLiteral, unquotingOf}
+use Rattle.string.specs.Refusals.{TooShort, Unlike, Unquoted, Stands, Newline, BadAmong, BadLiteral, Escaped, NoRoom, UnquotingGiven}
+
+tests-has : (c : ℕ) (ys : List ℕ) → Tests (has c ys) (Stands c ys)
+unfolding has
+tests-has c [] = ((λ e. absurd (true≢false (sym e))), λ s. absurd s)
+tests-has c (y ∷ ys) = tests-or (tests-eq y c) (tests-has c ys)
+
+tests-bad : (ts : List Tile) → Tests (hasBad ts) (BadAmong ts)
+unfolding hasBad
+tests-bad [] = ((λ e. absurd (true≢false (sym e))), λ s. absurd s)
+tests-bad (t ∷ ts) = tests-or (one t) (tests-bad ts)
+  where
+    one : (t : Tile) → Tests (isBad t) (t ≡ Bad)
+    one (Piece f v n) = ((λ e. absurd (true≢false (sym e))), λ e. ap isBad e)
+    one Bad = ((λ e. refl), λ e. refl)
+
+-- what makes a literal bad
+module _ (xs : List ℕ) where
+  abbrev q : ℕ
+  q = signOf xs
+
+  tests-quote : Tests (isQuote q) ((q ≡ doubleQuote) ⊎ (q ≡ singleQuote) ⊎ (q ≡ backquote))
+  unfolding isQuote
+  tests-quote = tests-or (tests-eq q doubleQuote) (tests-or (tests-eq q singleQuote) (tests-eq q backquote))
+
+  tests-short : Tests (not (leb 2 (length xs))) (TooShort xs)
+  tests-short = ((λ e. leb-false 2 (length xs) (not-true (leb 2 (length xs)) e)), λ h. rw (lt-leb 2 (length xs) h))
+
+  tests-open : Tests (not (isEnclosed xs)) (TooShort xs ⊎ (Unlike xs ⊎ Unquoted xs))
+  unfolding isEnclosed
+  tests-open =
+      subst (λ (b : Bool). Tests b (TooShort xs ⊎ (Unlike xs ⊎ Unquoted xs))) (sym (morgan (leb 2 (length xs)) (eqb (peekAt xs (length xs - 1)) q) (isQuote q)))
+      (tests-or tests-short (tests-or (tests-not (tests-eq (peekAt xs (length xs - 1)) q)) (tests-not tests-quote)))
+    where
+      morgan : (a b c : Bool) → not (a && (b && c)) ≡ not a || (not b || not c)
+      morgan true true c = refl
+      morgan true false c = refl
+      morgan false b c = refl
+
+  tests-broken : Tests (isBroken q (innerOf xs)) (Newline xs)
+  unfolding isBroken
+  tests-broken = tests-and (tests-not (tests-eq q backquote)) (tests-has lineFeed (innerOf xs))
+
+  tests-escape : Tests (hasEscape q (innerOf xs)) (Escaped xs)
+  unfolding hasEscape
+  tests-escape = tests-and (tests-not (tests-eq q backquote)) (tests-has backslash (innerOf xs))
+
+  tests-literal : Tests (isBadLiteral xs) (BadLiteral xs)
+  tests-literal =
+      let t = tests-or tests-open (tests-or tests-broken (tests-bad (tilesOf q (innerOf xs)))) in
+      ((λ e. flat (t .0 e)), λ b. t .1 (nested b))
+    where
+      flat : {A B C D E : Type 0} → (A ⊎ (B ⊎ C)) ⊎ (D ⊎ E) → A ⊎ (B ⊎ (C ⊎ (D ⊎ E)))
+      flat (inl (inl a)) = inl a
+      flat (inl (inr (inl b))) = inr (inl b)
+      flat (inl (inr (inr c))) = inr (inr (inl c))
+      flat (inr d) = inr (inr (inr d))
+
+      nested : {A B C D E : Type 0} → A ⊎ (B ⊎ (C ⊎ (D ⊎ E))) → (A ⊎ (B ⊎ C)) ⊎ (D ⊎ E)
+      nested (inl a) = inl (inl a)
+      nested (inr (inl b)) = inl (inr (inl b))
+      nested (inr (inr (inl c))) = inl (inr (inr c))
+      nested (inr (inr (inr d))) = inr d
 
 data Row : Type 0 where
   long : Row
   broken : Row
+  bad : Row
   short : Row
+  inner : Row
   written : Row
 
-abbrev rowOf : Escaping → Row
+abbrev rowOf : Unquoting → Row
+rowOf (Inner n) = inner
 rowOf (Written n) = written
-rowOf (Refused r) = cond (eqb (r .number) 1) long (cond (eqb (r .number) 2) broken short)
+rowOf (Refused r) = cond (eqb (r .number) 1) long (cond (eqb (r .number) 2) broken (cond (eqb (r .number) 40) bad short))
 
-module _ (room : ℕ) (xs : List ℕ) where
+module _ (r : Reading) (room : ℕ) (xs : List ℕ) where
   abbrev Holds : Row → Type 0
   Holds long = TooLong textLimit xs
   Holds broken = (TooLong textLimit xs → ⊥) × NotUtf8 xs
-  Holds short = Taken xs × NoRoom room xs
-  Holds written = Taken xs × (NoRoom room xs → ⊥)
+  Holds bad = Taken textLimit xs × BadLiteral xs
+  Holds short = Taken textLimit xs × (BadLiteral xs → ⊥) × Escaped xs × NoRoom r room xs
+  Holds inner = Taken textLimit xs × (BadLiteral xs → ⊥) × (Escaped xs → ⊥)
+  Holds written = Taken textLimit xs × (BadLiteral xs → ⊥) × Escaped xs × (NoRoom r room xs → ⊥)
 
-  abbrev given : Row → Escaping
+  abbrev given : Row → Unquoting
   given long = Refused tooLong
   given broken = Refused (notUtf8 (placeAt xs (prefixEnd xs)))
+  given bad = Refused badLiteral
   given short = Refused noRoom
-  given written = Written (length (escaped xs))
+  given inner = Inner (length (innerOf xs))
+  given written = Written (length (unquoted r xs))
 
   back : (w : Row) → rowOf (given w) ≡ w
   back long = refl
   back broken = refl
+  back bad = refl
   back short = refl
+  back inner = refl
   back written = refl
 
-  gives : (w : Row) → Holds w → escapingOf room xs ≡ given w
-  unfolding escapingOf
+  gives : (w : Row) → Holds w → unquotingOf r room xs ≡ given w
+  unfolding unquotingOf extentOf
   gives long h = rw (given-exactly textLimit xs .0 .1 h)
   gives broken h = rw (given-exactly textLimit xs .1 .1 h)
-  gives short h = rw (given-exactly textLimit xs .2 .1 (h .0), lt-leb (length (escaped xs)) room (h .1))
-  gives written h = rw (given-exactly textLimit xs .2 .1 (h .0), le-leb (length (escaped xs)) room (omega (arith, h .1)))
+  gives bad h = rw (given-exactly textLimit xs .2 .1 (h .0), tests-literal xs .1 (h .1))
+  gives short h =
+      rw (given-exactly textLimit xs .2 .1 (h .0), affirmed (tests-literal xs) (h .1), tests-escape xs .1 (h .2), lt-leb (length (unquoted r xs)) room (h .3))
+  gives inner h =
+      rw (given-exactly textLimit xs .2 .1 (h .0), affirmed (tests-literal xs) (h .1), affirmed (tests-escape xs) (h .2))
+  gives written h =
+      rw (given-exactly textLimit xs .2 .1 (h .0), affirmed (tests-literal xs) (h .1), tests-escape xs .1 (h .2), le-leb (length (unquoted r xs)) room (omega (arith, h .3)))
 
-  some : Dec (TooLong textLimit xs) → Dec (WellFormed xs) → Dec (NoRoom room xs) → (w : Row) × Holds w
-  some (yes l) w d = (long, l)
-  some (no l) (no w) d = (broken, (l, w))
-  some (no l) (yes w) (yes h) = (short, ((l, w), h))
-  some (no l) (yes w) (no h) = (written, ((l, w), h))
+  some : Dec (TooLong textLimit xs) → Dec (WellFormed xs) → Dec (BadLiteral xs) → Dec (Escaped xs) → Dec (NoRoom r room xs) → (w : Row) × Holds w
+  some (yes l) w b e d = (long, l)
+  some (no l) (no w) b e d = (broken, (l, w))
+  some (no l) (yes w) (yes b) e d = (bad, ((l, w), b))
+  some (no l) (yes w) (no b) (no e) d = (inner, ((l, w), b, e))
+  some (no l) (yes w) (no b) (yes e) (yes d) = (short, ((l, w), b, e, d))
+  some (no l) (yes w) (no b) (yes e) (no d) = (written, ((l, w), b, e, d))
 
-  only : (w : Row) → escapingOf room xs ≡ given w → Holds w
+  only : (w : Row) → unquotingOf r room xs ≡ given w → Holds w
   only w e =
-      let v = some (decLt textLimit (length xs)) (ℕ-discrete (prefixEnd xs) (length xs)) (decLt room (length (escaped xs))) in
+      let v = some (decLt textLimit (length xs)) (ℕ-discrete (prefixEnd xs) (length xs)) (decided (tests-literal xs)) (decided (tests-escape xs)) (decLt room (length (unquoted r xs))) in
       exactly rowOf given back Holds (v .0) (v .1) (gives (v .0) (v .1)) w e
 
-pub escaping-given : EscapingGiven
-escaping-given room xs =
-    ((only room xs long, gives room xs long), (only room xs broken, gives room xs broken), (only room xs short, gives room xs short), (only room xs written, gives room xs written))
+pub unquoting-given : UnquotingGiven
+unquoting-given r room xs = (
+  (only r room xs long, gives r room xs long),
+  (only r room xs broken, gives r room xs broken),
+  (only r room xs bad, gives r room xs bad),
+  (only r room xs short, gives r room xs short),
+  (only r room xs inner, gives r room xs inner),
+  (only r room xs written, gives r room xs written),
+)

@@ -1,11 +1,9 @@
-pub mod Escapes
 pub mod Contents
 pub mod Plain
 pub mod Literals
 pub mod Readings
 pub mod Back
 pub mod Given
-pub mod GivenText
 pub mod Bounds
 pub mod Calls
 pub mod Unique

@@ -22,7 +22,7 @@ use Rattle.tile.specs.declared.Tile.the-variants.{Piece, Bad}
 use Rattle.tile.specs.Tile.{backslash, backquote, beginsEscape, tileOf}
 use Rattle.string.specs.Tiles.{tilesOf, hasBad, givesByte, pieceBytes, bytesOf}
 use Rattle.string.specs.Literal.{has, hasEscape}
-use Rattle.string.proofs.Escapes.{back}
+use Rattle.escape.proofs.Escapes.{back}
 use Rattle.string.proofs.Contents.{tiles-none, first-piece, first-bad}
 
 -- a character as it is gives its bytes in both readings

@@ -3,18 +3,10 @@
 use mathlib.Core.Path.{_≡_, sym, _∙_}
 use denote.Ref.{now}
 use Rattle.scan.proofs.One.{OneAnswer, OneContent, OnePart}
-use Rattle.string.proofs.escape_string.Kinds as escape-string
-use Rattle.string.proofs.escape_string.Reads as escape-string-reads
 use Rattle.string.proofs.unquote_string.Kinds as unquote-string
 use Rattle.string.proofs.unquote_string.Reads as unquote-string-reads
 use Rattle.string.proofs.part.Kinds as part
 use Rattle.string.proofs.part.Reads as part-reads
-
-pub same-escape-string : OneAnswer escape-string.ps escape-string.r escape-string-reads.Post
-same-escape-string κs a x y e f p q = p .0 ∙ sym (q .0)
-
-pub same-escape-string-out : OneContent escape-string.ps escape-string.r escape-string-reads.Post (λ κs e. now (e .1 .0))
-same-escape-string-out κs a x y e f p q = let s : x ≡ y = same-escape-string κs a x y e f p q in cc (p .1, q .1)
 
 pub same-unquote-string : OneAnswer unquote-string.ps unquote-string.r unquote-string-reads.Post
 same-unquote-string κs a x y e f p q = p .0 ∙ sym (q .0)

@@ -1,5 +1,4 @@
--- What holds of escaping and of reading a literal, as statements. Their proofs stand in `proofs/Escapes`, `proofs/Readings` and
--- `proofs/Back`.
+-- What holds of reading a literal, as statements. Their proofs stand in `proofs/Readings` and `proofs/Back`.
 use Prim.Native.Nat.{ℕ, _≤_}
 use mathlib.Core.Bool.{Bool, true, false, _&&_, _||_}
 use mathlib.Core.List.{List, [], _∷_, _++_}
@@ -15,13 +14,9 @@ use Rattle.tile.specs.declared.Tile.the-variants.{Piece, Bad}
 use Rattle.tile.specs.Tile.{isByte}
 use Rattle.string.specs.declared.Unquoting.{Unquoting}
 use Rattle.string.specs.declared.Unquoting.the-variants.{Inner, Written, Refused}
-use Rattle.string.specs.Escape.{escaped}
+use Rattle.escape.specs.Escape.{escaped}
 use Rattle.string.specs.Tiles.{tilesOf}
 use Rattle.string.specs.Literal.{doubleQuote, signOf, innerOf, isBadLiteral, unquoted, unquotingOf, textBy, partOf}
-
--- the escape of joined texts is their escapes, joined
-abbrev pub EscapeJoin : Type 0
-EscapeJoin = (xs ys : List ℕ) → WellFormed xs → WellFormed ys → escaped (xs ++ ys) ≡ escaped xs ++ escaped ys
 
 -- an answer that is no refusal names the text of the literal, in the literal or in the buffer as it was left
 abbrev pub isRead : Unquoting → Bool

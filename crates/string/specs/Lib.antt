@@ -1,5 +1,3 @@
-pub mod Escape
-pub mod Bytes
 pub mod Tiles
 pub mod Measure
 pub mod Literal

@@ -1,5 +1,5 @@
--- Document 01's rows 1, 2, 40 and 3 as conditions on a text or a literal, and the statements that each answer is given exactly when its
--- row holds; `proofs/Given` has their proofs. "Order: 1, 2, the reading left to right (first refusal wins), 3."
+-- Document 01's rows 1, 2, 40 and 3 as conditions on a literal, and the statement that each answer is given exactly when its row holds;
+-- `proofs/Given` has its proof. "Order: 1, 2, the reading left to right (first refusal wins), 3."
 use Prim.Native.Nat.{ℕ, _-_, _<_}
 use mathlib.Core.List.{List, [], _∷_}
 use mathlib.Core.Logic.{_↔_, _⊎_}
@@ -7,33 +7,15 @@ use mathlib.Core.Path.{_≡_}
 use lib.ListN.{length}
 use Rattle.scan.specs.Byte.{peekAt}
 use Rattle.utf8.specs.declared.Reading.{Reading}
-use Rattle.utf8.specs.Text.{prefixEnd, WellFormed}
+use Rattle.utf8.specs.Text.{prefixEnd}
 use Rattle.utf8.specs.Answers.{textLimit, placeAt, tooLong, notUtf8, noRoom}
-use Rattle.utf8.specs.Refusals.{TooLong, NotUtf8}
+use Rattle.utf8.specs.Refusals.{TooLong, NotUtf8, Taken}
 use Rattle.tile.specs.declared.Tile.{Tile}
 use Rattle.tile.specs.declared.Tile.the-variants.{Bad}
 use Rattle.tile.specs.Tile.{backslash, backquote}
-use Rattle.string.specs.declared.Escaping.the-variants as escaping
 use Rattle.string.specs.declared.Unquoting.the-variants.{Inner, Written, Refused}
-use Rattle.string.specs.Escape.{escaped, escapingOf}
 use Rattle.string.specs.Tiles.{tilesOf}
 use Rattle.string.specs.Literal.{doubleQuote, singleQuote, lineFeed, signOf, innerOf, unquoted, badLiteral, unquotingOf}
-
--- a text or a literal within the limit
-abbrev pub Taken : List ℕ → Type 0
-Taken xs = (¬ (TooLong textLimit xs)) × WellFormed xs
-
--- 3 "result needs more room", of an escaped text
-abbrev pub NoRoom : ℕ → List ℕ → Type 0
-NoRoom room xs = room < length (escaped xs)
-
-abbrev pub EscapingGiven : Type 0
-EscapingGiven =
-    (room : ℕ) (xs : List ℕ) →
-    (escapingOf room xs ≡ escaping.Refused tooLong ↔ TooLong textLimit xs)
-    × (escapingOf room xs ≡ escaping.Refused (notUtf8 (placeAt xs (prefixEnd xs))) ↔ (¬ (TooLong textLimit xs)) × NotUtf8 xs)
-    × (escapingOf room xs ≡ escaping.Refused noRoom ↔ Taken xs × NoRoom room xs)
-    × (escapingOf room xs ≡ escaping.Written (length (escaped xs)) ↔ Taken xs × (¬ (NoRoom room xs)))
 
 -- "At least two bytes,
 abbrev pub TooShort : List ℕ → Type 0
@@ -69,9 +51,9 @@ BadLiteral xs = TooShort xs ⊎ (Unlike xs ⊎ (Unquoted xs ⊎ (Newline xs ⊎ 
 abbrev pub Escaped : List ℕ → Type 0
 Escaped xs = (¬ (signOf xs ≡ backquote)) × Stands backslash (innerOf xs)
 
--- 3, of a literal's text
-abbrev pub NoRoomFor : Reading → ℕ → List ℕ → Type 0
-NoRoomFor r room xs = room < length (unquoted r xs)
+-- 3 "result needs more room"
+abbrev pub NoRoom : Reading → ℕ → List ℕ → Type 0
+NoRoom r room xs = room < length (unquoted r xs)
 
 abbrev pub UnquotingGiven : Type 0
 UnquotingGiven =
@@ -79,7 +61,7 @@ UnquotingGiven =
     let u = unquotingOf r room xs in
     (u ≡ Refused tooLong ↔ TooLong textLimit xs)
     × (u ≡ Refused (notUtf8 (placeAt xs (prefixEnd xs))) ↔ (¬ (TooLong textLimit xs)) × NotUtf8 xs)
-    × (u ≡ Refused badLiteral ↔ Taken xs × BadLiteral xs)
-    × (u ≡ Refused noRoom ↔ Taken xs × (¬ (BadLiteral xs)) × Escaped xs × NoRoomFor r room xs)
-    × (u ≡ Inner (length (innerOf xs)) ↔ Taken xs × (¬ (BadLiteral xs)) × (¬ (Escaped xs)))
-    × (u ≡ Written (length (unquoted r xs)) ↔ Taken xs × (¬ (BadLiteral xs)) × Escaped xs × (¬ (NoRoomFor r room xs)))
+    × (u ≡ Refused badLiteral ↔ Taken textLimit xs × BadLiteral xs)
+    × (u ≡ Refused noRoom ↔ Taken textLimit xs × (¬ (BadLiteral xs)) × Escaped xs × NoRoom r room xs)
+    × (u ≡ Inner (length (innerOf xs)) ↔ Taken textLimit xs × (¬ (BadLiteral xs)) × (¬ (Escaped xs)))
+    × (u ≡ Written (length (unquoted r xs)) ↔ Taken textLimit xs × (¬ (BadLiteral xs)) × Escaped xs × (¬ (NoRoom r room xs)))

@@ -1,12 +1,10 @@
-// String literals: one is read, and a text is escaped, to stand between double quotes. What is to be written is measured first, so
-// that a refused call writes nothing.
+// String literals: where the text of one stands, and that text. What is to be written is measured first, so that a refused call writes
+// nothing.
 use tile::Form;
 use tile::Tile;
 use utf8::Admission;
 use utf8::ByteOffset;
-use utf8::CharNumber;
 use utf8::Encoding;
-use utf8::Place;
 use utf8::Reading;
 use utf8::Refusal;
 ghost use mathlib.Core.Bool.{true, false};
@@ -16,10 +14,7 @@ ghost use Prim.Native.Nat.{_+_, _<_, _≤_};
 ghost use lib.ListN.{length};
 ghost use lib.Seq.{sets};
 ghost use Rattle.utf8.specs.Text.{WellFormed};
-ghost use Rattle.utf8.specs.Answers.{atStart};
 ghost use Rattle.tile.specs.Tile.{isAllowed};
-ghost use Rattle.string.specs.Escape.{letterOf, escaped, escapingOf, leftBy};
-ghost use Rattle.string.specs.Bytes.{escapedByte, escapedBytes};
 ghost use Rattle.string.specs.Tiles.{tilesOf, hasBad, givesByte, pieceBytes, bytesOf};
 ghost use Rattle.string.specs.Literal.{isQuote, isEnclosed, has, isBroken, hasEscape, unquoted, extentOf, unquotingOf, textBy, partOf};
 ghost use Rattle.string.specs.declared.Unquoting.the-variants.{Inner, Written};
@@ -43,12 +38,6 @@ pub enum Extent {
     Bad,
 }
 
-// How many bytes of an escaped text were written, or why none were.
-pub enum Escaping {
-    Written(usize),
-    Refused(Refusal),
-}
-
 const BACKSLASH: u8 = b'\\';
 
 const DOUBLE_QUOTE: u8 = b'"';
@@ -61,100 +50,6 @@ const LINE_FEED: u8 = b'\n';
 
 // The bytes of the two signs.
 const SIGNS: usize = 2;
-
-// A byte that is copied has no letter.
-const NO_LETTER: u8 = 0;
-
-// A refusal that names no place.
-fn at_start(number: usize) -> Refusal
-    ensures { λ r. ⌜ r ≡ atStart number ⌝ }
-{
-    let place = Place {
-        byte: ByteOffset(0),
-        character: CharNumber(0),
-    };
-    Refusal { number, place }
-}
-
-// What stands behind the backslash for a byte.
-fn letter_of(c: u8) -> u8
-    ensures { λ r. ⌜ r ≡ letterOf c ⌝ }
-{
-    match c {
-        b'\\' => b'\\',
-        b'"' => b'"',
-        b'\n' => b'n',
-        b'\r' => b'r',
-        b'\t' => b't',
-        _ => NO_LETTER,
-    }
-}
-
-// How many bytes a byte has when it is escaped.
-fn escaped_size(c: u8) -> usize
-    ensures { λ r. ⌜ r ≡ length (escapedByte c) ⌝ }
-{
-    if letter_of(c) == NO_LETTER { 1 } else { 2 }
-}
-
-// And a text.
-fn escaped_length(text: &[u8]) -> usize
-    ensures { λ r. ⌜ r ≡ length (escapedBytes (now (text .entry))) ⌝ }
-{
-    let mut n = 0;
-    let mut i = 0;
-    while i < text.len() {
-        n += escaped_size(text[i]);
-        i += 1;
-    }
-    n
-}
-
-// Writes a byte, escaped, at a place where it fits, and answers the place past it.
-fn put_escaped(c: u8, out: &mut [u8], at: usize) -> usize
-    requires { ⌜ at + length (escapedByte c) ≤ length (now out) ⌝ }
-    ensures { λ r. ⌜ r ≡ at + length (escapedByte c) ⌝ }
-    ensures { λ _. ⌜ now (out .exit) ≡ sets (now (out .entry)) at (escapedByte c) ⌝ }
-{
-    let letter = letter_of(c);
-    if letter == NO_LETTER {
-        out[at] = c;
-        return at + 1;
-    }
-    out[at] = BACKSLASH;
-    out[at + 1] = letter;
-    at + 2
-}
-
-// Writes a text, escaped, at the front of a buffer that it fits.
-fn write_escaped(text: &[u8], out: &mut [u8])
-    requires { ⌜ length (escapedBytes (now text)) ≤ length (now out) ⌝ }
-    ensures { λ _. ⌜ now (out .exit) ≡ sets (now (out .entry)) 0 (escapedBytes (now (text .entry))) ⌝ }
-{
-    let mut at = 0;
-    let mut i = 0;
-    while i < text.len() {
-        at = put_escaped(text[i], out, at);
-        i += 1;
-    }
-}
-
-// Writes a text, escaped, at the front of a lent buffer; nothing where it is refused.
-pub fn escape_string(text: &[u8], out: &mut [u8]) -> Escaping
-    ensures { λ r. ⌜ r ≡ escapingOf (length (now (out .entry))) (now (text .entry)) ⌝ }
-    ensures { λ r. ⌜ now (out .exit) ≡ leftBy r (escaped (now (text .entry))) (now (out .entry)) ⌝ }
-{
-    let a = utf8::admit(text, utf8::TEXT_LIMIT);
-    if let Admission::Refused(r) = a {
-        return Escaping::Refused(r);
-    }
-    let n = escaped_length(text);
-    if out.len() < n {
-        return Escaping::Refused(at_start(utf8::NO_ROOM));
-    }
-    write_escaped(text, out);
-    Escaping::Written(n)
-}
 
 // Whether a list has the byte.
 fn contains(s: &[u8], c: u8) -> bool
@@ -315,13 +210,13 @@ pub fn unquote_string(literal: &[u8], reading: Reading, text: &mut [u8]) -> Unqu
         Extent::Inner(n) => Unquoting::Inner(n),
         Extent::Text(n) => {
             if text.len() < n {
-                return Unquoting::Refused(at_start(utf8::NO_ROOM));
+                return Unquoting::Refused(utf8::at_start(utf8::NO_ROOM));
             }
             let end = literal.len() - 1;
             write_pieces(&literal[1..end], literal[0], reading, text);
             Unquoting::Written(n)
         }
-        Extent::Bad => Unquoting::Refused(at_start(BAD_LITERAL)),
+        Extent::Bad => Unquoting::Refused(utf8::at_start(BAD_LITERAL)),
     }
 }
 

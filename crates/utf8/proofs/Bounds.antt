@@ -42,14 +42,14 @@ unfolding charNumber
 number-bound xs to = omega (arith, begun-bound to (charsOf xs), count-bound xs)
 
 -- within a limit an admission counts no more than that, and its refusals are 1 and 2, at places no further
-pub record Placed (limit : ℕ) (r : Refusal) : Type 0 where
-  pub number : r .number ≤ 2
+pub record Placed (most limit : ℕ) (r : Refusal) : Type 0 where
+  pub number : r .number ≤ most
   pub byte : r .place .byte .0 ≤ limit
   pub character : r .place .character .0 ≤ limit
 
 abbrev pub Bounded : ℕ → Admission → Type 0
 Bounded limit (Admitted n) = n .0 ≤ limit
-Bounded limit (Refused r) = Placed limit r
+Bounded limit (Refused r) = Placed 2 limit r
 
 pub admitted-bound : (limit : ℕ) (xs : List ℕ) → Bounded limit (admitted limit xs)
 unfolding admitted validityOf

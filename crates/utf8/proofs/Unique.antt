@@ -10,6 +10,8 @@ use Rattle.utf8.proofs.char_number.Kinds as char-number
 use Rattle.utf8.proofs.char_number.Reads as char-number-reads
 use Rattle.utf8.proofs.char_at.Kinds as char-at
 use Rattle.utf8.proofs.char_at.Reads as char-at-reads
+use Rattle.utf8.proofs.at_start.Kinds as at-start
+use Rattle.utf8.proofs.at_start.Reads as at-start-reads
 use Rattle.utf8.proofs.is_scalar.Kinds as is-scalar
 use Rattle.utf8.proofs.is_scalar.Reads as is-scalar-reads
 use Rattle.utf8.proofs.encoded_size.Kinds as encoded-size
@@ -28,6 +30,9 @@ same-char-number κs a x y e f p q = p ∙ sym q
 
 pub same-char-at : OneAnswer char-at.ps char-at.r char-at-reads.Post
 same-char-at κs a x y e f p q = p ∙ sym q
+
+pub same-at-start : OneAnswer at-start.ps at-start.r at-start-reads.Post
+same-at-start κs a x y e f p q = p ∙ sym q
 
 pub same-is-scalar : OneAnswer is-scalar.ps is-scalar.r is-scalar-reads.Post
 same-is-scalar κs a x y e f p q = p ∙ sym q

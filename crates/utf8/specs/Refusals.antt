@@ -17,14 +17,18 @@ TooLong limit xs = limit < length xs
 abbrev pub NotUtf8 : List ℕ → Type 0
 NotUtf8 xs = ¬ (WellFormed xs)
 
+-- a text within the limit
+abbrev pub Taken : ℕ → List ℕ → Type 0
+Taken limit xs = (¬ (TooLong limit xs)) × WellFormed xs
+
 -- "Order: 1, 2"
 abbrev pub GivenExactly : Type 0
 GivenExactly =
     (limit : ℕ) (xs : List ℕ) →
     (admitted limit xs ≡ Refused tooLong ↔ TooLong limit xs)
     × (admitted limit xs ≡ Refused (notUtf8 (placeAt xs (prefixEnd xs))) ↔ (¬ (TooLong limit xs)) × NotUtf8 xs)
-    × (admitted limit xs ≡ Admitted (count (length (charsOf xs))) ↔ (¬ (TooLong limit xs)) × WellFormed xs)
+    × (admitted limit xs ≡ Admitted (count (length (charsOf xs))) ↔ Taken limit xs)
 
 -- so whatever is admitted is text within the limit
 abbrev pub AdmittedText : Type 0
-AdmittedText = (limit : ℕ) (xs : List ℕ) (n : CharNumber) → admitted limit xs ≡ Admitted n → (¬ (TooLong limit xs)) × WellFormed xs
+AdmittedText = (limit : ℕ) (xs : List ℕ) (n : CharNumber) → admitted limit xs ≡ Admitted n → Taken limit xs

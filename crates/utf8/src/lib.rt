@@ -8,7 +8,7 @@ ghost use Rattle.utf8.specs.Table.{isTail, charLength};
 ghost use Rattle.utf8.specs.Lead.{sizeBy, lowSecond, highSecond, withTails};
 ghost use Rattle.utf8.specs.Text.{charNumber};
 ghost use Rattle.utf8.specs.Code.{codeOf, isScalar, sixBits, encoded};
-ghost use Rattle.utf8.specs.Answers.{count, nextStart, validityOf, admitted, characterAt, encodingOf, leftBy};
+ghost use Rattle.utf8.specs.Answers.{count, nextStart, validityOf, atStart, admitted, characterAt, encodingOf, leftBy};
 
 // How many bytes come before a place.
 pub struct ByteOffset(pub usize);
@@ -182,19 +182,23 @@ pub fn validate(text: &[u8]) -> Validity
     }
 }
 
+// A refusal that names no place.
+pub fn at_start(number: usize) -> Refusal
+    ensures { λ r. ⌜ r ≡ atStart number ⌝ }
+{
+    let place = Place {
+        byte: ByteOffset(0),
+        character: CharNumber(0),
+    };
+    Refusal { number, place }
+}
+
 // Takes up a text of at most `limit` bytes: refusals 1 and 2 of every reader.
 pub fn admit(text: &[u8], limit: usize) -> Admission
     ensures { λ r. ⌜ r ≡ admitted limit (now (text .entry)) ⌝ }
 {
     if limit < text.len() {
-        let place = Place {
-            byte: ByteOffset(0),
-            character: CharNumber(0),
-        };
-        return Admission::Refused(Refusal {
-            number: TOO_LONG,
-            place,
-        });
+        return Admission::Refused(at_start(TOO_LONG));
     }
     let v = validate(text);
     match v {

@@ -5,9 +5,9 @@ use native.Mathlib.Omega.{arith}
 use denote.Ref.{now}
 use borrow.Author.Needs.{needs}
 use lib.ListN.{length}
-use Rattle.string.specs.declared.Escaping.{Escaping}
-use Rattle.string.specs.Escape.{escaped, escapingOf, leftBy}
-use Rattle.string.proofs.Bounds.{Bounded, escaping-bound}
+use Rattle.escape.specs.declared.Escaping.{Escaping}
+use Rattle.escape.specs.Escape.{escaped, escapingOf, leftBy}
+use Rattle.escape.proofs.Bounds.{Bounded, escaping-bound}
 use Rattle.exports.specs.String.{escapeCode}
 use Rattle.exports.proofs.simmerpath_escape_string.Statement.{statement}
 use Rattle.exports.proofs.simmerpath_escape_string.Tie as tie

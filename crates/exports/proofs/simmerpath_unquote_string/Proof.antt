@@ -10,7 +10,7 @@ use lib.ListN.{length}
 use Rattle.utf8.specs.declared.Reading.{Reading}
 use Rattle.string.specs.declared.Unquoting.{Unquoting}
 use Rattle.string.specs.Literal.{unquoted, unquotingOf, textBy}
-use Rattle.string.proofs.Bounds.{BoundedText, unquoting-bound}
+use Rattle.string.proofs.Bounds.{Bounded, unquoting-bound}
 use Rattle.exports.specs.String.{readingOf, unquoteCode}
 use Rattle.exports.proofs.simmerpath_unquote_string.Statement.{statement}
 use Rattle.exports.proofs.simmerpath_unquote_string.Tie as tie
@@ -44,8 +44,8 @@ module _ (c : tie.After-unquote-string) where
   code-is : (u : Unquoting) → c .unquote-string .result ≡ u → unquoteCode u ≡ unquoteCode answer
   code-is u t = ap unquoteCode (sym t ∙ answer-is)
 
-  bound-is : (u : Unquoting) → c .unquote-string .result ≡ u → BoundedText u
-  bound-is u t = subst BoundedText (sym answer-is ∙ t) (unquoting-bound reads (length out) xs)
+  bound-is : (u : Unquoting) → c .unquote-string .result ≡ u → Bounded u
+  bound-is u t = subst Bounded (sym answer-is ∙ t) (unquoting-bound reads (length out) xs)
 
   left-is : c .unquote-string .last .1 .1 .0 ≡ textBy answer (unquoted reads xs) out
   left-is =

@@ -15,7 +15,7 @@ use Rattle.tile.specs.declared.Tile.the-variants.{Piece}
 use Rattle.tile.specs.Tile.{tileOf}
 use Rattle.tile.specs.Laws.{Fair}
 use Rattle.string.specs.Tiles.{tilesOf, hasBad, pieceBytes, bytesOf}
-use Rattle.string.proofs.Escapes.{sets-join}
+use Rattle.escape.proofs.Escapes.{sets-join}
 use Rattle.string.proofs.Contents as contents
 use Rattle.string.proofs.write_pieces.Statement.{statement}
 use Rattle.string.proofs.write_pieces.Tie as tie

@@ -3,14 +3,18 @@ use borrow.Author.Tests.{lt-ltb, le-ltb}
 use mathlib.Core.Path.{_≡_, sym, ap, _∙_}
 use denote.Ref.{now}
 use lib.ListN.{length}
+use Rattle.utf8.specs.declared.Admission.the-variants.{Refused}
 use Rattle.utf8.specs.Answers.{admittedAs, admitted}
 use borrow.Author.Needs.{needs}
 use Rattle.utf8.proofs.admit.Statement.{statement}
 use Rattle.utf8.proofs.admit.Tie as tie
 
+at-start-requires : tie.Need-at-start-requires
+at-start-requires c κs = search needs
+
 returns : tie.Need-returns
 unfolding admitted
-returns c = simp (lt-ltb _ _ (c .if1 .taken))
+returns c = rw (lt-ltb _ _ (c .before .if1 .taken)) (ap Refused (c .at-start .ensures))
 
 validate-requires : tie.Need-validate-requires
 validate-requires c κs = search needs
@@ -36,4 +40,4 @@ returns-3 c = sym (within (c .before .before .before) ∙ ap admittedAs (c .befo
 
 pub admit-spec : {M : Type 1} → statement M
 admit-spec =
-    tie.close (tie.spec returns validate-requires enum-known-v enum-known-v-2 returns-2 returns-3)
+    tie.close (tie.spec at-start-requires returns validate-requires enum-known-v enum-known-v-2 returns-2 returns-3)

@@ -3,10 +3,10 @@ use mathlib.Core.Path.{refl, sym, ap, _∙_}
 use native.Mathlib.Omega.{arith}
 use denote.Ref.{now}
 use borrow.Author.Needs.{needs}
-use Rattle.string.specs.declared.Escaping.the-variants.{Refused}
-use Rattle.string.proofs.Escapes.{refused-first, not-fitted, written, left}
-use Rattle.string.proofs.escape_string.Statement.{statement}
-use Rattle.string.proofs.escape_string.Tie as tie
+use Rattle.escape.specs.declared.Escaping.the-variants.{Refused}
+use Rattle.escape.proofs.Escapes.{refused-first, not-fitted, written, left}
+use Rattle.escape.proofs.escape_string.Statement.{statement}
+use Rattle.escape.proofs.escape_string.Tie as tie
 
 admit-requires : tie.Need-admit-requires
 admit-requires c κs = search needs

@@ -2,9 +2,9 @@
 use mathlib.Core.Path.{sym, ap, _∙_}
 use lib.ListN.{length}
 use borrow.Author.Needs.{needs}
-use Rattle.string.proofs.Escapes.{copied, lettered}
-use Rattle.string.proofs.escaped_size.Statement.{statement}
-use Rattle.string.proofs.escaped_size.Tie as tie
+use Rattle.escape.proofs.Escapes.{copied, lettered}
+use Rattle.escape.proofs.escaped_size.Statement.{statement}
+use Rattle.escape.proofs.escaped_size.Tie as tie
 
 letter-of-requires : tie.Need-letter-of-requires
 letter-of-requires c κs = search needs

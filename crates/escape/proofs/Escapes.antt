@@ -28,12 +28,11 @@ use Rattle.utf8.proofs.Laws.{none-empty, rest-well, none-ascii, ascii-code, one
 use Rattle.utf8.proofs.Ascii.{ascii-text, one-ascii}
 use Rattle.utf8.proofs.Given.{admitted-text}
 use Rattle.utf8.proofs.Inverse.{decode-encode, long-code}
-use Rattle.string.specs.declared.Escaping.{Escaping}
-use Rattle.string.specs.declared.Escaping.the-variants.{Written, Refused}
-use Rattle.tile.specs.Tile.{backslash}
-use Rattle.string.specs.Escape.{noLetter, letterOf, orLetter, escaped, escapingAs, escapingOf, leftBy}
-use Rattle.string.specs.Laws.{EscapeJoin}
-use Rattle.string.specs.Bytes.{escapedByte, escapedBytes}
+use Rattle.escape.specs.declared.Escaping.{Escaping}
+use Rattle.escape.specs.declared.Escaping.the-variants.{Written, Refused}
+use Rattle.escape.specs.Escape.{backslash, noLetter, letterOf, orLetter, escaped, escapingAs, escapingOf, leftBy}
+use Rattle.escape.specs.Laws.{EscapeJoin, EscapedText}
+use Rattle.escape.specs.Bytes.{escapedByte, escapedBytes}
 
 module _ (b : ℕ) where
   pub copied : letterOf b ≡ noLetter → escapedByte b ≡ b ∷ []
@@ -150,7 +149,7 @@ one-escaped bs o = go bs o (decLt 1 (length bs))
     go (b ∷ []) o (no l) = unfold escapedBytes in rw append-nil (byte-text b (one-ascii b [] (o .whole)))
     go (b ∷ b₂ ∷ bs) o (no l) = let f : ⊥ = omega arith in absurd f
 
-pub escaped-text : (xs : List ℕ) → WellFormed xs → WellFormed (escaped xs)
+pub escaped-text : EscapedText
 escaped-text xs w = rw (by-characters-escaped xs w) (go xs w)
   where
     go : (xs : List ℕ) → WellFormed xs → WellFormed (escapedBytes xs)

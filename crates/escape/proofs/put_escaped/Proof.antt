@@ -6,12 +6,11 @@ use mathlib.Core.Path.{_≡_, refl, sym, ap, _∙_}
 use lib.ListN.{length, length-set}
 use denote.Ref.{now}
 use borrow.Author.Needs.{needs}
-use Rattle.tile.specs.Tile.{backslash}
-use Rattle.string.specs.Escape.{letterOf}
-use Rattle.string.specs.Bytes.{escapedByte}
-use Rattle.string.proofs.Escapes.{copied, lettered}
-use Rattle.string.proofs.put_escaped.Statement.{statement}
-use Rattle.string.proofs.put_escaped.Tie as tie
+use Rattle.escape.specs.Escape.{backslash, letterOf}
+use Rattle.escape.specs.Bytes.{escapedByte}
+use Rattle.escape.proofs.Escapes.{copied, lettered}
+use Rattle.escape.proofs.put_escaped.Statement.{statement}
+use Rattle.escape.proofs.put_escaped.Tie as tie
 
 letter-of-requires : tie.Need-letter-of-requires
 letter-of-requires c κs = search needs

@@ -5,10 +5,10 @@ use mathlib.Core.Path.{_≡_, refl, sym, ap, _∙_}
 use denote.Ref.{now}
 use lib.ListN.{length, getD, drop, drop-of-length-le, length-append}
 use lib.Seq.{sets}
-use Rattle.string.specs.Bytes.{escapedByte, escapedBytes}
-use Rattle.string.proofs.Escapes.{next, none, sets-join}
-use Rattle.string.proofs.write_escaped.Statement.{statement}
-use Rattle.string.proofs.write_escaped.Tie as tie
+use Rattle.escape.specs.Bytes.{escapedByte, escapedBytes}
+use Rattle.escape.proofs.Escapes.{next, none, sets-join}
+use Rattle.escape.proofs.write_escaped.Statement.{statement}
+use Rattle.escape.proofs.write_escaped.Tie as tie
 
 abbrev Inv-loop : tie.InvT-loop
 Inv-loop text out₀ at₀ i₀ out at i =

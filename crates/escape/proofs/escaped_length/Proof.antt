@@ -4,10 +4,10 @@ use native.Mathlib.Omega.{arith}
 use mathlib.Core.Path.{_≡_, ap, _∙_}
 use denote.Ref.{now}
 use lib.ListN.{length, getD, drop, drop-of-length-le, length-append}
-use Rattle.string.specs.Bytes.{escapedByte, escapedBytes}
-use Rattle.string.proofs.Escapes.{byte-few, next, none}
-use Rattle.string.proofs.escaped_length.Statement.{statement}
-use Rattle.string.proofs.escaped_length.Tie as tie
+use Rattle.escape.specs.Bytes.{escapedByte, escapedBytes}
+use Rattle.escape.proofs.Escapes.{byte-few, next, none}
+use Rattle.escape.proofs.escaped_length.Statement.{statement}
+use Rattle.escape.proofs.escaped_length.Tie as tie
 
 abbrev Inv-loop : tie.InvT-loop
 Inv-loop text n₀ i₀ n i = (i ≤ length text) × (n ≤ 2 * i) × (n + length (escapedBytes (drop i text)) ≡ length (escapedBytes text))

@@ -5,14 +5,16 @@ use mathlib.Core.Bool.{cond}
 use mathlib.Core.List.{List, [], _∷_, _++_}
 use lib.Dec.{leb, eqb}
 use lib.ListN.{length, drop}
-use Rattle.tile.specs.Tile.{backslash}
 use Rattle.utf8.specs.Code.{encoded}
 use Rattle.utf8.specs.Text.{codesOf}
 use Rattle.utf8.specs.declared.Admission.{Admission}
 use Rattle.utf8.specs.declared.Admission.the-variants as admission
 use Rattle.utf8.specs.Answers.{textLimit, noRoom, admitted}
-use Rattle.string.specs.declared.Escaping.{Escaping}
-use Rattle.string.specs.declared.Escaping.the-variants.{Written, Refused}
+use Rattle.escape.specs.declared.Escaping.{Escaping}
+use Rattle.escape.specs.declared.Escaping.the-variants.{Written, Refused}
+
+abbrev pub backslash : ℕ
+backslash = code "\\"
 
 -- a character that is copied has no letter
 abbrev pub noLetter : ℕ

@@ -1,8 +1,8 @@
 -- The arms are the tests of the definition.
 use borrow.Author.Tests.{ne-eqb}
-use Rattle.string.specs.Escape.{letterOf}
-use Rattle.string.proofs.letter_of.Statement.{statement}
-use Rattle.string.proofs.letter_of.Tie as tie
+use Rattle.escape.specs.Escape.{letterOf}
+use Rattle.escape.proofs.letter_of.Statement.{statement}
+use Rattle.escape.proofs.letter_of.Tie as tie
 
 returns : tie.Need-returns
 unfolding letterOf

@@ -1,0 +1,4 @@
+pub mod Escapes
+pub mod Given
+pub mod Bounds
+pub mod Unique

@@ -1,0 +1,3 @@
+pub mod Escape
+pub mod Bytes
+pub mod Laws
