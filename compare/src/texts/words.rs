@@ -149,7 +149,7 @@ fn spoiled(random: &mut Random, words: &[&str]) -> Vec<u8> {
         let end = word.len().min(place + random.below(2));
         let letter = &[random.one_of(WORD_BYTES)][..];
         let piece = random.one_of(&PIECES);
-        let bytes = random.one_of(&[&[], letter, piece]);
+        let bytes = random.one_of(&[&[][..], letter, piece]);
         word = replaced(&word, place..end, bytes);
     }
     word
