@@ -7,6 +7,7 @@ use std::iter;
 use std::ops::Range;
 
 pub mod escapes;
+pub mod literals;
 pub mod words;
 
 /// The bytes on both sides of each end of a range of RFC 3629's table, and a letter.
@@ -41,10 +42,15 @@ const EDGES: [[char; 4]; 4] = [
 
 /// Every text of at most four telling bytes.
 pub fn exhaustive() -> impl Iterator<Item = Vec<u8>> {
-    (0..=4).flat_map(|length| {
-        (0..TELLING.len().pow(length)).map(move |number| {
-            let digit = |place| number / TELLING.len().pow(place) % TELLING.len();
-            (0..length).map(|place| TELLING[digit(place)]).collect()
+    sequences(&TELLING, 4)
+}
+
+/// Every sequence of at most so many pieces.
+fn sequences<T: Copy>(pieces: &'static [T], most: u32) -> impl Iterator<Item = Vec<T>> {
+    (0..=most).flat_map(move |length| {
+        (0..pieces.len().pow(length)).map(move |number| {
+            let digit = |place| number / pieces.len().pow(place) % pieces.len();
+            (0..length).map(|place| pieces[digit(place)]).collect()
         })
     })
 }

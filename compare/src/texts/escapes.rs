@@ -1,5 +1,6 @@
 //! Texts that have much to escape.
 
+use super::sequences;
 use crate::oracle::MOST_BYTES;
 use crate::random::Random;
 use std::iter;
@@ -26,17 +27,14 @@ const PIECES: [&str; 17] = [
     "\u{10ffff}",
 ];
 
-/// Every text of at most four pieces, and texts at the limit that are all escapes.
+/// Every text of at most four pieces, and texts of backslashes around the limit, and around half of it, where the literals of
+/// them are at the limit.
 pub fn fixed() -> impl Iterator<Item = Vec<u8>> {
-    let short = (0..=4).flat_map(|length| {
-        (0..PIECES.len().pow(length)).map(move |number| {
-            let digit = |place| number / PIECES.len().pow(place) % PIECES.len();
-            (0..length)
-                .map(|place| PIECES[digit(place)])
-                .collect::<String>()
-        })
-    });
-    let long = (MOST_BYTES - 1..=MOST_BYTES + 1).map(|length| "\\".repeat(length));
+    let short = sequences(&PIECES, 4).map(|pieces| pieces.concat());
+    let limits = [MOST_BYTES / 2, MOST_BYTES].into_iter();
+    let long = limits
+        .flat_map(|limit| limit - 1..=limit + 1)
+        .flat_map(|length| ["", "a"].map(|end| "\\".repeat(length) + end));
     short.chain(long).map(String::into_bytes)
 }
 
