@@ -1,7 +1,8 @@
-//! The Rust's answers, in the form of ours: a number, or a refusal with its place. A module for each operation.
+//! The Rust's answers, in the form of ours: a number, or a refusal with its place.
 
 use std::fmt::{self, Display, Formatter};
 
+pub mod literal;
 #[cfg(feature = "promql")]
 pub mod string;
 #[cfg(feature = "promql")]
@@ -17,8 +18,8 @@ pub const TOO_LONG: u8 = 1;
 pub const NOT_UTF8: u8 = 2;
 /// The number of the refusal of a result that needs more room.
 pub const NO_ROOM: u8 = 3;
-/// The number of the refusal of a code point that is no character.
-pub const NO_CHARACTER: u8 = 40;
+/// The number of the refusal of a bad literal, and of a code point that is no character.
+pub const BAD_LITERAL: u8 = 40;
 
 /// What a call answers.
 #[derive(Clone, Copy, Debug, PartialEq, Eq)]
@@ -58,7 +59,6 @@ impl Display for Answer {
 }
 
 /// Writes a text to the front: how many bytes it has.
-#[cfg(feature = "promql")]
 fn write(text: &[u8], out: &mut [u8]) -> Answer {
     match out.get_mut(..text.len()) {
         None => Answer::refused(NO_ROOM),

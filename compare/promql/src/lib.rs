@@ -16,6 +16,9 @@ mod util {
 
 use parser::lex;
 use parser::token::{self, TokenType};
+use std::cell::Cell;
+use std::panic::{self, UnwindSafe};
+use std::sync::Once;
 use util::string;
 
 /// The kind of a word of the table.
@@ -56,4 +59,42 @@ pub fn lexemes(query: &str) -> Result<Vec<(u16, usize, usize)>, String> {
 /// A text, escaped.
 pub fn escape(text: &str) -> String {
     string::escape_string(text)
+}
+
+/// What became of a literal.
+pub enum Unquoted {
+    Text(String),
+    Bad,
+    Panicked,
+}
+
+/// What a string literal stands for.
+pub fn unquote(literal: &str) -> Unquoted {
+    match quietly(|| string::unquote_string(literal)) {
+        Some(Ok(text)) => Unquoted::Text(text),
+        Some(Err(_)) => Unquoted::Bad,
+        None => Unquoted::Panicked,
+    }
+}
+
+thread_local! {
+    /// Whether nothing is to be said of a panic.
+    static QUIET: Cell<bool> = Cell::new(false);
+}
+
+/// What a call returns; none where it panics, of which nothing is said.
+fn quietly<T>(call: impl FnOnce() -> T + UnwindSafe) -> Option<T> {
+    static HOOK: Once = Once::new();
+    HOOK.call_once(|| {
+        let said = panic::take_hook();
+        panic::set_hook(Box::new(move |panic| {
+            if !QUIET.with(Cell::get) {
+                said(panic);
+            }
+        }));
+    });
+    QUIET.with(|quiet| quiet.set(true));
+    let returned = panic::catch_unwind(call).ok();
+    QUIET.with(|quiet| quiet.set(false));
+    returned
 }

@@ -1,6 +1,6 @@
 //! The UTF-8 functions by `std::str::from_utf8` and `char`.
 
-use super::{Answer, MOST_BYTES, NOT_UTF8, NO_CHARACTER, NO_ROOM, TOO_LONG};
+use super::{Answer, BAD_LITERAL, MOST_BYTES, NOT_UTF8, NO_ROOM, TOO_LONG};
 use std::str;
 
 /// A text, and where the characters of its longest well-formed prefix begin.
@@ -57,6 +57,14 @@ impl<'a> Text<'a> {
     }
 }
 
+/// The text of these bytes, or its refusal.
+pub fn admitted(bytes: &[u8]) -> Result<&str, Answer> {
+    match (Text::new(bytes).validate(), str::from_utf8(bytes)) {
+        (Answer::Value(_), Ok(text)) => Ok(text),
+        (refused, _) => Err(refused),
+    }
+}
+
 /// The longest well-formed prefix of a text.
 fn prefix(bytes: &[u8]) -> &str {
     match str::from_utf8(bytes) {
@@ -69,7 +77,7 @@ fn prefix(bytes: &[u8]) -> &str {
 pub fn encode(code: u32, out: &mut [u8], at: usize) -> Answer {
     let room = out.get_mut(at..).unwrap_or(&mut []);
     match char::from_u32(code) {
-        None => Answer::refused(NO_CHARACTER),
+        None => Answer::refused(BAD_LITERAL),
         Some(c) if room.len() < c.len_utf8() => Answer::refused(NO_ROOM),
         Some(c) => Answer::Value(c.encode_utf8(room).len() as u64),
     }
