@@ -1,7 +1,9 @@
-//! The Rust's answers, in the form of ours: a number, or a refusal with its place.
+//! The Rust's answers and Go's, in the form of ours: a number, or a refusal with its place.
 
 use std::fmt::{self, Display, Formatter};
 
+#[cfg(feature = "go")]
+pub mod go;
 pub mod literal;
 #[cfg(feature = "promql")]
 pub mod string;
