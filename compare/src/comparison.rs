@@ -33,11 +33,11 @@ impl<W> Outcome<W> {
     }
 }
 
-/// A call with two outcomes, ours and the Rust's.
+/// A call with two outcomes, ours and the one that it must have.
 pub struct Difference {
     call: String,
     ours: String,
-    rust: String,
+    must: String,
 }
 
 impl Difference {
@@ -45,12 +45,12 @@ impl Difference {
     pub fn between<W: Debug + PartialEq>(
         call: impl FnOnce() -> String,
         ours: &Outcome<W>,
-        rust: &Outcome<W>,
+        must: &Outcome<W>,
     ) -> Option<Self> {
-        (ours != rust).then(|| Difference {
+        (ours != must).then(|| Difference {
             call: call(),
             ours: format!("{ours:x?}"),
-            rust: format!("{rust:x?}"),
+            must: format!("{must:x?}"),
         })
     }
 }
@@ -69,11 +69,10 @@ impl<I: Input + ?Sized> Function<I> {
     fn show(&self, input: &I) {
         let owned = self.shrunk(input);
         let input = owned.borrow();
-        if let Some(Difference { call, ours, rust }) = (self.difference)(input) {
+        if let Some(Difference { call, ours, must }) = (self.difference)(input) {
             println!("{} differs on {}: {call}", self.name, input.shown());
             println!("  ours: {ours}");
-            let whose = if (self.known)(input) { "must" } else { "rust" };
-            println!("  {whose}: {rust}");
+            println!("  must: {must}");
         }
     }
 

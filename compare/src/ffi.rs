@@ -3,6 +3,7 @@
 //! is as it was.
 
 use crate::comparison::Outcome;
+use compare::oracle::literal::INNER;
 
 extern "C" {
     fn simmerpath_utf8_validate(text: *const u8, len: usize) -> u64;
@@ -14,6 +15,13 @@ extern "C" {
     fn simmerpath_token_classes(kind: u16) -> u64;
     fn simmerpath_is_label(text: *const u8, len: usize) -> u64;
     fn simmerpath_escape_string(text: *const u8, len: usize, out: *mut u8, room: usize) -> u64;
+    fn simmerpath_unquote_string(
+        literal: *const u8,
+        len: usize,
+        documented: u32,
+        text: *mut u8,
+        room: usize,
+    ) -> u64;
 }
 
 /// How many guards stand on each side of a list.
@@ -171,4 +179,39 @@ pub fn escape_string<'a>(text: &mut Lent<u8>, out: &'a mut Lent<u8>) -> Outcome<
         untouched: text.is_untouched() && out.is_guarded(),
         ..out.written(answer)
     }
+}
+
+/// How many bytes the text of a literal has, and where they stand; those that are not in the literal are written to the front
+/// of `out`. The outcome has the text and the whole of `out`.
+pub fn unquote_string<'a>(
+    literal: &'a mut Lent<u8>,
+    documented: u32,
+    out: &'a mut Lent<u8>,
+) -> Outcome<[&'a [u8]; 2]> {
+    out.restore();
+    // Safety: each pointer and the length behind it are those of one list.
+    let answer = unsafe {
+        simmerpath_unquote_string(
+            literal.start(),
+            literal.len(),
+            documented,
+            out.start(),
+            out.len(),
+        )
+    };
+    let text = handed_back(answer, literal.contents(), out.contents());
+    Outcome {
+        answer,
+        written: [text, out.contents()],
+        untouched: literal.is_untouched() && out.is_guarded(),
+    }
+}
+
+/// The text that an answer hands back, of the literal or of the buffer; none where it is refused.
+fn handed_back<'a>(answer: u64, literal: &'a [u8], out: &'a [u8]) -> &'a [u8] {
+    let (list, length) = match answer.checked_sub(INNER) {
+        None => (out, answer),
+        Some(length) => (literal.get(1..).unwrap_or(&[]), length),
+    };
+    list.get(..length as usize).unwrap_or(&[])
 }

@@ -1,5 +1,7 @@
 //! What functions are compared on, and how such an input is made smaller.
 
+#[cfg(feature = "go")]
+use compare::oracle::go::{documented, Documented};
 use compare::texts::{hex, replaced};
 use std::iter;
 use std::ops::Range;
@@ -42,6 +44,19 @@ impl Input for [u8] {
             bytes.map(|byte| replaced(self, part.clone(), &[byte]))
         });
         Box::new(less.chain(lower).filter(move |text| text != self))
+    }
+}
+
+#[cfg(feature = "go")]
+impl Input for Documented {
+    const NAMES: &'static str = "literals";
+
+    fn shown(&self) -> String {
+        self.bytes.shown()
+    }
+
+    fn smaller(&self) -> Box<dyn Iterator<Item = Self::Owned> + '_> {
+        Box::new(documented(self.bytes.smaller()))
     }
 }
 

@@ -1,12 +1,15 @@
-//! Compares our functions with the Rust's on generated inputs: `compare [--seed N] [--count N]`.
+//! Compares our functions with the Rust's and Go's on generated inputs: `compare [--seed N] [--count N]`.
 //! COUNT is the number of random inputs, beside the fixed ones. The exit status is 1 if there is a difference.
-//! Without the feature `promql` it compares with Rust's library alone.
+//! Without the feature `promql` it compares with Rust's library, not with promql-parser; without `go`, not with Go.
 
-#![cfg_attr(not(feature = "promql"), allow(dead_code))]
+#![cfg_attr(not(all(feature = "promql", feature = "go")), allow(dead_code))]
 
 mod comparison;
+#[cfg(feature = "go")]
+mod documented;
 mod ffi;
 mod input;
+mod literal;
 #[cfg(feature = "promql")]
 mod string;
 #[cfg(feature = "promql")]
@@ -23,6 +26,8 @@ const OPERATIONS: &[fn(u64, usize) -> u64] = &[
     token::run,
     #[cfg(feature = "promql")]
     string::run,
+    #[cfg(feature = "go")]
+    documented::run,
 ];
 
 /// The seed and the count that the arguments ask for; none where they are not arguments of this program.
