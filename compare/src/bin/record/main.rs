@@ -1,6 +1,7 @@
-//! Writes the replay program's recorded inputs, `record inputs`, and the Rust's answers to them, `record answers`.
+//! Writes the replay program's recorded inputs, `record inputs`, and the answers of the Rust and of Go, `record answers`.
 //! A record is `OP HEX` or `OP HEX ROOM`. Both lists are the same in every run.
 
+mod string;
 mod token;
 mod utf8;
 
@@ -16,6 +17,9 @@ fn answer(line: &str) -> String {
         "keyword" => Some(token::keyword(&input)),
         "display" => Some(token::display(decimal(&input)?.try_into().ok()?, room)),
         "label" => Some(token::label(&input)),
+        "escape" => Some(string::escape(&input, room)),
+        "unquote" => Some(string::unquote(&input, room)),
+        "unquotedoc" => Some(string::unquotedoc(&input, room)),
         _ => None,
     });
     answer.unwrap_or_else(|| "bad record".to_string())
@@ -49,7 +53,8 @@ fn main() -> ExitCode {
             return ExitCode::from(2);
         }
     };
-    for line in utf8::inputs().into_iter().chain(token::inputs()) {
+    let lines = [utf8::inputs(), token::inputs(), string::inputs()].concat();
+    for line in lines {
         println!("{}", written(&line));
     }
     ExitCode::SUCCESS
