@@ -94,15 +94,15 @@ escape-calls-join x y es fs gs a b c =
     let v = wrote b in
     wrote c .1 ∙ escape-join x y (w .0) (v .0) ∙ sym (ap₂ (λ (s t : List ℕ). s ++ t) (w .1) (v .1))
 
--- calls on a literal that stands for x are accepted, and hand x back
+-- calls on a literal that stands for x are accepted where the limit and the room are kept, and hand x back
 module _ {r : Reading} {literal ys : List ℕ} {room : ℕ} (c : Read r literal room ys) (x : List ℕ) (b : (isBadLiteral literal ≡ false) × (unquoted r literal ≡ x)) (w : WellFormed literal) (l : length literal ≤ textLimit) (h : length x ≤ room) where
   accepted : isRead (c .result) ≡ true
   accepted =
       ap isRead (c .post .0 ∙ ap₂ (λ (v : Reading) (n : ℕ). unquotingOf v n (now (c .args .0))) (c .by-reading) (c .in-room) ∙ ap (unquotingOf r room) (c .of-literal))
       ∙ reads r literal room ((λ n. omega arith), w) (b .0) (omega (arith, ap length (b .1)))
 
-  gave : ys ≡ x
-  gave = handed c accepted ∙ b .1
+  pub read-calls : (isRead (c .result) ≡ true) × (ys ≡ x)
+  read-calls = (accepted, handed c accepted ∙ b .1)
 
 -- the escape of a text, between double quotes, reads back
 module _ (r : Reading) (x es ys : List ℕ) (room : ℕ) (e : Escaped x es) (c : Read r (quoted es) room ys) (l : length (quoted es) ≤ textLimit) (h : length x ≤ room) where
@@ -111,7 +111,7 @@ module _ (r : Reading) (x es ys : List ℕ) (room : ℕ) (e : Escaped x es) (c :
       let w = wrote e in
       let b : (isBadLiteral (quoted es) ≡ false) × (unquoted r (quoted es) ≡ x) = rw (w .1) (read-back r x (w .0)) in
       let t : WellFormed (quoted es) = rw (w .1) (quoted-text (escaped x) (escaped-text x (w .0))) in
-      (accepted c x b t l h, gave c x b t l h)
+      read-calls c x b t l h
 
 -- and so do two escapes, joined
 module _ (r : Reading) (x y es fs ys : List ℕ) (room : ℕ) (e : Escaped x es) (f : Escaped y fs) (c : Read r (quoted (es ++ fs)) room ys) (l : length (quoted (es ++ fs)) ≤ textLimit) (h : length (x ++ y) ≤ room) where
@@ -122,4 +122,4 @@ module _ (r : Reading) (x y es fs ys : List ℕ) (room : ℕ) (e : Escaped x es)
       let b : (isBadLiteral (quoted (es ++ fs)) ≡ false) × (unquoted r (quoted (es ++ fs)) ≡ x ++ y) = rw (w .1, v .1) (read-back-join r x y (w .0) (v .0)) in
       let t : WellFormed (es ++ fs) = rw (w .1, v .1) (text-join (escaped x) (escaped y) (escaped-text x (w .0)) (escaped-text y (v .0))) in
       let u = quoted-text (es ++ fs) t in
-      (accepted c (x ++ y) b u l h, gave c (x ++ y) b u l h)
+      read-calls c (x ++ y) b u l h
