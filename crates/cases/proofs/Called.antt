@@ -1,6 +1,5 @@
 -- Every row holds of the functions too: of whatever the promises allow, since what they promise is what the definitions say.
 use Prim.Native.Nat.{ℕ, _≤_}
-use native.Mathlib.Omega.{arith}
 use mathlib.Core.Bool.{true}
 use mathlib.Core.List.{List}
 use mathlib.Core.Path.{_≡_, refl}

@@ -124,14 +124,14 @@ fn measure(inner: &[u8], sign: u8, reading: Reading) -> Extent
     ensures { λ r. ⌜ r ≡ measured reading (tilesOf sign (now (inner .entry))) ⌝ }
 {
     let mut n = 0;
-    let mut at = 0;
-    while at < inner.len() {
-        let t = tile::unquote_char(&inner[at..], sign);
+    let mut from = 0;
+    while from < inner.len() {
+        let t = tile::unquote_char(&inner[from..], sign);
         let Tile::Piece { form, value, size } = t else {
             return Extent::Bad;
         };
         n += piece_size(reading, form, value);
-        at += size;
+        from += size;
     }
     Extent::Text(n)
 }

@@ -18,11 +18,11 @@ use Rattle.string.proofs.measure.Statement.{statement}
 use Rattle.string.proofs.measure.Tie as tie
 
 abbrev Inv-loop : tie.InvT-loop
-Inv-loop inner sign reading n₀ at₀ n at =
-    (at ≤ length inner) × (n ≤ at) × (hasBad (tilesOf sign inner) ≡ hasBad (tilesOf sign (drop at inner))) × (n + length (bytesOf reading (tilesOf sign (drop at inner))) ≡ length (bytesOf reading (tilesOf sign inner)))
+Inv-loop inner sign reading n₀ from₀ n from =
+    (from ≤ length inner) × (n ≤ from) × (hasBad (tilesOf sign inner) ≡ hasBad (tilesOf sign (drop from inner))) × (n + length (bytesOf reading (tilesOf sign (drop from inner))) ≡ length (bytesOf reading (tilesOf sign inner)))
 
 abbrev μ-loop : tie.MeasureT-loop
-μ-loop inner sign reading n₀ at₀ n at = length inner - at
+μ-loop inner sign reading n₀ from₀ n from = length inner - from
 
 loop-holds : tie.Need-loop-holds Inv-loop μ-loop
 loop-holds c = (omega arith, omega arith, refl, omega arith)
@@ -54,7 +54,7 @@ module _ (c : tie.After-unquote-char Inv-loop μ-loop) where
   ys = now (c .before .before .before .before .before .args .inner)
 
   abbrev place : ℕ
-  place = c .before .before .before .loop .at
+  place = c .before .before .before .loop .from
 
   abbrev r : Reading
   r = c .before .before .before .before .before .args .reading
@@ -103,8 +103,8 @@ module _ (c : tie.After-piece-size Inv-loop μ-loop) where
 add-n : tie.Need-add-n Inv-loop μ-loop
 add-n c = omega (arith, few c, fair c .within)
 
-add-at : tie.Need-add-at Inv-loop μ-loop
-add-at c = omega (arith, fair c .within)
+add-from : tie.Need-add-from Inv-loop μ-loop
+add-from c = omega (arith, fair c .within)
 
 loop-less : tie.Need-loop-less Inv-loop μ-loop
 loop-less c = omega (arith, fair c .within, fair c .some)
@@ -126,8 +126,8 @@ returns-2 c =
     let a = c .before .before .before .args in
     let l = c .before .loop in
     contents.measured-text (a .reading) (tilesOf (a .sign) (now (a .inner))) (l .n)
-    (l .inv .2 ∙ contents.bad-over (a .sign) (now (a .inner)) (l .at) (c .loop-test .left))
-    (omega (arith, l .inv .3, ap length (contents.bytes-over (a .sign) (now (a .inner)) (l .at) (c .loop-test .left) (a .reading))))
+    (l .inv .2 ∙ contents.bad-over (a .sign) (now (a .inner)) (l .from) (c .loop-test .left))
+    (omega (arith, l .inv .3, ap length (contents.bytes-over (a .sign) (now (a .inner)) (l .from) (c .loop-test .left) (a .reading))))
 
 pub measure-spec : {M : Type 1} → statement M
 measure-spec =
@@ -145,7 +145,7 @@ measure-spec =
     returns
     piece-size-requires
     add-n
-    add-at
+    add-from
     loop-less
     loop-again
     returns-2)
