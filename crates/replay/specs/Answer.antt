@@ -1,9 +1,10 @@
 -- What a line is answered with: a definition for each op, and one line of `opAnswer` for each.
 -- A line that is too long, is no record, or has an unknown op is answered with `bad record`.
 use Prim.Native.Nat.{ℕ, _+_, _-_}
+use Prim.Native.String.{String}
 use mathlib.Core.Bool.{Bool, cond}
 use mathlib.Core.Path.{_≡_}
-use mathlib.Core.List.{List}
+use mathlib.Core.List.{List, [], _∷_}
 use lib.Dec.{ltb}
 use lib.ListN.{length, take, drop}
 use Rattle.io.specs.Counts.{Counts}
@@ -23,6 +24,8 @@ use Rattle.token.specs.declared.Keyword.{Keyword}
 use Rattle.token.specs.declared.Keyword.the-variants.{Kind, Nothing}
 use Rattle.token.specs.Words.{keywordOf}
 use Rattle.token.specs.Label.{isLabel}
+use Rattle.replay.specs.declared.ops.Op.{Op}
+use Rattle.replay.specs.declared.ops.Op.the-variants as op
 use Rattle.replay.specs.Sizes.{longestLine}
 use Rattle.replay.specs.Lines.{badRecord, okLine, refusal}
 use Rattle.replay.specs.Display.{displayAnswer}
@@ -41,23 +44,45 @@ keywordAnswer Nothing = ascii "none\n"
 unfoldable pub labelAnswer : Bool → List ℕ
 labelAnswer b = cond b (ascii "ok 1\n") (ascii "ok 0\n")
 
+pub record Named : Type 0 where
+  pub name : List ℕ
+  pub op : Op
+
+abbrev pub named : String → Op → Named
+named s o = record { name = ascii s; op = o }
+
+abbrev pub ops : List Named
+ops =
+    named "utf8" op.Utf8
+    ∷ named "display" op.Display
+    ∷ named "keyword" op.Keyword
+    ∷ named "label" op.Label
+    ∷ []
+
+-- the op that has a name
+abbrev pub opIn : List Named → List ℕ → Op
+opIn [] name = op.Unknown
+opIn (o ∷ os) name = cond (sameText name (o .name)) (o .op) (opIn os name)
+
+abbrev pub opOf : List ℕ → Op
+opOf name = opIn ops name
+
 -- by the op, its bytes and the room
-unfoldable pub opAnswer : List ℕ → List ℕ → Room → List ℕ
-opAnswer op bytes room =
-    cond (sameText op (ascii "utf8")) (utf8Answer (admitted textLimit bytes))
-    (cond (sameText op (ascii "keyword")) (keywordAnswer (keywordOf bytes))
-    (cond (sameText op (ascii "label")) (labelAnswer (isLabel bytes))
-    (cond (sameText op (ascii "display")) (displayAnswer room bytes)
-    badRecord)))
+abbrev pub opAnswer : Op → List ℕ → Room → List ℕ
+opAnswer op.Utf8 bytes room = utf8Answer (admitted textLimit bytes)
+opAnswer op.Display bytes room = displayAnswer room bytes
+opAnswer op.Keyword bytes room = keywordAnswer (keywordOf bytes)
+opAnswer op.Label bytes room = labelAnswer (isLabel bytes)
+opAnswer op.Unknown bytes room = badRecord
 
 abbrev pub decodedAnswer : List ℕ → List ℕ → Room → Decoded → List ℕ
-decodedAnswer op hex room (decoding.Bytes n) = opAnswer op (paired hex) room
-decodedAnswer op hex room decoding.Bad = badRecord
-decodedAnswer op hex room decoding.NoRoom = badRecord
+decodedAnswer name hex room (decoding.Bytes n) = opAnswer (opOf name) (paired hex) room
+decodedAnswer name hex room decoding.Bad = badRecord
+decodedAnswer name hex room decoding.NoRoom = badRecord
 
 -- by OP, HEX and ROOM, where so many bytes can be decoded
 abbrev pub fieldsAnswer : ℕ → List ℕ → List ℕ → Room → List ℕ
-fieldsAnswer most op hex room = decodedAnswer op hex room (decoded most hex)
+fieldsAnswer most name hex room = decodedAnswer name hex room (decoded most hex)
 
 abbrev pub recordAnswer : ℕ → List ℕ → Record → List ℕ
 recordAnswer most xs (line.Fields op hex room) = fieldsAnswer most (take op xs) (take (hex - (op + 1)) (drop (op + 1) xs)) room

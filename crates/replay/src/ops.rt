@@ -1,5 +1,5 @@
 // The answer to a line, which is written to a lent list: what a record asks, by its op, or `bad record`.
-// An op is one function, one line of `dispatch`, and one line of `opAnswer` in specs/Answer.
+// An op is a function, a variant of `Op`, and a line of `op_of` and of `dispatch`, as of `ops` and of `opAnswer` in specs/Answer.
 use record::Decimal;
 use record::Decoded;
 use record::Record;
@@ -13,8 +13,10 @@ use utf8::Place;
 use utf8::Refusal;
 ghost use mathlib.Core.Path.{_≡_};
 ghost use Prim.Native.Nat.{_+_, _≤_};
+ghost use mathlib.Core.Bool.{cond};
 ghost use mathlib.Core.List.{_++_};
 ghost use lib.ListN.{length, take};
+ghost use Rattle.scan.specs.Text.{sameText};
 ghost use Rattle.utf8.specs.Answers.{textLimit, noRoom, admitted};
 ghost use Rattle.record.specs.Decimal.{mostDigits};
 ghost use Rattle.token.specs.Words.{keywordOf};
@@ -23,7 +25,16 @@ ghost use Rattle.token.specs.Display.{displayed};
 ghost use Rattle.replay.specs.Sizes.{mostAnswer, longestText};
 ghost use Rattle.replay.specs.Lines.{badRecord, numbered, okLine, refusal};
 ghost use Rattle.replay.specs.Display.{Lends, flagOf, flagsOf, shownLine, shownIn, kindAnswer, displayAnswer};
-ghost use Rattle.replay.specs.Answer.{utf8Answer, keywordAnswer, labelAnswer, opAnswer, fieldsAnswer, answerOf, Says};
+ghost use Rattle.replay.specs.Answer.{utf8Answer, keywordAnswer, labelAnswer, opOf, opAnswer, fieldsAnswer, answerOf, Says};
+
+// What a record asks.
+enum Op {
+    Utf8,
+    Display,
+    Keyword,
+    Label,
+    Unknown,
+}
 
 // A longer line is no record.
 pub const LONGEST_LINE: usize = 160_000;
@@ -240,24 +251,41 @@ fn display(bytes: &[u8], room: Room, out: &mut [u8]) -> usize
     }
 }
 
-// Answers by the op.
-fn dispatch(op: &[u8], bytes: &[u8], room: Room, out: &mut [u8]) -> usize
-    requires { ⌜ mostAnswer ≤ length (now out) ⌝ }
-    ensures { λ r. ⌜ Says (opAnswer (now (op .entry)) (now (bytes .entry)) room) r (now (out .exit)) ⌝ }
+// An op where a name is its own, else another.
+fn if_named(name: &[u8], text: &[u8], op: Op, other: Op) -> Op
+    ensures { λ r. ⌜ r ≡ cond (sameText (now (name .entry)) (now (text .entry))) op other ⌝ }
 {
-    if scan::is_text(op, b"utf8") {
-        return utf8_text(bytes, out);
+    if scan::is_text(name, text) {
+        return op;
     }
-    if scan::is_text(op, b"keyword") {
-        return keyword(bytes, out);
+    other
+}
+
+// The op that has a name, by the rows of its definition, the last one first.
+fn op_of(name: &[u8]) -> Op
+    ensures { λ r. ⌜ r ≡ opOf (now (name .entry)) ⌝ }
+{
+    let mut op = Op::Unknown;
+    op = if_named(name, b"label", Op::Label, op);
+    op = if_named(name, b"keyword", Op::Keyword, op);
+    op = if_named(name, b"display", Op::Display, op);
+    op = if_named(name, b"utf8", Op::Utf8, op);
+    op
+}
+
+// Answers by the op.
+fn dispatch(name: &[u8], bytes: &[u8], room: Room, out: &mut [u8]) -> usize
+    requires { ⌜ mostAnswer ≤ length (now out) ⌝ }
+    ensures { λ r. ⌜ Says (opAnswer (opOf (now (name .entry))) (now (bytes .entry)) room) r (now (out .exit)) ⌝ }
+{
+    let op = op_of(name);
+    match op {
+        Op::Utf8 => utf8_text(bytes, out),
+        Op::Display => display(bytes, room, out),
+        Op::Keyword => keyword(bytes, out),
+        Op::Label => label(bytes, out),
+        Op::Unknown => bad_record(out),
     }
-    if scan::is_text(op, b"label") {
-        return label(bytes, out);
-    }
-    if scan::is_text(op, b"display") {
-        return display(bytes, room, out);
-    }
-    bad_record(out)
 }
 
 // Answers by the op and what HEX says, which goes to `bytes`.

@@ -1,0 +1,49 @@
+-- Each step asks what a row of the definition asks, with what the rows behind it say for its other case.
+use borrow.Author.Needs.{needs}
+use Rattle.replay.proofs.ops.op_of.Statement.{statement}
+use Rattle.replay.proofs.ops.op_of.Tie as tie
+
+slice-aggregate-if-named : tie.Need-slice-aggregate-if-named
+slice-aggregate-if-named c = search needs
+
+if-named-requires : tie.Need-if-named-requires
+if-named-requires c κs = search needs
+
+slice-aggregate-if-named-2 : tie.Need-slice-aggregate-if-named-2
+slice-aggregate-if-named-2 c = search needs
+
+if-named-requires-2 : tie.Need-if-named-requires-2
+if-named-requires-2 c κs = search needs
+
+slice-aggregate-if-named-3 : tie.Need-slice-aggregate-if-named-3
+slice-aggregate-if-named-3 c = search needs
+
+if-named-requires-3 : tie.Need-if-named-requires-3
+if-named-requires-3 c κs = search needs
+
+slice-aggregate-if-named-4 : tie.Need-slice-aggregate-if-named-4
+slice-aggregate-if-named-4 c = search needs
+
+if-named-requires-4 : tie.Need-if-named-requires-4
+if-named-requires-4 c κs = search needs
+
+returns : tie.Need-returns
+returns c =
+    let c3 = c .before .before in
+    let c2 = c3 .before .before in
+    let c1 = c2 .before .before in
+    rw (c .if-named4 .ensures, c3 .if-named3 .ensures, c2 .if-named2 .ensures, c1 .if-named .ensures)
+
+pub op-of-spec : {M : Type 1} → statement M
+op-of-spec =
+    tie.close
+    (tie.spec
+    slice-aggregate-if-named
+    if-named-requires
+    slice-aggregate-if-named-2
+    if-named-requires-2
+    slice-aggregate-if-named-3
+    if-named-requires-3
+    slice-aggregate-if-named-4
+    if-named-requires-4
+    returns)
