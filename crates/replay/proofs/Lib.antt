@@ -1,2 +1,2 @@
-pub mod Says
+pub mod Pieces
 pub mod Display

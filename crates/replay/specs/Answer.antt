@@ -1,14 +1,13 @@
--- What a line is answered with: a definition for each op, and one line of `opAnswer` for each.
+-- What a line is answered with: an op has a definition, a row of `ops` and a line of `opAnswer`.
 -- A line that is too long, is no record, or has an unknown op is answered with `bad record`.
 use Prim.Native.Nat.{ℕ, _+_, _-_}
 use Prim.Native.String.{String}
-use mathlib.Core.Bool.{Bool, cond}
-use mathlib.Core.Path.{_≡_}
+use mathlib.Core.Bool.{cond}
 use mathlib.Core.List.{List, [], _∷_}
 use lib.Dec.{ltb}
 use lib.ListN.{length, take, drop}
-use Rattle.io.specs.Counts.{Counts}
 use Rattle.scan.specs.Ascii.{ascii}
+use Rattle.scan.specs.Text.{sameText}
 use Rattle.utf8.specs.declared.Admission.{Admission}
 use Rattle.utf8.specs.declared.Admission.the-variants.{Admitted, Refused}
 use Rattle.utf8.specs.Answers.{textLimit, admitted}
@@ -17,33 +16,22 @@ use Rattle.record.specs.declared.Decoded.the-variants as decoding
 use Rattle.record.specs.declared.Room.{Room}
 use Rattle.record.specs.declared.Record.{Record}
 use Rattle.record.specs.declared.Record.the-variants as line
-use Rattle.scan.specs.Text.{sameText}
 use Rattle.record.specs.Hex.{paired, decoded}
 use Rattle.record.specs.Record.{recordOf}
-use Rattle.token.specs.declared.Keyword.{Keyword}
-use Rattle.token.specs.declared.Keyword.the-variants.{Kind, Nothing}
 use Rattle.token.specs.Words.{keywordOf}
 use Rattle.token.specs.Label.{isLabel}
 use Rattle.replay.specs.declared.ops.Op.{Op}
 use Rattle.replay.specs.declared.ops.Op.the-variants as op
 use Rattle.replay.specs.Sizes.{longestLine}
 use Rattle.replay.specs.Lines.{badRecord, okLine, refusal}
-use Rattle.replay.specs.Display.{displayAnswer}
+use Rattle.replay.specs.Tokens.{keywordAnswer, labelAnswer, displayAnswer}
 
 -- `utf8`: the number of characters
 unfoldable pub utf8Answer : Admission → List ℕ
 utf8Answer (Admitted n) = okLine (n .0)
 utf8Answer (Refused r) = refusal r
 
--- `keyword`: the kind
-unfoldable pub keywordAnswer : Keyword → List ℕ
-keywordAnswer (Kind n) = okLine n
-keywordAnswer Nothing = ascii "none\n"
-
--- `label`: 1 for a label's name
-unfoldable pub labelAnswer : Bool → List ℕ
-labelAnswer b = cond b (ascii "ok 1\n") (ascii "ok 0\n")
-
+-- an op and its name in a record
 pub record Named : Type 0 where
   pub name : List ℕ
   pub op : Op
@@ -59,7 +47,7 @@ ops =
     ∷ named "label" op.Label
     ∷ []
 
--- the op that has a name
+-- the op that a name is for
 abbrev pub opIn : List Named → List ℕ → Op
 opIn [] name = op.Unknown
 opIn (o ∷ os) name = cond (sameText name (o .name)) (o .op) (opIn os name)
@@ -90,8 +78,3 @@ recordAnswer most xs line.Bad = badRecord
 
 unfoldable pub answerOf : ℕ → List ℕ → List ℕ
 answerOf most xs = cond (ltb longestLine (length xs)) badRecord (recordAnswer most xs (recordOf xs))
-
--- the first r bytes of a lent list are a text
-pub record Says (text : List ℕ) (r : ℕ) (d : List ℕ) : Type 0 where
-  pub counts : Counts r d
-  pub holds : take r d ≡ text

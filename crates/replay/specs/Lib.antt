@@ -1,4 +1,4 @@
 pub mod Sizes
 pub mod Lines
-pub mod Display
+pub mod Tokens
 pub mod Answer

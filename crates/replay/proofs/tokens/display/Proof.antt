@@ -1,10 +1,10 @@
 -- The arms and the test are those of the definition.
 use Rattle.replay.specs.Sizes.{largestKind}
-use Rattle.replay.specs.Display.{displayAnswer}
+use Rattle.replay.specs.Tokens.{displayAnswer}
 use borrow.Author.Tests.{lt-ltb, le-ltb}
 use borrow.Author.Needs.{needs}
-use Rattle.replay.proofs.ops.display.Statement.{statement}
-use Rattle.replay.proofs.ops.display.Tie as tie
+use Rattle.replay.proofs.tokens.display.Statement.{statement}
+use Rattle.replay.proofs.tokens.display.Tie as tie
 
 read-decimal-requires : tie.Need-read-decimal-requires
 read-decimal-requires c κs = search needs

@@ -1,11 +1,11 @@
 -- The number stands behind `ok `, and there is room for it.
-use Rattle.replay.proofs.Says.{past-text, says-text, says-on}
+use Rattle.replay.proofs.Pieces.{past-text, says-text, says-on}
 use Rattle.replay.specs.Lines.{numbered}
 use Rattle.scan.specs.Ascii.{ascii}
 use native.Mathlib.Omega.{arith}
 use borrow.Author.Needs.{needs}
-use Rattle.replay.proofs.ops.ok_number.Statement.{statement}
-use Rattle.replay.proofs.ops.ok_number.Tie as tie
+use Rattle.replay.proofs.says.ok_number.Statement.{statement}
+use Rattle.replay.proofs.says.ok_number.Tie as tie
 
 slice-aggregate-put-text : tie.Need-slice-aggregate-put-text
 slice-aggregate-put-text c = search needs

@@ -1,4 +1,5 @@
--- What `display` is answered with: the text that a kind is shown as, in hex, and of which classes the kind is.
+-- What the ops that ask token are answered with: `keyword` and `label`; and `display`, with the text that a kind is shown as, in hex, and of
+-- which classes the kind is.
 use Prim.Native.Nat.{ℕ, _≤_}
 use Prim.Native.Char.{code}
 use mathlib.Core.Bool.{Bool, cond}
@@ -14,12 +15,23 @@ use Rattle.record.specs.declared.Room.{Room}
 use Rattle.record.specs.declared.Room.the-variants.{Given, Enough}
 use Rattle.record.specs.Decimal.{decimalRead}
 use Rattle.record.specs.Hex.{hexText}
+use Rattle.token.specs.declared.Keyword.{Keyword}
+use Rattle.token.specs.declared.Keyword.the-variants.{Kind, Nothing}
 use Rattle.token.specs.declared.Display.{Display}
 use Rattle.token.specs.declared.Display.the-variants.{Length, NoRoom}
 use Rattle.token.specs.Display.{displayOf, displayed}
 use Rattle.token.specs.Classes.{isOperator, isComparisonOperator, isSetOperator, isAggregator, isAggregatorWithParam}
 use Rattle.replay.specs.Sizes.{longestText, largestKind}
-use Rattle.replay.specs.Lines.{badRecord, refusal}
+use Rattle.replay.specs.Lines.{badRecord, okLine, refusal}
+
+-- `keyword`: the kind
+unfoldable pub keywordAnswer : Keyword → List ℕ
+keywordAnswer (Kind n) = okLine n
+keywordAnswer Nothing = ascii "none\n"
+
+-- `label`: 1 for a label's name
+unfoldable pub labelAnswer : Bool → List ℕ
+labelAnswer b = cond b (ascii "ok 1\n") (ascii "ok 0\n")
 
 -- the text in the bytes that a record gives, or in as many as it needs
 abbrev pub shownIn : Room → ℕ → Display

@@ -1,8 +1,8 @@
 -- The arms are those of the definition.
-use Rattle.replay.specs.Answer.{keywordAnswer}
+use Rattle.replay.specs.Tokens.{keywordAnswer}
 use borrow.Author.Needs.{needs}
-use Rattle.replay.proofs.ops.keyword.Statement.{statement}
-use Rattle.replay.proofs.ops.keyword.Tie as tie
+use Rattle.replay.proofs.tokens.keyword.Statement.{statement}
+use Rattle.replay.proofs.tokens.keyword.Tie as tie
 
 get-keyword-token-requires : tie.Need-get-keyword-token-requires
 get-keyword-token-requires c κs = search needs

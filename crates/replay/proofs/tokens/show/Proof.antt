@@ -1,6 +1,6 @@
 -- The arms are those of the definition. The text stands at the front of the lent bytes.
 use Rattle.replay.proofs.Display.{shown-front}
-use Rattle.replay.specs.Display.{kindAnswer}
+use Rattle.replay.specs.Tokens.{kindAnswer}
 use Rattle.token.specs.Display.{displayOf, leftBy}
 use denote.Ref.{now}
 use lib.Seq.{length-take-le}
@@ -9,8 +9,8 @@ use mathlib.Core.Path.{_≡_, sym, ap, _∙_}
 use Prim.Native.Nat.{_≤_}
 use native.Mathlib.Omega.{arith}
 use borrow.Author.Needs.{needs}
-use Rattle.replay.proofs.ops.show.Statement.{statement}
-use Rattle.replay.proofs.ops.show.Tie as tie
+use Rattle.replay.proofs.tokens.show.Statement.{statement}
+use Rattle.replay.proofs.tokens.show.Tie as tie
 
 token-display-requires : tie.Need-token-display-requires
 token-display-requires c κs = search needs

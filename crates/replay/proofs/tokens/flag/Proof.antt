@@ -1,8 +1,8 @@
 -- The test is the one of the definition.
-use Rattle.replay.specs.Display.{flagOf}
+use Rattle.replay.specs.Tokens.{flagOf}
 use Rattle.scan.proofs.Ways.{ways}
-use Rattle.replay.proofs.ops.flag.Statement.{statement}
-use Rattle.replay.proofs.ops.flag.Tie as tie
+use Rattle.replay.proofs.tokens.flag.Statement.{statement}
+use Rattle.replay.proofs.tokens.flag.Tie as tie
 
 returns : tie.Need-returns
 unfolding flagOf

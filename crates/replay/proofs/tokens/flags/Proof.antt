@@ -1,7 +1,7 @@
 -- Each digit is that of its class.
 use borrow.Author.Needs.{needs}
-use Rattle.replay.proofs.ops.flags.Statement.{statement}
-use Rattle.replay.proofs.ops.flags.Tie as tie
+use Rattle.replay.proofs.tokens.flags.Statement.{statement}
+use Rattle.replay.proofs.tokens.flags.Tie as tie
 
 is-operator-requires : tie.Need-is-operator-requires
 is-operator-requires c κs = search needs

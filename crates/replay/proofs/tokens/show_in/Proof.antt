@@ -6,8 +6,8 @@ use mathlib.Core.Path.{_≡_, sym}
 use Prim.Native.Nat.{ℕ}
 use native.Mathlib.Omega.{arith}
 use borrow.Author.Needs.{needs}
-use Rattle.replay.proofs.ops.show_in.Statement.{statement}
-use Rattle.replay.proofs.ops.show_in.Tie as tie
+use Rattle.replay.proofs.tokens.show_in.Statement.{statement}
+use Rattle.replay.proofs.tokens.show_in.Tie as tie
 
 lent-requires : tie.Need-lent-requires
 lent-requires c κs = search needs

@@ -1,11 +1,11 @@
 -- Each piece stands behind those before it, and there is room for three numbers.
-use Rattle.replay.proofs.Says.{past-text, says-text, says-on}
+use Rattle.replay.proofs.Pieces.{past-text, says-text, says-on}
 use Rattle.replay.specs.Lines.{numbered, refusal}
 use Rattle.scan.specs.Ascii.{ascii}
 use native.Mathlib.Omega.{arith}
 use borrow.Author.Needs.{needs}
-use Rattle.replay.proofs.ops.refused.Statement.{statement}
-use Rattle.replay.proofs.ops.refused.Tie as tie
+use Rattle.replay.proofs.says.refused.Statement.{statement}
+use Rattle.replay.proofs.says.refused.Tie as tie
 
 slice-aggregate-put-text : tie.Need-slice-aggregate-put-text
 slice-aggregate-put-text c = search needs

@@ -4,8 +4,8 @@ use Rattle.replay.specs.Sizes.{longestText}
 use mathlib.Core.Path.{sym, _∙_}
 use native.Mathlib.Omega.{arith}
 use borrow.Author.Needs.{needs}
-use Rattle.replay.proofs.ops.lent.Statement.{statement}
-use Rattle.replay.proofs.ops.lent.Tie as tie
+use Rattle.replay.proofs.tokens.lent.Statement.{statement}
+use Rattle.replay.proofs.tokens.lent.Tie as tie
 
 enum-known-room : tie.Need-enum-known-room
 enum-known-room c = search needs

@@ -8,7 +8,7 @@ use lib.ListN.{length, take}
 use Rattle.io.proofs.Counting.{counts}
 use Rattle.record.specs.Put.{putAt, pastAt}
 use Rattle.record.proofs.Writes.{put-stands}
-use Rattle.replay.specs.Answer.{Says}
+use Rattle.replay.specs.Lines.{Says}
 
 module _ (d : List ℕ) (at : ℕ) (xs : List ℕ) {e : List ℕ} {r : ℕ} (p : (r ≡ pastAt d at xs) × (e ≡ putAt d at xs)) (h : at + length xs ≤ length d) where
   pub past-text : r ≡ at + length xs

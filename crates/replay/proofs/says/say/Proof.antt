@@ -1,10 +1,10 @@
 -- The line is short enough.
-use Rattle.replay.proofs.Says.{says-text}
+use Rattle.replay.proofs.Pieces.{says-text}
 use denote.Ref.{now}
 use native.Mathlib.Omega.{arith}
 use borrow.Author.Needs.{needs}
-use Rattle.replay.proofs.ops.say.Statement.{statement}
-use Rattle.replay.proofs.ops.say.Tie as tie
+use Rattle.replay.proofs.says.say.Statement.{statement}
+use Rattle.replay.proofs.says.say.Tie as tie
 
 put-text-requires : tie.Need-put-text-requires
 put-text-requires c κs = search needs

@@ -1,8 +1,8 @@
 -- The test is the one of the definition.
-use Rattle.replay.specs.Answer.{labelAnswer}
+use Rattle.replay.specs.Tokens.{labelAnswer}
 use borrow.Author.Needs.{needs}
-use Rattle.replay.proofs.ops.label.Statement.{statement}
-use Rattle.replay.proofs.ops.label.Tie as tie
+use Rattle.replay.proofs.tokens.label.Statement.{statement}
+use Rattle.replay.proofs.tokens.label.Tie as tie
 
 is-label-requires : tie.Need-is-label-requires
 is-label-requires c κs = search needs

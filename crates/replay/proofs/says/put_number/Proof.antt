@@ -1,5 +1,5 @@
 -- The number's digits are few, and what follows them stands behind them.
-use Rattle.replay.proofs.Says.{past-text, says-text, says-on}
+use Rattle.replay.proofs.Pieces.{past-text, says-text, says-on}
 use Rattle.record.proofs.Decimals.{digits-few}
 use Rattle.record.specs.Decimal.{mostDigits, decimalText}
 use lib.ListN.{length}
@@ -8,8 +8,8 @@ use Prim.Native.Nat.{_+_, _≤_}
 use mathlib.Core.List.{append-assoc}
 use native.Mathlib.Omega.{arith}
 use borrow.Author.Needs.{needs}
-use Rattle.replay.proofs.ops.put_number.Statement.{statement}
-use Rattle.replay.proofs.ops.put_number.Tie as tie
+use Rattle.replay.proofs.says.put_number.Statement.{statement}
+use Rattle.replay.proofs.says.put_number.Tie as tie
 
 put-decimal-requires : tie.Need-put-decimal-requires
 put-decimal-requires c κs = search needs

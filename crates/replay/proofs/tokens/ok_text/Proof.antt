@@ -1,5 +1,5 @@
 -- Each piece stands behind those before it, and there is room for the hex of a text.
-use Rattle.replay.proofs.Says.{past-text, says-text, says-on}
+use Rattle.replay.proofs.Pieces.{past-text, says-text, says-on}
 use Rattle.replay.proofs.Display.{hex-few}
 use Rattle.record.specs.Hex.{hexText}
 use Rattle.scan.specs.Ascii.{ascii}
@@ -9,8 +9,8 @@ use mathlib.Core.Path.{ap}
 use Prim.Native.Nat.{_+_, _≤_}
 use native.Mathlib.Omega.{arith}
 use borrow.Author.Needs.{needs}
-use Rattle.replay.proofs.ops.ok_text.Statement.{statement}
-use Rattle.replay.proofs.ops.ok_text.Tie as tie
+use Rattle.replay.proofs.tokens.ok_text.Statement.{statement}
+use Rattle.replay.proofs.tokens.ok_text.Tie as tie
 
 flags-requires : tie.Need-flags-requires
 flags-requires c κs = search needs

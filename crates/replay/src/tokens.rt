@@ -1,0 +1,140 @@
+// The ops that ask what token says: `keyword`, `label` and `display`.
+use crate::says;
+use record::Decimal;
+use record::Room;
+use token::Display;
+use token::Keyword;
+ghost use mathlib.Core.Path.{_≡_};
+ghost use Prim.Native.Nat.{_≤_};
+ghost use lib.ListN.{length};
+ghost use Rattle.token.specs.Words.{keywordOf};
+ghost use Rattle.token.specs.Label.{isLabel};
+ghost use Rattle.token.specs.Display.{displayed};
+ghost use Rattle.replay.specs.Sizes.{mostAnswer, longestText};
+ghost use Rattle.replay.specs.Lines.{Says};
+ghost use Rattle.replay.specs.Tokens.{keywordAnswer, labelAnswer, Lends, flagOf, flagsOf, shownLine, shownIn, kindAnswer, displayAnswer};
+
+// No display text is longer.
+const LONGEST_TEXT: usize = 13;
+
+// `display` takes no larger number.
+const LARGEST_KIND: u64 = u16::MAX as u64;
+
+// The bytes that `flags` gives: a space, a digit for each class of kinds, and LF.
+const FLAGS: usize = 7;
+
+// `keyword`: the kind that a word has of its own.
+pub fn keyword(bytes: &[u8], out: &mut [u8]) -> usize
+    requires { ⌜ mostAnswer ≤ length (now out) ⌝ }
+    ensures { λ r. ⌜ Says (keywordAnswer (keywordOf (now (bytes .entry)))) r (now (out .exit)) ⌝ }
+{
+    let k = token::get_keyword_token(bytes);
+    match k {
+        Keyword::Kind(n) => says::ok_number(n as usize, out),
+        Keyword::Nothing => says::say(b"none\n", out),
+    }
+}
+
+// `label`: whether a text is a label's name.
+pub fn label(bytes: &[u8], out: &mut [u8]) -> usize
+    requires { ⌜ mostAnswer ≤ length (now out) ⌝ }
+    ensures { λ r. ⌜ Says (labelAnswer (isLabel (now (bytes .entry)))) r (now (out .exit)) ⌝ }
+{
+    if token::is_label(bytes) {
+        return says::say(b"ok 1\n", out);
+    }
+    says::say(b"ok 0\n", out)
+}
+
+// The digit that says whether a kind is of a class.
+fn flag(is: bool) -> u8
+    ensures { λ r. ⌜ r ≡ flagOf is ⌝ }
+{
+    if is { b'1' } else { b'0' }
+}
+
+// Of which classes a kind is, as the end of a line.
+fn flags(kind: u16) -> [u8; FLAGS]
+    ensures { λ r. ⌜ r ≡ flagsOf kind ⌝ }
+{
+    let operator = flag(token::is_operator(kind));
+    let comparison = flag(token::is_comparison_operator(kind));
+    let set = flag(token::is_set_operator(kind));
+    let aggregator = flag(token::is_aggregator(kind));
+    let with_param = flag(token::is_aggregator_with_param(kind));
+    [
+        b' ',
+        operator,
+        comparison,
+        set,
+        aggregator,
+        with_param,
+        b'\n',
+    ]
+}
+
+// `ok TEXTHEX FLAGS`.
+fn ok_text(text: &[u8], kind: u16, out: &mut [u8]) -> usize
+    requires { ⌜ (length (now text) ≤ longestText) × (mostAnswer ≤ length (now out)) ⌝ }
+    ensures { λ r. ⌜ Says (shownLine (now (text .entry)) kind) r (now (out .exit)) ⌝ }
+{
+    let end = flags(kind);
+    let hex = record::put_text(out, 0, b"ok ");
+    let next = record::put_hex(out, hex, text);
+    record::put_text(out, next, &end)
+}
+
+// How many bytes are lent to a text: those that a record gives, so far as any text needs them.
+fn lent(room: Room) -> usize
+    ensures { λ r. ⌜ Lends room r ⌝ }
+{
+    match room {
+        Room::Given(n) => {
+            if n < LONGEST_TEXT as u64 {
+                n as usize
+            } else {
+                LONGEST_TEXT
+            }
+        }
+        Room::Enough => LONGEST_TEXT,
+    }
+}
+
+// Answers with the text of a kind, which goes to the lent bytes.
+fn show(kind: u16, text: &mut [u8], out: &mut [u8]) -> usize
+    requires { ⌜ (length (now text) ≤ longestText) × (mostAnswer ≤ length (now out)) ⌝ }
+    ensures { λ r. ⌜ Says (kindAnswer kind (displayed (length (now (text .entry))) kind)) r (now (out .exit)) ⌝ }
+{
+    let d = token::token_display(kind, text);
+    match d {
+        Display::Length(n) => ok_text(&text[..n], kind, out),
+        Display::NoRoom => says::no_room(out),
+    }
+}
+
+// Lends the bytes for the text of a kind.
+fn show_in(room: Room, kind: u16, out: &mut [u8]) -> usize
+    requires { ⌜ mostAnswer ≤ length (now out) ⌝ }
+    ensures { λ r. ⌜ Says (kindAnswer kind (shownIn room kind)) r (now (out .exit)) ⌝ }
+{
+    let mut text = [0u8; LONGEST_TEXT];
+    let n = lent(room);
+    show(kind, &mut text[..n], out)
+}
+
+// `display`: the text that a kind is shown as, and its classes.
+pub fn display(bytes: &[u8], room: Room, out: &mut [u8]) -> usize
+    requires { ⌜ mostAnswer ≤ length (now out) ⌝ }
+    ensures { λ r. ⌜ Says (displayAnswer room (now (bytes .entry))) r (now (out .exit)) ⌝ }
+{
+    let d = record::read_decimal(bytes);
+    match d {
+        Decimal::Value(n) => {
+            if n > LARGEST_KIND {
+                return says::bad_record(out);
+            }
+            show_in(room, n as u16, out)
+        }
+        Decimal::Bad => says::bad_record(out),
+    }
+}
