@@ -15,7 +15,7 @@ bufferSize = longestLine + 1 + chunk
 
 -- no answer is longer
 abbrev pub mostAnswer : ℕ
-mostAnswer = 128
+mostAnswer = 262144
 
 -- no display text is longer
 abbrev pub longestText : ℕ

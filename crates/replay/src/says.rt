@@ -12,7 +12,7 @@ ghost use Rattle.replay.specs.Sizes.{mostAnswer};
 ghost use Rattle.replay.specs.Lines.{Says, badRecord, numbered, okLine, refusal};
 
 // No answer is longer.
-pub const MOST_ANSWER: usize = 128;
+pub const MOST_ANSWER: usize = 262_144;
 
 // Answers with a line that is given.
 pub fn say(line: &[u8], out: &mut [u8]) -> usize
