@@ -8,17 +8,20 @@ use mathlib.Core.List.{List, [], _∷_}
 use lib.Dec.{leb}
 use lib.ListN.{length, take}
 use lib.Seq.{take-at}
-use borrow.Author.Tests.{le-leb, leb-true}
+use borrow.Author.Tests.{leb-true}
+use Rattle.record.specs.declared.Room.{Room}
 use Rattle.record.specs.Hex.{hexText}
 use Rattle.record.proofs.Hex.{hexed-length}
 use Rattle.token.specs.declared.Display.the-variants.{Length, NoRoom}
 use Rattle.token.specs.Display.{displayOf, fitted, displayed, leftBy}
 use Rattle.token.proofs.Displays.{short}
 use Rattle.replay.specs.Sizes.{longestText}
+use Rattle.replay.specs.Rooms.{Lends}
+use Rattle.replay.specs.Tokens.{shownIn}
 
-pub room-enough : (n k : ℕ) → longestText ≤ n → displayed n k ≡ Length (length (displayOf k))
+pub lent-shown : (room : Room) (r k : ℕ) → Lends longestText room r → displayed r k ≡ shownIn room k
 unfolding fitted
-room-enough n k h = rw (le-leb (length (displayOf k)) n (omega (arith, short k)))
+lent-shown room r k l = rw (l .same (length (displayOf k)) (short k))
 
 pub shown-front : (d xs : List ℕ) (n : ℕ) → fitted (length d) xs ≡ Length n → (n ≤ length d) × (take n (leftBy (Length n) xs d) ≡ xs)
 unfolding fitted

@@ -1,4 +1,5 @@
 pub mod Sizes
 pub mod Lines
+pub mod Rooms
 pub mod Tokens
 pub mod Answer

@@ -1,9 +1,8 @@
 -- What the ops that ask token are answered with: `keyword` and `label`; and `display`, with the text that a kind is shown as, in hex, and of
 -- which classes the kind is.
-use Prim.Native.Nat.{ℕ, _≤_}
+use Prim.Native.Nat.{ℕ}
 use Prim.Native.Char.{code}
 use mathlib.Core.Bool.{Bool, cond}
-use mathlib.Core.Path.{_≡_}
 use mathlib.Core.List.{List, [], _∷_, _++_}
 use lib.Dec.{ltb}
 use lib.ListN.{length}
@@ -12,7 +11,6 @@ use Rattle.utf8.specs.Answers.{noRoom}
 use Rattle.record.specs.declared.Decimal.{Decimal}
 use Rattle.record.specs.declared.Decimal.the-variants.{Value, Bad}
 use Rattle.record.specs.declared.Room.{Room}
-use Rattle.record.specs.declared.Room.the-variants.{Given, Enough}
 use Rattle.record.specs.Decimal.{decimalRead}
 use Rattle.record.specs.Hex.{hexText}
 use Rattle.token.specs.declared.Keyword.{Keyword}
@@ -21,7 +19,8 @@ use Rattle.token.specs.declared.Display.{Display}
 use Rattle.token.specs.declared.Display.the-variants.{Length, NoRoom}
 use Rattle.token.specs.Display.{displayOf, displayed}
 use Rattle.token.specs.Classes.{isOperator, isComparisonOperator, isSetOperator, isAggregator, isAggregatorWithParam}
-use Rattle.replay.specs.Sizes.{longestText, largestKind}
+use Rattle.replay.specs.Sizes.{largestKind}
+use Rattle.replay.specs.Rooms.{roomOf}
 use Rattle.replay.specs.Lines.{badRecord, okLine, refusal}
 
 -- `keyword`: the kind
@@ -33,15 +32,9 @@ keywordAnswer Nothing = ascii "none\n"
 unfoldable pub labelAnswer : Bool → List ℕ
 labelAnswer b = cond b (ascii "ok 1\n") (ascii "ok 0\n")
 
--- the text in the bytes that a record gives, or in as many as it needs
+-- the text in the room that a record gives
 abbrev pub shownIn : Room → ℕ → Display
-shownIn (Given n) k = displayed n k
-shownIn Enough k = Length (length (displayOf k))
-
--- so many bytes are as good as those that a record gives, for every kind
-pub record Lends (room : Room) (r : ℕ) : Type 0 where
-  pub few : r ≤ longestText
-  pub same : (k : ℕ) → displayed r k ≡ shownIn room k
+shownIn room k = displayed (roomOf (length (displayOf k)) room) k
 
 unfoldable pub flagOf : Bool → ℕ
 flagOf b = cond b (code "1") (code "0")

@@ -2,6 +2,7 @@
 // The lines are read in `lines`, and answered in `ops`; the other modules have what an op asks and what it says.
 mod lines;
 mod ops;
+mod rooms;
 mod says;
 mod tokens;
 

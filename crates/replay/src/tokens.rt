@@ -1,4 +1,5 @@
 // The ops that ask what token says: `keyword`, `label` and `display`.
+use crate::rooms;
 use crate::says;
 use record::Decimal;
 use record::Room;
@@ -12,7 +13,7 @@ ghost use Rattle.token.specs.Label.{isLabel};
 ghost use Rattle.token.specs.Display.{displayed};
 ghost use Rattle.replay.specs.Sizes.{mostAnswer, longestText};
 ghost use Rattle.replay.specs.Lines.{Says};
-ghost use Rattle.replay.specs.Tokens.{keywordAnswer, labelAnswer, Lends, flagOf, flagsOf, shownLine, shownIn, kindAnswer, displayAnswer};
+ghost use Rattle.replay.specs.Tokens.{keywordAnswer, labelAnswer, flagOf, flagsOf, shownLine, shownIn, kindAnswer, displayAnswer};
 
 // No display text is longer.
 const LONGEST_TEXT: usize = 13;
@@ -84,22 +85,6 @@ fn ok_text(text: &[u8], kind: u16, out: &mut [u8]) -> usize
     record::put_text(out, next, &end)
 }
 
-// How many bytes are lent to a text: those that a record gives, so far as any text needs them.
-fn lent(room: Room) -> usize
-    ensures { λ r. ⌜ Lends room r ⌝ }
-{
-    match room {
-        Room::Given(n) => {
-            if n < LONGEST_TEXT as u64 {
-                n as usize
-            } else {
-                LONGEST_TEXT
-            }
-        }
-        Room::Enough => LONGEST_TEXT,
-    }
-}
-
 // Answers with the text of a kind, which goes to the lent bytes.
 fn show(kind: u16, text: &mut [u8], out: &mut [u8]) -> usize
     requires { ⌜ (length (now text) ≤ longestText) × (mostAnswer ≤ length (now out)) ⌝ }
@@ -118,7 +103,7 @@ fn show_in(room: Room, kind: u16, out: &mut [u8]) -> usize
     ensures { λ r. ⌜ Says (kindAnswer kind (shownIn room kind)) r (now (out .exit)) ⌝ }
 {
     let mut text = [0u8; LONGEST_TEXT];
-    let n = lent(room);
+    let n = rooms::lent(room, LONGEST_TEXT);
     show(kind, &mut text[..n], out)
 }
 

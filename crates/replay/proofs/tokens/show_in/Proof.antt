@@ -1,4 +1,5 @@
 -- The bytes that are lent are as good as those that the record gives.
+use Rattle.replay.proofs.Display.{lent-shown}
 use lib.Seq.{length-take-le}
 use lib.ListN.{length, take, replicate}
 use Rattle.replay.specs.Sizes.{longestText}
@@ -28,7 +29,9 @@ same-length : tie.Need-same-length
 same-length c = search needs
 
 returns : tie.Need-returns
-returns c = rw (part (c .before .before .before .before .before .before), c .before .before .before .before .before .before .lent .ensures .same (c .before .before .before .before .before .before .before .before .args .kind)) at (c .before .before .before .show .ensures)
+returns c =
+    let l = c .before .before .before .before .before .before in
+    rw (part l, lent-shown _ (l .lent .result) (l .before .before .args .kind) (l .lent .ensures)) at (c .before .before .before .show .ensures)
 
 pub show-in-spec : {M : Type 1} → statement M
 show-in-spec =
