@@ -1,17 +1,14 @@
--- Laws of `display`: no text needs more bytes than the longest (token's `short`), what is shown stands at the front of the lent bytes,
--- and its hex is short.
-use Prim.Native.Nat.{ℕ, _+_, _*_, _≤_}
+-- Laws of `display`: no text needs more bytes than the longest (token's `short`), and what is shown stands at the front of the lent bytes.
+use Prim.Native.Nat.{ℕ, _≤_}
 use native.Mathlib.Omega.{arith}
 use mathlib.Core.Bool.{Bool, true, false, cond}
 use mathlib.Core.Path.{_≡_, refl}
-use mathlib.Core.List.{List, [], _∷_}
+use mathlib.Core.List.{List}
 use lib.Dec.{leb}
 use lib.ListN.{length, take}
 use lib.Seq.{take-at}
 use borrow.Author.Tests.{leb-true}
 use Rattle.record.specs.declared.Room.{Room}
-use Rattle.record.specs.Hex.{hexText}
-use Rattle.record.proofs.Hex.{hexed-length}
 use Rattle.token.specs.declared.Display.the-variants.{Length, NoRoom}
 use Rattle.token.specs.Display.{displayOf, fitted, displayed, leftBy}
 use Rattle.token.proofs.Displays.{short}
@@ -32,8 +29,3 @@ shown-front d xs n = go (leb (length xs) (length d)) refl
         let size : length xs ≡ n = cc in
         (omega (arith, size, leb-true (length xs) (length d) f), take-at xs _ n size)
     go false f e = let z : _≡_ {A = ℕ} 0 1 = cc in absurd (omega arith)
-
-pub hex-few : (xs : List ℕ) → length (hexText xs) ≤ length xs * 2 + 1
-unfolding hexText
-hex-few [] = omega arith
-hex-few (x ∷ xs) = omega (arith, hexed-length (x ∷ xs))

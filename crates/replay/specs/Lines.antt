@@ -6,6 +6,7 @@ use lib.ListN.{take}
 use Rattle.io.specs.Counts.{Counts}
 use Rattle.scan.specs.Ascii.{ascii}
 use Rattle.utf8.specs.declared.Refusal.{Refusal}
+use Rattle.record.specs.Hex.{hexText}
 use Rattle.record.specs.Decimal.{decimalText}
 
 abbrev pub badRecord : List ℕ
@@ -17,6 +18,10 @@ numbered n after = decimalText n ++ after
 
 abbrev pub okLine : ℕ → List ℕ
 okLine n = ascii "ok " ++ numbered n (ascii "\n")
+
+-- `ok HEX`, and what follows it
+abbrev pub hexLine : List ℕ → List ℕ → List ℕ
+hexLine text after = ascii "ok " ++ hexText text ++ after
 
 unfoldable pub refusal : Refusal → List ℕ
 refusal r =

@@ -3,7 +3,7 @@
 use Prim.Native.Nat.{ℕ}
 use Prim.Native.Char.{code}
 use mathlib.Core.Bool.{Bool, cond}
-use mathlib.Core.List.{List, [], _∷_, _++_}
+use mathlib.Core.List.{List, [], _∷_}
 use lib.Dec.{ltb}
 use lib.ListN.{length}
 use Rattle.scan.specs.Ascii.{ascii}
@@ -12,7 +12,6 @@ use Rattle.record.specs.declared.Decimal.{Decimal}
 use Rattle.record.specs.declared.Decimal.the-variants.{Value, Bad}
 use Rattle.record.specs.declared.Room.{Room}
 use Rattle.record.specs.Decimal.{decimalRead}
-use Rattle.record.specs.Hex.{hexText}
 use Rattle.token.specs.declared.Keyword.{Keyword}
 use Rattle.token.specs.declared.Keyword.the-variants.{Kind, Nothing}
 use Rattle.token.specs.declared.Display.{Display}
@@ -21,7 +20,7 @@ use Rattle.token.specs.Display.{displayOf, displayed}
 use Rattle.token.specs.Classes.{isOperator, isComparisonOperator, isSetOperator, isAggregator, isAggregatorWithParam}
 use Rattle.replay.specs.Sizes.{largestKind}
 use Rattle.replay.specs.Rooms.{roomOf}
-use Rattle.replay.specs.Lines.{badRecord, okLine, refusal}
+use Rattle.replay.specs.Lines.{badRecord, okLine, hexLine, refusal}
 
 -- `keyword`: the kind
 unfoldable pub keywordAnswer : Keyword → List ℕ
@@ -52,11 +51,8 @@ flagsOf k =
     ∷ []
 
 -- `ok TEXTHEX FLAGS`
-abbrev pub shownLine : List ℕ → ℕ → List ℕ
-shownLine text k = ascii "ok " ++ hexText text ++ flagsOf k
-
 unfoldable pub kindAnswer : ℕ → Display → List ℕ
-kindAnswer k (Length n) = shownLine (displayOf k) k
+kindAnswer k (Length n) = hexLine (displayOf k) (flagsOf k)
 kindAnswer k NoRoom = refusal noRoom
 
 -- by what the decimal digits say

@@ -9,7 +9,7 @@ ghost use lib.ListN.{length, take};
 ghost use Rattle.utf8.specs.Answers.{noRoom};
 ghost use Rattle.record.specs.Decimal.{mostDigits};
 ghost use Rattle.replay.specs.Sizes.{mostAnswer};
-ghost use Rattle.replay.specs.Lines.{Says, badRecord, numbered, okLine, refusal};
+ghost use Rattle.replay.specs.Lines.{Says, badRecord, numbered, okLine, hexLine, refusal};
 
 // No answer is longer.
 pub const MOST_ANSWER: usize = 262_144;
@@ -47,6 +47,16 @@ pub fn ok_number(n: usize, out: &mut [u8]) -> usize
 {
     let at = record::put_text(out, 0, b"ok ");
     put_number(out, at, n, b"\n")
+}
+
+// `ok HEX` and what follows it.
+pub fn ok_hex(text: &[u8], after: &[u8], out: &mut [u8]) -> usize
+    requires { ⌜ length (hexLine (now text) (now after)) ≤ length (now out) ⌝ }
+    ensures { λ r. ⌜ Says (hexLine (now (text .entry)) (now (after .entry))) r (now (out .exit)) ⌝ }
+{
+    let hex = record::put_text(out, 0, b"ok ");
+    let next = record::put_hex(out, hex, text);
+    record::put_text(out, next, after)
 }
 
 // `refused NUMBER BYTE CHARACTER`.

@@ -12,8 +12,8 @@ ghost use Rattle.token.specs.Words.{keywordOf};
 ghost use Rattle.token.specs.Label.{isLabel};
 ghost use Rattle.token.specs.Display.{displayed};
 ghost use Rattle.replay.specs.Sizes.{mostAnswer, longestText};
-ghost use Rattle.replay.specs.Lines.{Says};
-ghost use Rattle.replay.specs.Tokens.{keywordAnswer, labelAnswer, flagOf, flagsOf, shownLine, shownIn, kindAnswer, displayAnswer};
+ghost use Rattle.replay.specs.Lines.{Says, hexLine};
+ghost use Rattle.replay.specs.Tokens.{keywordAnswer, labelAnswer, flagOf, flagsOf, shownIn, kindAnswer, displayAnswer};
 
 // No display text is longer.
 const LONGEST_TEXT: usize = 13;
@@ -77,12 +77,10 @@ fn flags(kind: u16) -> [u8; FLAGS]
 // `ok TEXTHEX FLAGS`.
 fn ok_text(text: &[u8], kind: u16, out: &mut [u8]) -> usize
     requires { ⌜ (length (now text) ≤ longestText) × (mostAnswer ≤ length (now out)) ⌝ }
-    ensures { λ r. ⌜ Says (shownLine (now (text .entry)) kind) r (now (out .exit)) ⌝ }
+    ensures { λ r. ⌜ Says (hexLine (now (text .entry)) (flagsOf kind)) r (now (out .exit)) ⌝ }
 {
     let end = flags(kind);
-    let hex = record::put_text(out, 0, b"ok ");
-    let next = record::put_hex(out, hex, text);
-    record::put_text(out, next, &end)
+    says::ok_hex(text, &end, out)
 }
 
 // Answers with the text of a kind, which goes to the lent bytes.
