@@ -2,9 +2,13 @@
 -- They hold by what record's writers leave in a list (`put-stands`).
 use Prim.Native.Nat.{ℕ, _+_, _*_, _≤_, _<_}
 use native.Mathlib.Omega.{arith}
+use mathlib.Core.Bool.{true}
 use mathlib.Core.Path.{_≡_, ap, _∙_}
 use mathlib.Core.List.{List, [], _∷_, _++_}
-use lib.ListN.{length, take, length-append}
+use lib.Dec.{leb}
+use lib.ListN.{length, take, drop, length-append}
+use lib.Seq.{take-at}
+use borrow.Author.Tests.{leb-true}
 use Rattle.io.proofs.Counting.{counts}
 use Rattle.record.specs.Hex.{hexText}
 use Rattle.record.specs.Put.{putAt, pastAt}
@@ -32,3 +36,7 @@ hex-few most xs ys h p = omega (arith, length-append (hexText xs) ys, digits xs 
     digits : (xs : List ℕ) → length xs ≤ most → length (hexText xs) ≤ most * 2
     digits [] h = omega arith
     digits (x ∷ xs) h = omega (arith, hexed-length (x ∷ xs))
+
+-- a text that fits lent bytes stands at their front once it is written there
+pub front : (d xs : List ℕ) (n : ℕ) → length xs ≡ n → leb (length xs) (length d) ≡ true → (n ≤ length d) × (take n (xs ++ drop n d) ≡ xs)
+front d xs n size fits = (omega (arith, leb-true (length xs) (length d) fits), take-at xs (drop n d) n size)

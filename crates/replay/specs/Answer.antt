@@ -25,6 +25,7 @@ use Rattle.replay.specs.declared.ops.Op.the-variants as op
 use Rattle.replay.specs.Sizes.{longestLine}
 use Rattle.replay.specs.Lines.{badRecord, okLine, refusal}
 use Rattle.replay.specs.Tokens.{keywordAnswer, labelAnswer, displayAnswer}
+use Rattle.replay.specs.Strings.{escapeAnswer}
 
 -- `utf8`: the number of characters
 unfoldable pub utf8Answer : Admission → List ℕ
@@ -45,6 +46,7 @@ ops =
     ∷ named "display" op.Display
     ∷ named "keyword" op.Keyword
     ∷ named "label" op.Label
+    ∷ named "escape" op.Escape
     ∷ []
 
 -- the op that a name is for
@@ -61,6 +63,7 @@ opAnswer op.Utf8 bytes room = utf8Answer (admitted textLimit bytes)
 opAnswer op.Display bytes room = displayAnswer room bytes
 opAnswer op.Keyword bytes room = keywordAnswer (keywordOf bytes)
 opAnswer op.Label bytes room = labelAnswer (isLabel bytes)
+opAnswer op.Escape bytes room = escapeAnswer room bytes
 opAnswer op.Unknown bytes room = badRecord
 
 abbrev pub decodedAnswer : List ℕ → List ℕ → Room → Decoded → List ℕ

@@ -2,4 +2,5 @@ pub mod Sizes
 pub mod Lines
 pub mod Rooms
 pub mod Tokens
+pub mod Strings
 pub mod Answer

@@ -13,7 +13,11 @@ chunk = 65536
 abbrev pub bufferSize : ℕ
 bufferSize = longestLine + 1 + chunk
 
--- no answer is longer
+-- no escaped text is longer: each byte of a text is escaped to two at most
+abbrev pub longestEscaped : ℕ
+longestEscaped = 131070
+
+-- no answer is longer: `ok `, an escaped text in hex, and LF
 abbrev pub mostAnswer : ℕ
 mostAnswer = 262144
 

@@ -7,7 +7,7 @@ ghost use mathlib.Core.Path.{_≡_};
 ghost use Prim.Native.Nat.{_≤_};
 ghost use lib.ListN.{length};
 ghost use Rattle.io.specs.Counts.{Counts};
-ghost use Rattle.replay.specs.Sizes.{bufferSize, mostAnswer};
+ghost use Rattle.replay.specs.Sizes.{bufferSize, longestEscaped, mostAnswer};
 
 const LF: u8 = b'\n';
 
@@ -49,24 +49,30 @@ fn line_end(text: &[u8], from: usize) -> usize
 }
 
 // Writes the answer to a line.
-fn write_answer(line: &[u8], bytes: &mut [u8], out: &mut [u8])
-    requires { ⌜ mostAnswer ≤ length (now out) ⌝ }
+fn write_answer(line: &[u8], bytes: &mut [u8], text: &mut [u8], out: &mut [u8])
+    requires { ⌜ (longestEscaped ≤ length (now text)) × (mostAnswer ≤ length (now out)) ⌝ }
 {
-    let n = ops::answer(line, bytes, out);
+    let n = ops::answer(line, bytes, text, out);
     io::write_all(STDOUT_FILENO, &out[..n]);
 }
 
-// Answers each line that ends in the text, whose first `have` bytes have no LF, and says where the rest starts.
-fn answer_lines(text: &[u8], have: usize, bytes: &mut [u8], out: &mut [u8]) -> usize
-    requires { ⌜ (have ≤ length (now text)) × (mostAnswer ≤ length (now out)) ⌝ }
-    ensures { λ r. ⌜ r ≤ length (now (text .entry)) ⌝ }
+// Answers each line that ends in the input, whose first `have` bytes have no LF, and says where the rest starts.
+fn answer_lines(
+    input: &[u8],
+    have: usize,
+    bytes: &mut [u8],
+    text: &mut [u8],
+    out: &mut [u8],
+) -> usize
+    requires { ⌜ (have ≤ length (now input)) × (longestEscaped ≤ length (now text)) × (mostAnswer ≤ length (now out)) ⌝ }
+    ensures { λ r. ⌜ r ≤ length (now (input .entry)) ⌝ }
 {
     let mut start = 0;
-    let mut end = line_end(text, have);
-    while end < text.len() {
-        write_answer(&text[start..end], bytes, out);
+    let mut end = line_end(input, have);
+    while end < input.len() {
+        write_answer(&input[start..end], bytes, text, out);
         start = end + 1;
-        end = line_end(text, start);
+        end = line_end(input, start);
     }
     start
 }
@@ -91,8 +97,8 @@ fn keep(buf: &mut [u8], start: usize, end: usize) -> usize
 
 // Answers the lines of the whole input but for a last one without LF, which is what it leaves in the buffer. A proved loop has to
 // end, so it counts its turns down, from a number that no run uses up.
-pub fn answer_all(buf: &mut [u8], bytes: &mut [u8], out: &mut [u8]) -> usize
-    requires { ⌜ mostAnswer ≤ length (now out) ⌝ }
+pub fn answer_all(buf: &mut [u8], bytes: &mut [u8], text: &mut [u8], out: &mut [u8]) -> usize
+    requires { ⌜ (longestEscaped ≤ length (now text)) × (mostAnswer ≤ length (now out)) ⌝ }
     ensures { λ r. ⌜ Counts r (now (buf .exit)) ⌝ }
 {
     let mut have = 0;
@@ -102,7 +108,7 @@ pub fn answer_all(buf: &mut [u8], bytes: &mut [u8], out: &mut [u8]) -> usize
         if end == have {
             return have;
         }
-        let start = answer_lines(&buf[..end], have, bytes, out);
+        let start = answer_lines(&buf[..end], have, bytes, text, out);
         have = keep(buf, start, end);
         turns -= 1;
     }
@@ -110,10 +116,10 @@ pub fn answer_all(buf: &mut [u8], bytes: &mut [u8], out: &mut [u8]) -> usize
 }
 
 // Answers a last line without LF, unless it is empty.
-pub fn answer_last(line: &[u8], bytes: &mut [u8], out: &mut [u8])
-    requires { ⌜ mostAnswer ≤ length (now out) ⌝ }
+pub fn answer_last(line: &[u8], bytes: &mut [u8], text: &mut [u8], out: &mut [u8])
+    requires { ⌜ (longestEscaped ≤ length (now text)) × (mostAnswer ≤ length (now out)) ⌝ }
 {
     if line.len() > 0 {
-        write_answer(line, bytes, out);
+        write_answer(line, bytes, text, out);
     }
 }

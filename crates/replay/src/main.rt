@@ -4,13 +4,15 @@ mod lines;
 mod ops;
 mod rooms;
 mod says;
+mod strings;
 mod tokens;
 
 // Holds what is large, and lends it.
 fn main() {
     let mut buf = lines::buffer();
-    let mut bytes = [0u8; ops::MOST_BYTES];
-    let mut out = [0u8; says::MOST_ANSWER];
-    let have = lines::answer_all(&mut buf, &mut bytes, &mut out);
-    lines::answer_last(&buf[..have], &mut bytes, &mut out);
+    let mut bytes = ops::bytes();
+    let mut text = strings::text();
+    let mut out = says::out();
+    let have = lines::answer_all(&mut buf, &mut bytes, &mut text, &mut out);
+    lines::answer_last(&buf[..have], &mut bytes, &mut text, &mut out);
 }

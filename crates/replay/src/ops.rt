@@ -1,6 +1,7 @@
 // The answer to a line, which is written to a lent list: what a record asks, by its op, or `bad record`.
 // An op is a function, a variant of `Op`, and a line of `op_of` and of `dispatch`, as of `ops` and of `opAnswer` in specs/Answer.
 use crate::says;
+use crate::strings;
 use crate::tokens;
 use record::Decoded;
 use record::Record;
@@ -12,7 +13,7 @@ ghost use Prim.Native.Nat.{_≤_};
 ghost use lib.ListN.{length};
 ghost use Rattle.scan.specs.Text.{sameText};
 ghost use Rattle.utf8.specs.Answers.{textLimit, admitted};
-ghost use Rattle.replay.specs.Sizes.{mostAnswer};
+ghost use Rattle.replay.specs.Sizes.{mostAnswer, longestEscaped};
 ghost use Rattle.replay.specs.Lines.{Says};
 ghost use Rattle.replay.specs.Answer.{utf8Answer, opOf, opAnswer, fieldsAnswer, answerOf};
 
@@ -22,6 +23,7 @@ enum Op {
     Display,
     Keyword,
     Label,
+    Escape,
     Unknown,
 }
 
@@ -31,7 +33,12 @@ pub const LONGEST_LINE: usize = 160_000;
 const DIGITS_A_BYTE: usize = 2;
 
 // So many that the HEX of any line fits.
-pub const MOST_BYTES: usize = LONGEST_LINE / DIGITS_A_BYTE;
+const MOST_BYTES: usize = LONGEST_LINE / DIGITS_A_BYTE;
+
+// Room for what the HEX of a line says.
+pub fn bytes() -> [u8; MOST_BYTES] {
+    [0; MOST_BYTES]
+}
 
 // `utf8`: how many characters a text has.
 fn utf8_text(bytes: &[u8], out: &mut [u8]) -> usize
@@ -60,6 +67,7 @@ fn op_of(name: &[u8]) -> Op
     ensures { λ r. ⌜ r ≡ opOf (now (name .entry)) ⌝ }
 {
     let mut op = Op::Unknown;
+    op = if_named(name, b"escape", Op::Escape, op);
     op = if_named(name, b"label", Op::Label, op);
     op = if_named(name, b"keyword", Op::Keyword, op);
     op = if_named(name, b"display", Op::Display, op);
@@ -68,8 +76,8 @@ fn op_of(name: &[u8]) -> Op
 }
 
 // Answers by the op.
-fn dispatch(name: &[u8], bytes: &[u8], room: Room, out: &mut [u8]) -> usize
-    requires { ⌜ mostAnswer ≤ length (now out) ⌝ }
+fn dispatch(name: &[u8], bytes: &[u8], room: Room, text: &mut [u8], out: &mut [u8]) -> usize
+    requires { ⌜ (longestEscaped ≤ length (now text)) × (mostAnswer ≤ length (now out)) ⌝ }
     ensures { λ r. ⌜ Says (opAnswer (opOf (now (name .entry))) (now (bytes .entry)) room) r (now (out .exit)) ⌝ }
 {
     let op = op_of(name);
@@ -78,26 +86,34 @@ fn dispatch(name: &[u8], bytes: &[u8], room: Room, out: &mut [u8]) -> usize
         Op::Display => tokens::display(bytes, room, out),
         Op::Keyword => tokens::keyword(bytes, out),
         Op::Label => tokens::label(bytes, out),
+        Op::Escape => strings::escape(bytes, room, text, out),
         Op::Unknown => says::bad_record(out),
     }
 }
 
 // Answers by the op and what HEX says, which goes to `bytes`.
-fn answer_fields(op: &[u8], hex: &[u8], room: Room, bytes: &mut [u8], out: &mut [u8]) -> usize
-    requires { ⌜ mostAnswer ≤ length (now out) ⌝ }
+fn answer_fields(
+    op: &[u8],
+    hex: &[u8],
+    room: Room,
+    bytes: &mut [u8],
+    text: &mut [u8],
+    out: &mut [u8],
+) -> usize
+    requires { ⌜ (longestEscaped ≤ length (now text)) × (mostAnswer ≤ length (now out)) ⌝ }
     ensures { λ r. ⌜ Says (fieldsAnswer (length (now (bytes .entry))) (now (op .entry)) (now (hex .entry)) room) r (now (out .exit)) ⌝ }
 {
     let d = record::decode_hex(hex, bytes);
     match d {
-        Decoded::Bytes(n) => dispatch(op, &bytes[..n], room, out),
+        Decoded::Bytes(n) => dispatch(op, &bytes[..n], room, text, out),
         Decoded::Bad => says::bad_record(out),
         Decoded::NoRoom => says::bad_record(out),
     }
 }
 
 // Writes the answer to a line at the front of `out`, and says how long it is.
-pub fn answer(line: &[u8], bytes: &mut [u8], out: &mut [u8]) -> usize
-    requires { ⌜ mostAnswer ≤ length (now out) ⌝ }
+pub fn answer(line: &[u8], bytes: &mut [u8], text: &mut [u8], out: &mut [u8]) -> usize
+    requires { ⌜ (longestEscaped ≤ length (now text)) × (mostAnswer ≤ length (now out)) ⌝ }
     ensures { λ r. ⌜ Says (answerOf (length (now (bytes .entry))) (now (line .entry))) r (now (out .exit)) ⌝ }
 {
     if line.len() > LONGEST_LINE {
@@ -107,7 +123,7 @@ pub fn answer(line: &[u8], bytes: &mut [u8], out: &mut [u8]) -> usize
     match r {
         Record::Fields { op, hex, room } => {
             let start = op + 1;
-            answer_fields(&line[..op], &line[start..hex], room, bytes, out)
+            answer_fields(&line[..op], &line[start..hex], room, bytes, text, out)
         }
         Record::Bad => says::bad_record(out),
     }

@@ -11,8 +11,13 @@ ghost use Rattle.record.specs.Decimal.{mostDigits};
 ghost use Rattle.replay.specs.Sizes.{mostAnswer};
 ghost use Rattle.replay.specs.Lines.{Says, badRecord, numbered, okLine, hexLine, refusal};
 
-// No answer is longer.
-pub const MOST_ANSWER: usize = 262_144;
+// No answer is longer: `ok `, an escaped text in hex, and LF.
+const MOST_ANSWER: usize = 262_144;
+
+// Room for an answer.
+pub fn out() -> [u8; MOST_ANSWER] {
+    [0; MOST_ANSWER]
+}
 
 // Answers with a line that is given.
 pub fn say(line: &[u8], out: &mut [u8]) -> usize

@@ -9,14 +9,14 @@ use Rattle.replay.proofs.lines.answer_all.Statement.{statement}
 use Rattle.replay.proofs.lines.answer_all.Tie as tie
 
 abbrev Inv-loop : tie.InvT-loop
-Inv-loop buf₀ bytes₀ out₀ have₀ turns₀ buf bytes out have turns =
-    (have ≤ length buf) × (length buf ≡ length buf₀) × (length bytes ≡ length bytes₀) × (length out ≡ length out₀)
+Inv-loop buf₀ bytes₀ text₀ out₀ have₀ turns₀ buf bytes text out have turns =
+    (have ≤ length buf) × (length buf ≡ length buf₀) × (length bytes ≡ length bytes₀) × (length text ≡ length text₀) × (length out ≡ length out₀)
 
 abbrev μ-loop : tie.MeasureT-loop
-μ-loop buf₀ bytes₀ out₀ have₀ turns₀ buf bytes out have turns = turns
+μ-loop buf₀ bytes₀ text₀ out₀ have₀ turns₀ buf bytes text out have turns = turns
 
 loop-holds : tie.Need-loop-holds Inv-loop μ-loop
-loop-holds c = (omega arith, refl, refl, refl)
+loop-holds c = (omega arith, refl, refl, refl, refl)
 
 read-more-requires : tie.Need-read-more-requires Inv-loop μ-loop
 read-more-requires c κs = omega arith
@@ -29,6 +29,9 @@ same-length-2 c = omega arith
 
 same-length-3 : tie.Need-same-length-3 Inv-loop μ-loop
 same-length-3 c = omega arith
+
+same-length-4 : tie.Need-same-length-4 Inv-loop μ-loop
+same-length-4 c = omega arith
 
 returns : tie.Need-returns Inv-loop μ-loop
 returns c = counts _ _ (omega (arith, c .before .before .before .read-more .kept))
@@ -44,10 +47,10 @@ slice-aggregate-answer-lines : tie.Need-slice-aggregate-answer-lines Inv-loop μ
 slice-aggregate-answer-lines c = sym (part (c .before))
 
 answer-lines-requires : tie.Need-answer-lines-requires Inv-loop μ-loop
-answer-lines-requires c κs = omega (arith, part (c .before .before .before), c .before .before .before .before .before .before .read-more .ensures)
+answer-lines-requires c κs = omega (arith, part (c .before .before .before .before), c .before .before .before .before .before .before .before .read-more .ensures)
 
 keep-requires : tie.Need-keep-requires Inv-loop μ-loop
-keep-requires c κs = omega (arith, part (c .before .before .before .before .before .before .before .before .before), c .before .before .before .before .before .answer-lines .ensures, c .before .before .before .before .before .before .before .before .before .before .before .before .read-more .ensures, c .before .before .before .before .before .before .before .before .before .before .before .before .read-more .kept)
+keep-requires c κs = omega (arith, part (c .before .before .before .before .before .before .before .before .before .before .before .before), c .before .before .before .before .before .before .before .answer-lines .ensures, c .before .before .before .before .before .before .before .before .before .before .before .before .before .before .before .read-more .ensures, c .before .before .before .before .before .before .before .before .before .before .before .before .before .before .before .read-more .kept)
 
 sub-turns : tie.Need-sub-turns Inv-loop μ-loop
 sub-turns c = omega arith
@@ -56,16 +59,19 @@ loop-less : tie.Need-loop-less Inv-loop μ-loop
 loop-less c = omega arith
 
 loop-again : tie.Need-loop-again Inv-loop μ-loop
-loop-again c = omega (arith, c .before .before .keep .ensures, c .before .before .keep .kept, c .before .before .before .before .before .before .before .before .answer-lines .kept, c .before .before .before .before .before .before .before .before .before .before .before .before .before .before .before .read-more .kept)
-
-same-length-4 : tie.Need-same-length-4 Inv-loop μ-loop
-same-length-4 c = omega arith
+loop-again c = omega (arith, c .before .before .keep .ensures, c .before .before .keep .kept, c .before .before .before .before .before .before .before .before .before .before .answer-lines .kept, c .before .before .before .before .before .before .before .before .before .before .before .before .before .before .before .before .before .before .read-more .kept)
 
 same-length-5 : tie.Need-same-length-5 Inv-loop μ-loop
 same-length-5 c = omega arith
 
 same-length-6 : tie.Need-same-length-6 Inv-loop μ-loop
 same-length-6 c = omega arith
+
+same-length-7 : tie.Need-same-length-7 Inv-loop μ-loop
+same-length-7 c = omega arith
+
+same-length-8 : tie.Need-same-length-8 Inv-loop μ-loop
+same-length-8 c = omega arith
 
 returns-2 : tie.Need-returns-2 Inv-loop μ-loop
 returns-2 c = counts _ _ (omega arith)
@@ -81,6 +87,7 @@ answer-all-spec =
     same-length
     same-length-2
     same-length-3
+    same-length-4
     returns
     slice-reshare-prefix-answer-lines
     slice-aggregate-answer-lines
@@ -89,7 +96,8 @@ answer-all-spec =
     sub-turns
     loop-less
     loop-again
-    same-length-4
     same-length-5
     same-length-6
+    same-length-7
+    same-length-8
     returns-2)

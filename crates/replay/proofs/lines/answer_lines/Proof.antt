@@ -7,17 +7,17 @@ use Rattle.replay.proofs.lines.answer_lines.Statement.{statement}
 use Rattle.replay.proofs.lines.answer_lines.Tie as tie
 
 abbrev Inv-loop : tie.InvT-loop
-Inv-loop text have bytes₀ out₀ start₀ end₀ bytes out start end =
-    (start ≤ end) × (end ≤ length text) × (length bytes ≡ length bytes₀) × (length out ≡ length out₀)
+Inv-loop input have bytes₀ text₀ out₀ start₀ end₀ bytes text out start end =
+    (start ≤ end) × (end ≤ length input) × (length bytes ≡ length bytes₀) × (length text ≡ length text₀) × (length out ≡ length out₀)
 
 abbrev μ-loop : tie.MeasureT-loop
-μ-loop text have bytes₀ out₀ start₀ end₀ bytes out start end = length text - start
+μ-loop input have bytes₀ text₀ out₀ start₀ end₀ bytes text out start end = length input - start
 
 line-end-requires : tie.Need-line-end-requires Inv-loop μ-loop
 line-end-requires c κs = omega arith
 
 loop-holds : tie.Need-loop-holds Inv-loop μ-loop
-loop-holds c = (omega arith, omega arith, refl, refl)
+loop-holds c = (omega arith, omega arith, refl, refl, refl)
 
 sub-write-answer : tie.Need-sub-write-answer Inv-loop μ-loop
 sub-write-answer c = omega arith
@@ -41,13 +41,16 @@ loop-less : tie.Need-loop-less Inv-loop μ-loop
 loop-less c = omega arith
 
 loop-again : tie.Need-loop-again Inv-loop μ-loop
-loop-again c = omega (arith, c .before .before .before .before .before .write-answer .kept)
+loop-again c = omega (arith, c .before .before .before .before .before .before .before .write-answer .kept)
 
 same-length : tie.Need-same-length Inv-loop μ-loop
 same-length c = omega arith
 
 same-length-2 : tie.Need-same-length-2 Inv-loop μ-loop
 same-length-2 c = omega arith
+
+same-length-3 : tie.Need-same-length-3 Inv-loop μ-loop
+same-length-3 c = omega arith
 
 returns : tie.Need-returns Inv-loop μ-loop
 returns c = omega arith
@@ -70,4 +73,5 @@ answer-lines-spec =
     loop-again
     same-length
     same-length-2
+    same-length-3
     returns)

@@ -31,16 +31,16 @@ enum-known-r c = search needs
 
 fields-in : (c : tie.After-known-told)
     → let f = c .before .r .given .0 in
-    (f .0 < f .1 .0) × (f .1 .0 ≤ length (now (c .before .before .before .before .before .before .before .before .args .line)))
+    (f .0 < f .1 .0) × (f .1 .0 ≤ length (now (c .before .before .before .before .before .before .before .before .before .args .line)))
 fields-in c =
-    let t = rw (sym (c .before .before .before .read-record .ensures) ∙ c .before .r .given .1) at (fields-inside (now (c .before .before .before .before .before .before .before .before .args .line))) in
+    let t = rw (sym (c .before .before .before .read-record .ensures) ∙ c .before .r .given .1) at (fields-inside (now (c .before .before .before .before .before .before .before .before .before .args .line))) in
     (t .0, t .1)
 
 add-start : tie.Need-add-start
 add-start c = omega (arith, fields-in c)
 
 slice-aggregate-answer-fields : tie.Need-slice-aggregate-answer-fields
-slice-aggregate-answer-fields c = sym (length-take-le _ (now (c .before .before .before .before .before .before .before .before .before .args .line)) (omega (arith, fields-in (c .before))))
+slice-aggregate-answer-fields c = sym (length-take-le _ (now (c .before .before .before .before .before .before .before .before .before .before .args .line)) (omega (arith, fields-in (c .before))))
 
 sub-answer-fields : tie.Need-sub-answer-fields
 sub-answer-fields c = omega (arith, fields-in (c .before))
@@ -66,19 +66,22 @@ same-length-2 c = search needs
 same-length-3 : tie.Need-same-length-3
 same-length-3 c = search needs
 
+same-length-4 : tie.Need-same-length-4
+same-length-4 c = search needs
+
 returns-2 : tie.Need-returns-2
 unfolding answerOf
 returns-2 c =
-    rw (le-ltb longestLine (length (now (c .before .before .before .before .before .before .before .before .before .before .before .before .before .before .before .before .before .args .line))) (c .before .before .before .before .before .before .before .before .before .before .before .before .before .if1 .left), ← c .before .before .before .before .before .before .before .before .before .before .before .before .read-record .ensures, c .before .before .before .before .before .before .before .before .before .before .r .given .1)
-    (c .before .before .before .before .answer-fields .ensures)
+    rw (le-ltb longestLine (length (now (c .before .before .before .before .before .before .before .before .before .before .before .before .before .before .before .before .before .before .before .before .before .args .line))) (c .before .before .before .before .before .before .before .before .before .before .before .before .before .before .before .before .if1 .left), ← c .before .before .before .before .before .before .before .before .before .before .before .before .before .before .before .read-record .ensures, c .before .before .before .before .before .before .before .before .before .before .before .before .before .r .given .1)
+    (c .before .before .before .before .before .before .answer-fields .ensures)
 
-same-length-4 : tie.Need-same-length-4
-same-length-4 c = search needs
+same-length-5 : tie.Need-same-length-5
+same-length-5 c = search needs
 
 returns-3 : tie.Need-returns-3
 unfolding answerOf
 returns-3 c =
-    rw (le-ltb longestLine (length (now (c .before .before .before .before .before .before .before .before .before .before .before .args .line))) (c .before .before .before .before .before .before .before .if1 .left), ← c .before .before .before .before .before .before .read-record .ensures, c .before .before .before .before .enum-told .given .1)
+    rw (le-ltb longestLine (length (now (c .before .before .before .before .before .before .before .before .before .before .before .before .args .line))) (c .before .before .before .before .before .before .before .if1 .left), ← c .before .before .before .before .before .before .read-record .ensures, c .before .before .before .before .enum-told .given .1)
     (c .before .before .bad-record2 .ensures)
 
 pub answer-spec : {M : Type 1} → statement M
@@ -100,6 +103,7 @@ answer-spec =
     bad-record-requires-2
     same-length-2
     same-length-3
-    returns-2
     same-length-4
+    returns-2
+    same-length-5
     returns-3)

@@ -20,10 +20,10 @@ enum-known-d c = search needs
 front : (c : tie.After-known-told)
     → let n = c .before .d .given .0 .0 in
     let bytes = c .before .before .before .before .before .decode-hex .last .1 .0 in
-    (n ≤ length bytes) × (take n bytes ≡ paired (now (c .before .before .before .before .before .before .before .before .before .before .before .args .hex)))
+    (n ≤ length bytes) × (take n bytes ≡ paired (now (c .before .before .before .before .before .before .before .before .before .before .before .before .args .hex)))
 front c =
     let p = c .before .before .before .before .before .decode-hex in
-    let a = c .before .before .before .before .before .before .before .before .before .before .before .args in
+    let a = c .before .before .before .before .before .before .before .before .before .before .before .before .args in
     let t = decoded-inside (now (a .bytes)) (now (a .hex)) (c .before .d .given .0 .0) (sym (p .ensures .0) ∙ c .before .d .given .1) in
     (omega (arith, t .0, p .kept .1 .0), ap (take (c .before .d .given .0 .0)) (p .ensures .1) ∙ t .1)
 
@@ -54,25 +54,28 @@ same-length c = search needs
 same-length-2 : tie.Need-same-length-2
 same-length-2 c = search needs
 
-returns : tie.Need-returns
-returns c =
-    let e = c .before .before .before .before .before .before .before .before .before .before .decode-hex .ensures in
-    rw (← e .0, c .before .before .before .before .before .before .d .given .1, ← front (c .before .before .before .before .before) .1) (c .before .before .dispatch .ensures)
-
 same-length-3 : tie.Need-same-length-3
 same-length-3 c = search needs
+
+returns : tie.Need-returns
+returns c =
+    let e = c .before .before .before .before .before .before .before .before .before .before .before .before .before .decode-hex .ensures in
+    rw (← e .0, c .before .before .before .before .before .before .before .before .before .d .given .1, ← front (c .before .before .before .before .before .before .before .before) .1) (c .before .before .before .before .dispatch .ensures)
 
 same-length-4 : tie.Need-same-length-4
 same-length-4 c = search needs
 
-returns-2 : tie.Need-returns-2
-returns-2 c = rw (← c .before .before .before .before .before .before .before .before .decode-hex .ensures .0, c .before .before .before .before .enum-told .given .1) (c .before .before .bad-record .ensures)
-
 same-length-5 : tie.Need-same-length-5
 same-length-5 c = search needs
 
+returns-2 : tie.Need-returns-2
+returns-2 c = rw (← c .before .before .before .before .before .before .before .before .decode-hex .ensures .0, c .before .before .before .before .enum-told .given .1) (c .before .before .bad-record .ensures)
+
 same-length-6 : tie.Need-same-length-6
 same-length-6 c = search needs
+
+same-length-7 : tie.Need-same-length-7
+same-length-7 c = search needs
 
 returns-3 : tie.Need-returns-3
 returns-3 c = rw (← c .before .before .before .before .before .before .before .before .decode-hex .ensures .0, c .before .before .before .before .enum-told2 .given .1) (c .before .before .bad-record2 .ensures)
@@ -92,10 +95,11 @@ answer-fields-spec =
     bad-record-requires-2
     same-length
     same-length-2
-    returns
     same-length-3
+    returns
     same-length-4
-    returns-2
     same-length-5
+    returns-2
     same-length-6
+    same-length-7
     returns-3)

@@ -33,6 +33,12 @@ label-requires c κs = search needs
 enum-told-5 : tie.Need-enum-told-5
 enum-told-5 c = search needs
 
+escape-requires : tie.Need-escape-requires
+escape-requires c κs = search needs
+
+enum-told-6 : tie.Need-enum-told-6
+enum-told-6 c = search needs
+
 bad-record-requires : tie.Need-bad-record-requires
 bad-record-requires c κs = search needs
 
@@ -63,8 +69,17 @@ returns-4 c = rw (← c .before .before .before .before .before .before .op-of .
 same-length-5 : tie.Need-same-length-5
 same-length-5 c = search needs
 
+same-length-6 : tie.Need-same-length-6
+same-length-6 c = search needs
+
 returns-5 : tie.Need-returns-5
-returns-5 c = rw (← c .before .before .before .before .before .before .op-of .ensures, c .before .before .before .before .enum-told5 .given .1) (c .before .before .bad-record .ensures)
+returns-5 c = rw (← c .before .before .before .before .before .before .before .before .before .op-of .ensures, c .before .before .before .before .before .before .before .enum-told5 .given .1) (c .before .before .before .before .escape .ensures)
+
+same-length-7 : tie.Need-same-length-7
+same-length-7 c = search needs
+
+returns-6 : tie.Need-returns-6
+returns-6 c = rw (← c .before .before .before .before .before .before .op-of .ensures, c .before .before .before .before .enum-told6 .given .1) (c .before .before .bad-record .ensures)
 
 pub dispatch-spec : {M : Type 1} → statement M
 dispatch-spec =
@@ -80,6 +95,8 @@ dispatch-spec =
     enum-told-4
     label-requires
     enum-told-5
+    escape-requires
+    enum-told-6
     bad-record-requires
     same-length
     returns
@@ -90,4 +107,7 @@ dispatch-spec =
     same-length-4
     returns-4
     same-length-5
-    returns-5)
+    same-length-6
+    returns-5
+    same-length-7
+    returns-6)

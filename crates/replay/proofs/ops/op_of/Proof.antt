@@ -27,12 +27,19 @@ slice-aggregate-if-named-4 c = search needs
 if-named-requires-4 : tie.Need-if-named-requires-4
 if-named-requires-4 c κs = search needs
 
+slice-aggregate-if-named-5 : tie.Need-slice-aggregate-if-named-5
+slice-aggregate-if-named-5 c = search needs
+
+if-named-requires-5 : tie.Need-if-named-requires-5
+if-named-requires-5 c κs = search needs
+
 returns : tie.Need-returns
 returns c =
-    let c3 = c .before .before in
+    let c4 = c .before .before in
+    let c3 = c4 .before .before in
     let c2 = c3 .before .before in
     let c1 = c2 .before .before in
-    rw (c .if-named4 .ensures, c3 .if-named3 .ensures, c2 .if-named2 .ensures, c1 .if-named .ensures)
+    rw (c .if-named5 .ensures, c4 .if-named4 .ensures, c3 .if-named3 .ensures, c2 .if-named2 .ensures, c1 .if-named .ensures)
 
 pub op-of-spec : {M : Type 1} → statement M
 op-of-spec =
@@ -46,4 +53,6 @@ op-of-spec =
     if-named-requires-3
     slice-aggregate-if-named-4
     if-named-requires-4
+    slice-aggregate-if-named-5
+    if-named-requires-5
     returns)
