@@ -1,23 +1,28 @@
--- Laws of `display`: no text needs more bytes than the longest (token's `short`), and what is shown stands at the front of the lent bytes.
+-- Laws of `display`: its texts are short (token's `short`), and what is shown stands at the front of the lent bytes.
 use Prim.Native.Nat.{ℕ, _≤_}
 use native.Mathlib.Omega.{arith}
-use mathlib.Core.Path.{_≡_}
+use mathlib.Core.Path.{_≡_, refl}
 use mathlib.Core.List.{List}
 use lib.Dec.{leb}
 use lib.ListN.{length, take}
 use Rattle.scan.proofs.Choice.{either}
-use Rattle.record.specs.declared.Room.{Room}
+use Rattle.record.specs.declared.Decimal.{Decimal}
+use Rattle.record.specs.declared.Decimal.the-variants.{Value, Bad}
+use Rattle.record.specs.Decimal.{decimalRead}
 use Rattle.token.specs.declared.Display.the-variants.{Length}
-use Rattle.token.specs.Display.{displayOf, fitted, displayed, leftBy}
+use Rattle.token.specs.Display.{displayOf, fitted, leftBy}
 use Rattle.token.proofs.Displays.{short}
-use Rattle.replay.specs.Sizes.{longestText}
-use Rattle.replay.specs.Rooms.{Lends}
-use Rattle.replay.specs.Tokens.{shownIn}
+use Rattle.replay.specs.Rooms.{Alike}
+use Rattle.replay.specs.Tokens.{numberAnswer, displayAnswer}
 use Rattle.replay.proofs.Pieces.{front}
 
-pub lent-shown : (room : Room) (r k : ℕ) → Lends longestText room r → displayed r k ≡ shownIn room k
-unfolding fitted
-lent-shown room r k l = rw (l .same (length (displayOf k)) (short k))
+pub display-alike : (bytes : List ℕ) {r s : ℕ} → Alike r s → displayAnswer r bytes ≡ displayAnswer s bytes
+unfolding displayAnswer fitted
+display-alike bytes {r} {s} l = go (decimalRead bytes)
+  where
+    go : (d : Decimal) → numberAnswer r d ≡ numberAnswer s d
+    go (Value k) = rw (l .fits (length (displayOf k)) (omega (arith, short k)))
+    go Bad = refl
 
 pub shown-front : (d xs : List ℕ) (n : ℕ) → fitted (length d) xs ≡ Length n → (n ≤ length d) × (take n (leftBy (Length n) xs d) ≡ xs)
 unfolding fitted

@@ -1,4 +1,4 @@
--- Laws of `escape`: no text needs more room than the longest (string's `escaping-bound`), and what is escaped stands at the front of the lent bytes.
+-- Laws of `escape`: an escaped text is no longer than there is room for (string's `escaping-bound`), and what is escaped stands at the front of the lent bytes.
 use Prim.Native.Nat.{ℕ, _≤_}
 use native.Mathlib.Nat.{le-refl}
 use native.Mathlib.Omega.{arith}
@@ -12,28 +12,23 @@ use Rattle.utf8.specs.declared.CharNumber.{CharNumber}
 use Rattle.utf8.specs.declared.Admission.{Admission}
 use Rattle.utf8.specs.declared.Admission.the-variants as admission
 use Rattle.utf8.specs.Answers.{textLimit, admitted}
-use Rattle.record.specs.declared.Room.{Room}
 use Rattle.string.specs.declared.Escaping.{Escaping}
 use Rattle.string.specs.declared.Escaping.the-variants.{Written}
 use Rattle.string.specs.Escape.{escaped, escapingAs, escapingOf, leftBy}
 use Rattle.string.proofs.Bounds.{escaping-bound}
-use Rattle.replay.specs.Sizes.{longestEscaped}
-use Rattle.replay.specs.Rooms.{roomOf, Lends}
-use Rattle.replay.specs.Strings.{escapedIn}
+use Rattle.replay.specs.Sizes.{mostRoom}
+use Rattle.replay.specs.Rooms.{Alike}
 use Rattle.replay.proofs.Pieces.{front}
 
-escaped-few : (xs : List ℕ) (m : CharNumber) → admitted textLimit xs ≡ admission.Admitted m → length (escaped xs) ≤ longestEscaped
+pub escape-alike : (xs : List ℕ) {r s : ℕ} → Alike r s → escapingOf r xs ≡ escapingOf s xs
 unfolding escapingOf
-escaped-few xs m e =
-    let n = length (escaped xs) in
-    rw (e, le-leb n n (le-refl n)) at (escaping-bound n xs)
-
-pub lent-escaped : (room : Room) (r : ℕ) (xs : List ℕ) → Lends longestEscaped room r → escapingOf r xs ≡ escapedIn room xs
-unfolding escapingOf
-lent-escaped room r xs l = go (admitted textLimit xs) refl
+escape-alike xs {r} {s} l = go (admitted textLimit xs) refl
   where
-    go : (a : Admission) → admitted textLimit xs ≡ a → escapingAs r xs a ≡ escapingAs (roomOf (length (escaped xs)) room) xs a
-    go (admission.Admitted m) e = rw (l .same (length (escaped xs)) (escaped-few xs m e))
+    few : (m : CharNumber) → admitted textLimit xs ≡ admission.Admitted m → length (escaped xs) ≤ mostRoom
+    few m e = let n = length (escaped xs) in rw (e, le-leb n n (le-refl n)) at (escaping-bound n xs)
+
+    go : (a : Admission) → admitted textLimit xs ≡ a → escapingAs r xs a ≡ escapingAs s xs a
+    go (admission.Admitted m) e = rw (l .fits (length (escaped xs)) (few m e))
     go (admission.Refused q) e = refl
 
 pub escaped-front : (d xs : List ℕ) (n : ℕ) → escapingOf (length d) xs ≡ Written n → (n ≤ length d) × (take n (leftBy (Written n) (escaped xs) d) ≡ escaped xs)

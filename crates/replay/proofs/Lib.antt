@@ -1,3 +1,4 @@
 pub mod Pieces
 pub mod Display
 pub mod Escapes
+pub mod Rooms

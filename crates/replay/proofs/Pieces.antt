@@ -1,5 +1,5 @@
 -- Laws of an answer that is written piece by piece: each piece stands behind those before it, where there is room.
--- They hold by what record's writers leave in a list (`put-stands`).
+-- They hold by what record's writers leave in a list (`put-stands`). And how long an answer in hex is.
 use Prim.Native.Nat.{ℕ, _+_, _*_, _≤_, _<_}
 use native.Mathlib.Omega.{arith}
 use mathlib.Core.Bool.{true}
@@ -28,7 +28,7 @@ module _ (d : List ℕ) (at : ℕ) (xs : List ℕ) {e : List ℕ} {r : ℕ} (p :
 pub says-on : {text d e : List ℕ} {at r : ℕ} (more : List ℕ) → Says text at d → Says (take at d ++ more) r e → Says (text ++ more) r e
 says-on more s t = record { counts = t .counts; holds = t .holds ∙ ap (λ (f : List ℕ). f ++ more) (s .holds) }
 
--- a text in hex, with `ok ` and what follows it, has two digits for each of the bytes that a text may have
+-- two digits for each of the bytes that a text may have, behind `ok `, and what follows them; none are written as `-`
 pub hex-few : (most : ℕ) (xs ys : List ℕ) → length xs ≤ most → 0 < most → length (hexLine xs ys) ≤ 3 + most * 2 + length ys
 unfolding hexText
 hex-few most xs ys h p = omega (arith, length-append (hexText xs) ys, digits xs h)

@@ -1,8 +1,9 @@
 -- What a line is answered with: an op has a definition, a row of `ops` and a line of `opAnswer`.
 -- A line that is too long, is no record, or has an unknown op is answered with `bad record`.
-use Prim.Native.Nat.{ℕ, _+_, _-_}
+use Prim.Native.Nat.{ℕ, _+_, _-_, _≤_}
 use Prim.Native.String.{String}
 use mathlib.Core.Bool.{cond}
+use mathlib.Core.Path.{_≡_}
 use mathlib.Core.List.{List, [], _∷_}
 use lib.Dec.{ltb}
 use lib.ListN.{length, take, drop}
@@ -22,7 +23,8 @@ use Rattle.token.specs.Words.{keywordOf}
 use Rattle.token.specs.Label.{isLabel}
 use Rattle.replay.specs.declared.ops.Op.{Op}
 use Rattle.replay.specs.declared.ops.Op.the-variants as op
-use Rattle.replay.specs.Sizes.{longestLine}
+use Rattle.replay.specs.Sizes.{longestLine, mostRoom}
+use Rattle.replay.specs.Rooms.{roomOf}
 use Rattle.replay.specs.Lines.{badRecord, okLine, refusal}
 use Rattle.replay.specs.Tokens.{keywordAnswer, labelAnswer, displayAnswer}
 use Rattle.replay.specs.Strings.{escapeAnswer}
@@ -57,8 +59,8 @@ opIn (o ∷ os) name = cond (sameText name (o .name)) (o .op) (opIn os name)
 abbrev pub opOf : List ℕ → Op
 opOf name = opIn ops name
 
--- by the op, its bytes and the room
-abbrev pub opAnswer : Op → List ℕ → Room → List ℕ
+-- by the op, its bytes and so many bytes of room
+abbrev pub opAnswer : Op → List ℕ → ℕ → List ℕ
 opAnswer op.Utf8 bytes room = utf8Answer (admitted textLimit bytes)
 opAnswer op.Display bytes room = displayAnswer room bytes
 opAnswer op.Keyword bytes room = keywordAnswer (keywordOf bytes)
@@ -66,8 +68,12 @@ opAnswer op.Label bytes room = labelAnswer (isLabel bytes)
 opAnswer op.Escape bytes room = escapeAnswer room bytes
 opAnswer op.Unknown bytes room = badRecord
 
+-- no answer needs more room than `mostRoom`
+abbrev pub RoomEnough : Type 0
+RoomEnough = (o : Op) (bytes : List ℕ) (n : ℕ) → mostRoom ≤ n → opAnswer o bytes n ≡ opAnswer o bytes mostRoom
+
 abbrev pub decodedAnswer : List ℕ → List ℕ → Room → Decoded → List ℕ
-decodedAnswer name hex room (decoding.Bytes n) = opAnswer (opOf name) (paired hex) room
+decodedAnswer name hex room (decoding.Bytes n) = opAnswer (opOf name) (paired hex) (roomOf room)
 decodedAnswer name hex room decoding.Bad = badRecord
 decodedAnswer name hex room decoding.NoRoom = badRecord
 

@@ -4,13 +4,18 @@ use mathlib.Core.Path.{_≡_}
 use lib.Dec.{leb}
 use Rattle.record.specs.declared.Room.{Room}
 use Rattle.record.specs.declared.Room.the-variants.{Given, Enough}
+use Rattle.replay.specs.Sizes.{mostRoom}
 
--- what a record gives, or as much as is needed
-abbrev pub roomOf : ℕ → Room → ℕ
-roomOf need (Given n) = n
-roomOf need Enough = need
+-- as many bytes as a record gives, or as many as any answer needs
+abbrev pub roomOf : Room → ℕ
+roomOf (Given n) = n
+roomOf Enough = mostRoom
 
--- so much room is as good as what a record gives, wherever no more than `most` is needed
-pub record Lends (most : ℕ) (room : Room) (r : ℕ) : Type 0 where
-  pub few : r ≤ most
-  pub same : (need : ℕ) → need ≤ most → leb need r ≡ leb need (roomOf need room)
+-- whatever any answer needs, the one has room for it where the other has
+pub record Alike (r s : ℕ) : Type 0 where
+  pub fits : (need : ℕ) → need ≤ mostRoom → leb need r ≡ leb need s
+
+-- so many bytes are as good as those that a record gives
+pub record Lends (room : Room) (r : ℕ) : Type 0 where
+  pub few : r ≤ mostRoom
+  pub same : Alike r (roomOf room)

@@ -13,17 +13,13 @@ chunk = 65536
 abbrev pub bufferSize : ℕ
 bufferSize = longestLine + 1 + chunk
 
--- no escaped text is longer: each byte of a text is escaped to two at most
-abbrev pub longestEscaped : ℕ
-longestEscaped = 131070
+-- no answer needs more room: each byte of a text is escaped to two at most
+abbrev pub mostRoom : ℕ
+mostRoom = 131070
 
 -- no answer is longer: `ok `, an escaped text in hex, and LF
 abbrev pub mostAnswer : ℕ
 mostAnswer = 262144
-
--- no display text is longer
-abbrev pub longestText : ℕ
-longestText = 13
 
 -- a kind is a number of 16 bits
 abbrev pub largestKind : ℕ

@@ -1,16 +1,14 @@
--- What the ops that ask token are answered with: `keyword` and `label`; and `display`, with the text that a kind is shown as, in hex, and of
--- which classes the kind is.
+-- What the ops that ask token are answered with: `keyword`, `label`, and `display`, with the text that a kind is shown as, in hex, and of which
+-- classes the kind is.
 use Prim.Native.Nat.{ℕ}
 use Prim.Native.Char.{code}
 use mathlib.Core.Bool.{Bool, cond}
 use mathlib.Core.List.{List, [], _∷_}
 use lib.Dec.{ltb}
-use lib.ListN.{length}
 use Rattle.scan.specs.Ascii.{ascii}
 use Rattle.utf8.specs.Answers.{noRoom}
 use Rattle.record.specs.declared.Decimal.{Decimal}
 use Rattle.record.specs.declared.Decimal.the-variants.{Value, Bad}
-use Rattle.record.specs.declared.Room.{Room}
 use Rattle.record.specs.Decimal.{decimalRead}
 use Rattle.token.specs.declared.Keyword.{Keyword}
 use Rattle.token.specs.declared.Keyword.the-variants.{Kind, Nothing}
@@ -19,7 +17,6 @@ use Rattle.token.specs.declared.Display.the-variants.{Length, NoRoom}
 use Rattle.token.specs.Display.{displayOf, displayed}
 use Rattle.token.specs.Classes.{isOperator, isComparisonOperator, isSetOperator, isAggregator, isAggregatorWithParam}
 use Rattle.replay.specs.Sizes.{largestKind}
-use Rattle.replay.specs.Rooms.{roomOf}
 use Rattle.replay.specs.Lines.{badRecord, okLine, hexLine, refusal}
 
 -- `keyword`: the kind
@@ -30,10 +27,6 @@ keywordAnswer Nothing = ascii "none\n"
 -- `label`: 1 for a label's name
 unfoldable pub labelAnswer : Bool → List ℕ
 labelAnswer b = cond b (ascii "ok 1\n") (ascii "ok 0\n")
-
--- the text in the room that a record gives
-abbrev pub shownIn : Room → ℕ → Display
-shownIn room k = displayed (roomOf (length (displayOf k)) room) k
 
 unfoldable pub flagOf : Bool → ℕ
 flagOf b = cond b (code "1") (code "0")
@@ -56,9 +49,9 @@ kindAnswer k (Length n) = hexLine (displayOf k) (flagsOf k)
 kindAnswer k NoRoom = refusal noRoom
 
 -- by what the decimal digits say
-abbrev pub numberAnswer : Room → Decimal → List ℕ
-numberAnswer room (Value n) = cond (ltb largestKind n) badRecord (kindAnswer n (shownIn room n))
+abbrev pub numberAnswer : ℕ → Decimal → List ℕ
+numberAnswer room (Value n) = cond (ltb largestKind n) badRecord (kindAnswer n (displayed room n))
 numberAnswer room Bad = badRecord
 
-unfoldable pub displayAnswer : Room → List ℕ → List ℕ
+unfoldable pub displayAnswer : ℕ → List ℕ → List ℕ
 displayAnswer room bytes = numberAnswer room (decimalRead bytes)

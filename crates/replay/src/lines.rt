@@ -7,7 +7,7 @@ ghost use mathlib.Core.Path.{_≡_};
 ghost use Prim.Native.Nat.{_≤_};
 ghost use lib.ListN.{length};
 ghost use Rattle.io.specs.Counts.{Counts};
-ghost use Rattle.replay.specs.Sizes.{bufferSize, longestEscaped, mostAnswer};
+ghost use Rattle.replay.specs.Sizes.{bufferSize, mostRoom, mostAnswer};
 
 const LF: u8 = b'\n';
 
@@ -50,7 +50,7 @@ fn line_end(text: &[u8], from: usize) -> usize
 
 // Writes the answer to a line.
 fn write_answer(line: &[u8], bytes: &mut [u8], text: &mut [u8], out: &mut [u8])
-    requires { ⌜ (longestEscaped ≤ length (now text)) × (mostAnswer ≤ length (now out)) ⌝ }
+    requires { ⌜ (mostRoom ≤ length (now text)) × (mostAnswer ≤ length (now out)) ⌝ }
 {
     let n = ops::answer(line, bytes, text, out);
     io::write_all(STDOUT_FILENO, &out[..n]);
@@ -64,7 +64,7 @@ fn answer_lines(
     text: &mut [u8],
     out: &mut [u8],
 ) -> usize
-    requires { ⌜ (have ≤ length (now input)) × (longestEscaped ≤ length (now text)) × (mostAnswer ≤ length (now out)) ⌝ }
+    requires { ⌜ (have ≤ length (now input)) × (mostRoom ≤ length (now text)) × (mostAnswer ≤ length (now out)) ⌝ }
     ensures { λ r. ⌜ r ≤ length (now (input .entry)) ⌝ }
 {
     let mut start = 0;
@@ -98,7 +98,7 @@ fn keep(buf: &mut [u8], start: usize, end: usize) -> usize
 // Answers the lines of the whole input but for a last one without LF, which is what it leaves in the buffer. A proved loop has to
 // end, so it counts its turns down, from a number that no run uses up.
 pub fn answer_all(buf: &mut [u8], bytes: &mut [u8], text: &mut [u8], out: &mut [u8]) -> usize
-    requires { ⌜ (longestEscaped ≤ length (now text)) × (mostAnswer ≤ length (now out)) ⌝ }
+    requires { ⌜ (mostRoom ≤ length (now text)) × (mostAnswer ≤ length (now out)) ⌝ }
     ensures { λ r. ⌜ Counts r (now (buf .exit)) ⌝ }
 {
     let mut have = 0;
@@ -117,7 +117,7 @@ pub fn answer_all(buf: &mut [u8], bytes: &mut [u8], text: &mut [u8], out: &mut [
 
 // Answers a last line without LF, unless it is empty.
 pub fn answer_last(line: &[u8], bytes: &mut [u8], text: &mut [u8], out: &mut [u8])
-    requires { ⌜ (longestEscaped ≤ length (now text)) × (mostAnswer ≤ length (now out)) ⌝ }
+    requires { ⌜ (mostRoom ≤ length (now text)) × (mostAnswer ≤ length (now out)) ⌝ }
 {
     if line.len() > 0 {
         write_answer(line, bytes, text, out);

@@ -2,7 +2,6 @@
 // The lines are read in `lines`, and answered in `ops`; the other modules have what an op asks and what it says.
 mod lines;
 mod ops;
-mod rooms;
 mod says;
 mod strings;
 mod tokens;
@@ -11,7 +10,7 @@ mod tokens;
 fn main() {
     let mut buf = lines::buffer();
     let mut bytes = ops::bytes();
-    let mut text = strings::text();
+    let mut text = ops::text();
     let mut out = says::out();
     let have = lines::answer_all(&mut buf, &mut bytes, &mut text, &mut out);
     lines::answer_last(&buf[..have], &mut bytes, &mut text, &mut out);

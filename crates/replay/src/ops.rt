@@ -13,7 +13,8 @@ ghost use Prim.Native.Nat.{_≤_};
 ghost use lib.ListN.{length};
 ghost use Rattle.scan.specs.Text.{sameText};
 ghost use Rattle.utf8.specs.Answers.{textLimit, admitted};
-ghost use Rattle.replay.specs.Sizes.{mostAnswer, longestEscaped};
+ghost use Rattle.replay.specs.Sizes.{mostRoom, mostAnswer};
+ghost use Rattle.replay.specs.Rooms.{roomOf, Lends};
 ghost use Rattle.replay.specs.Lines.{Says};
 ghost use Rattle.replay.specs.Answer.{utf8Answer, opOf, opAnswer, fieldsAnswer, answerOf};
 
@@ -35,9 +36,17 @@ const DIGITS_A_BYTE: usize = 2;
 // So many that the HEX of any line fits.
 const MOST_BYTES: usize = LONGEST_LINE / DIGITS_A_BYTE;
 
+// No answer needs more room: each byte of a text is escaped to two at most.
+const MOST_ROOM: usize = 131_070;
+
 // Room for what the HEX of a line says.
 pub fn bytes() -> [u8; MOST_BYTES] {
     [0; MOST_BYTES]
+}
+
+// Room for the text that an op makes.
+pub fn text() -> [u8; MOST_ROOM] {
+    [0; MOST_ROOM]
 }
 
 // `utf8`: how many characters a text has.
@@ -75,20 +84,45 @@ fn op_of(name: &[u8]) -> Op
     op
 }
 
-// Answers by the op.
-fn dispatch(name: &[u8], bytes: &[u8], room: Room, text: &mut [u8], out: &mut [u8]) -> usize
-    requires { ⌜ (longestEscaped ≤ length (now text)) × (mostAnswer ≤ length (now out)) ⌝ }
-    ensures { λ r. ⌜ Says (opAnswer (opOf (now (name .entry))) (now (bytes .entry)) room) r (now (out .exit)) ⌝ }
+// Answers by the op, in the room that is lent to it.
+fn dispatch(name: &[u8], bytes: &[u8], text: &mut [u8], out: &mut [u8]) -> usize
+    requires { ⌜ mostAnswer ≤ length (now out) ⌝ }
+    ensures { λ r. ⌜ Says (opAnswer (opOf (now (name .entry))) (now (bytes .entry)) (length (now (text .entry)))) r (now (out .exit)) ⌝ }
 {
     let op = op_of(name);
     match op {
         Op::Utf8 => utf8_text(bytes, out),
-        Op::Display => tokens::display(bytes, room, out),
+        Op::Display => tokens::display(bytes, text, out),
         Op::Keyword => tokens::keyword(bytes, out),
         Op::Label => tokens::label(bytes, out),
-        Op::Escape => strings::escape(bytes, room, text, out),
+        Op::Escape => strings::escape(bytes, text, out),
         Op::Unknown => says::bad_record(out),
     }
+}
+
+// How many bytes are lent to an op: those that a record gives, so far as any answer needs them.
+fn lent(room: Room) -> usize
+    ensures { λ r. ⌜ Lends room r ⌝ }
+{
+    match room {
+        Room::Given(n) => {
+            if n < MOST_ROOM as u64 {
+                n as usize
+            } else {
+                MOST_ROOM
+            }
+        }
+        Room::Enough => MOST_ROOM,
+    }
+}
+
+// Answers by the op, and lends it the room.
+fn answer_in(room: Room, name: &[u8], bytes: &[u8], text: &mut [u8], out: &mut [u8]) -> usize
+    requires { ⌜ (mostRoom ≤ length (now text)) × (mostAnswer ≤ length (now out)) ⌝ }
+    ensures { λ r. ⌜ Says (opAnswer (opOf (now (name .entry))) (now (bytes .entry)) (roomOf room)) r (now (out .exit)) ⌝ }
+{
+    let n = lent(room);
+    dispatch(name, bytes, &mut text[..n], out)
 }
 
 // Answers by the op and what HEX says, which goes to `bytes`.
@@ -100,12 +134,12 @@ fn answer_fields(
     text: &mut [u8],
     out: &mut [u8],
 ) -> usize
-    requires { ⌜ (longestEscaped ≤ length (now text)) × (mostAnswer ≤ length (now out)) ⌝ }
+    requires { ⌜ (mostRoom ≤ length (now text)) × (mostAnswer ≤ length (now out)) ⌝ }
     ensures { λ r. ⌜ Says (fieldsAnswer (length (now (bytes .entry))) (now (op .entry)) (now (hex .entry)) room) r (now (out .exit)) ⌝ }
 {
     let d = record::decode_hex(hex, bytes);
     match d {
-        Decoded::Bytes(n) => dispatch(op, &bytes[..n], room, text, out),
+        Decoded::Bytes(n) => answer_in(room, op, &bytes[..n], text, out),
         Decoded::Bad => says::bad_record(out),
         Decoded::NoRoom => says::bad_record(out),
     }
@@ -113,7 +147,7 @@ fn answer_fields(
 
 // Writes the answer to a line at the front of `out`, and says how long it is.
 pub fn answer(line: &[u8], bytes: &mut [u8], text: &mut [u8], out: &mut [u8]) -> usize
-    requires { ⌜ (longestEscaped ≤ length (now text)) × (mostAnswer ≤ length (now out)) ⌝ }
+    requires { ⌜ (mostRoom ≤ length (now text)) × (mostAnswer ≤ length (now out)) ⌝ }
     ensures { λ r. ⌜ Says (answerOf (length (now (bytes .entry))) (now (line .entry))) r (now (out .exit)) ⌝ }
 {
     if line.len() > LONGEST_LINE {

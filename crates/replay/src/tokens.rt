@@ -1,8 +1,6 @@
 // The ops that ask what token says: `keyword`, `label` and `display`.
-use crate::rooms;
 use crate::says;
 use record::Decimal;
-use record::Room;
 use token::Display;
 use token::Keyword;
 ghost use mathlib.Core.Path.{_≡_};
@@ -11,12 +9,9 @@ ghost use lib.ListN.{length};
 ghost use Rattle.token.specs.Words.{keywordOf};
 ghost use Rattle.token.specs.Label.{isLabel};
 ghost use Rattle.token.specs.Display.{displayed};
-ghost use Rattle.replay.specs.Sizes.{mostAnswer, longestText};
+ghost use Rattle.replay.specs.Sizes.{mostAnswer};
 ghost use Rattle.replay.specs.Lines.{Says, hexLine};
-ghost use Rattle.replay.specs.Tokens.{keywordAnswer, labelAnswer, flagOf, flagsOf, shownIn, kindAnswer, displayAnswer};
-
-// No display text is longer.
-const LONGEST_TEXT: usize = 13;
+ghost use Rattle.replay.specs.Tokens.{keywordAnswer, labelAnswer, flagOf, flagsOf, kindAnswer, displayAnswer};
 
 // `display` takes no larger number.
 const LARGEST_KIND: u64 = u16::MAX as u64;
@@ -76,7 +71,7 @@ fn flags(kind: u16) -> [u8; FLAGS]
 
 // `ok TEXTHEX FLAGS`.
 fn ok_text(text: &[u8], kind: u16, out: &mut [u8]) -> usize
-    requires { ⌜ (length (now text) ≤ longestText) × (mostAnswer ≤ length (now out)) ⌝ }
+    requires { ⌜ length (hexLine (now text) (flagsOf kind)) ≤ length (now out) ⌝ }
     ensures { λ r. ⌜ Says (hexLine (now (text .entry)) (flagsOf kind)) r (now (out .exit)) ⌝ }
 {
     let end = flags(kind);
@@ -85,7 +80,7 @@ fn ok_text(text: &[u8], kind: u16, out: &mut [u8]) -> usize
 
 // Answers with the text of a kind, which goes to the lent bytes.
 fn show(kind: u16, text: &mut [u8], out: &mut [u8]) -> usize
-    requires { ⌜ (length (now text) ≤ longestText) × (mostAnswer ≤ length (now out)) ⌝ }
+    requires { ⌜ mostAnswer ≤ length (now out) ⌝ }
     ensures { λ r. ⌜ Says (kindAnswer kind (displayed (length (now (text .entry))) kind)) r (now (out .exit)) ⌝ }
 {
     let d = token::token_display(kind, text);
@@ -95,20 +90,10 @@ fn show(kind: u16, text: &mut [u8], out: &mut [u8]) -> usize
     }
 }
 
-// Lends the bytes for the text of a kind.
-fn show_in(room: Room, kind: u16, out: &mut [u8]) -> usize
-    requires { ⌜ mostAnswer ≤ length (now out) ⌝ }
-    ensures { λ r. ⌜ Says (kindAnswer kind (shownIn room kind)) r (now (out .exit)) ⌝ }
-{
-    let mut text = [0u8; LONGEST_TEXT];
-    let n = rooms::lent(room, LONGEST_TEXT);
-    show(kind, &mut text[..n], out)
-}
-
 // `display`: the text that a kind is shown as, and its classes.
-pub fn display(bytes: &[u8], room: Room, out: &mut [u8]) -> usize
+pub fn display(bytes: &[u8], text: &mut [u8], out: &mut [u8]) -> usize
     requires { ⌜ mostAnswer ≤ length (now out) ⌝ }
-    ensures { λ r. ⌜ Says (displayAnswer room (now (bytes .entry))) r (now (out .exit)) ⌝ }
+    ensures { λ r. ⌜ Says (displayAnswer (length (now (text .entry))) (now (bytes .entry))) r (now (out .exit)) ⌝ }
 {
     let d = record::read_decimal(bytes);
     match d {
@@ -116,7 +101,7 @@ pub fn display(bytes: &[u8], room: Room, out: &mut [u8]) -> usize
             if n > LARGEST_KIND {
                 return says::bad_record(out);
             }
-            show_in(room, n as u16, out)
+            show(n as u16, text, out)
         }
         Decimal::Bad => says::bad_record(out),
     }

@@ -27,14 +27,14 @@ front c =
     let t = decoded-inside (now (a .bytes)) (now (a .hex)) (c .before .d .given .0 .0) (sym (p .ensures .0) ∙ c .before .d .given .1) in
     (omega (arith, t .0, p .kept .1 .0), ap (take (c .before .d .given .0 .0)) (p .ensures .1) ∙ t .1)
 
-slice-reshare-prefix-dispatch : tie.Need-slice-reshare-prefix-dispatch
-slice-reshare-prefix-dispatch c = front c .0
+slice-reshare-prefix-answer-in : tie.Need-slice-reshare-prefix-answer-in
+slice-reshare-prefix-answer-in c = front c .0
 
-slice-aggregate-dispatch : tie.Need-slice-aggregate-dispatch
-slice-aggregate-dispatch c = sym (length-take-le _ _ (front (c .before) .0))
+slice-aggregate-answer-in : tie.Need-slice-aggregate-answer-in
+slice-aggregate-answer-in c = sym (length-take-le _ _ (front (c .before) .0))
 
-dispatch-requires : tie.Need-dispatch-requires
-dispatch-requires c κs = search needs
+answer-in-requires : tie.Need-answer-in-requires
+answer-in-requires c κs = search needs
 
 enum-told : tie.Need-enum-told
 enum-told c = search needs
@@ -60,7 +60,7 @@ same-length-3 c = search needs
 returns : tie.Need-returns
 returns c =
     let e = c .before .before .before .before .before .before .before .before .before .before .before .before .before .decode-hex .ensures in
-    rw (← e .0, c .before .before .before .before .before .before .before .before .before .d .given .1, ← front (c .before .before .before .before .before .before .before .before) .1) (c .before .before .before .before .dispatch .ensures)
+    rw (← e .0, c .before .before .before .before .before .before .before .before .before .d .given .1, ← front (c .before .before .before .before .before .before .before .before) .1) (c .before .before .before .before .answer-in .ensures)
 
 same-length-4 : tie.Need-same-length-4
 same-length-4 c = search needs
@@ -86,9 +86,9 @@ answer-fields-spec =
     (tie.spec
     decode-hex-requires
     enum-known-d
-    slice-reshare-prefix-dispatch
-    slice-aggregate-dispatch
-    dispatch-requires
+    slice-reshare-prefix-answer-in
+    slice-aggregate-answer-in
+    answer-in-requires
     enum-told
     bad-record-requires
     enum-told-2

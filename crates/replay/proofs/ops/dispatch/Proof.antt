@@ -51,32 +51,35 @@ returns c = rw (← c .before .before .before .before .before .before .op-of .en
 same-length-2 : tie.Need-same-length-2
 same-length-2 c = search needs
 
-returns-2 : tie.Need-returns-2
-returns-2 c = rw (← c .before .before .before .before .before .before .op-of .ensures, c .before .before .before .before .enum-told2 .given .1) (c .before .before .display .ensures)
-
 same-length-3 : tie.Need-same-length-3
 same-length-3 c = search needs
 
-returns-3 : tie.Need-returns-3
-returns-3 c = rw (← c .before .before .before .before .before .before .op-of .ensures, c .before .before .before .before .enum-told3 .given .1) (c .before .before .keyword .ensures)
+returns-2 : tie.Need-returns-2
+returns-2 c = rw (← c .before .before .before .before .before .before .before .before .before .op-of .ensures, c .before .before .before .before .before .before .before .enum-told2 .given .1) (c .before .before .before .before .display .ensures)
 
 same-length-4 : tie.Need-same-length-4
 same-length-4 c = search needs
 
-returns-4 : tie.Need-returns-4
-returns-4 c = rw (← c .before .before .before .before .before .before .op-of .ensures, c .before .before .before .before .enum-told4 .given .1) (c .before .before .label .ensures)
+returns-3 : tie.Need-returns-3
+returns-3 c = rw (← c .before .before .before .before .before .before .op-of .ensures, c .before .before .before .before .enum-told3 .given .1) (c .before .before .keyword .ensures)
 
 same-length-5 : tie.Need-same-length-5
 same-length-5 c = search needs
 
+returns-4 : tie.Need-returns-4
+returns-4 c = rw (← c .before .before .before .before .before .before .op-of .ensures, c .before .before .before .before .enum-told4 .given .1) (c .before .before .label .ensures)
+
 same-length-6 : tie.Need-same-length-6
 same-length-6 c = search needs
+
+same-length-7 : tie.Need-same-length-7
+same-length-7 c = search needs
 
 returns-5 : tie.Need-returns-5
 returns-5 c = rw (← c .before .before .before .before .before .before .before .before .before .op-of .ensures, c .before .before .before .before .before .before .before .enum-told5 .given .1) (c .before .before .before .before .escape .ensures)
 
-same-length-7 : tie.Need-same-length-7
-same-length-7 c = search needs
+same-length-8 : tie.Need-same-length-8
+same-length-8 c = search needs
 
 returns-6 : tie.Need-returns-6
 returns-6 c = rw (← c .before .before .before .before .before .before .op-of .ensures, c .before .before .before .before .enum-told6 .given .1) (c .before .before .bad-record .ensures)
@@ -101,13 +104,14 @@ dispatch-spec =
     same-length
     returns
     same-length-2
-    returns-2
     same-length-3
-    returns-3
+    returns-2
     same-length-4
-    returns-4
+    returns-3
     same-length-5
+    returns-4
     same-length-6
-    returns-5
     same-length-7
+    returns-5
+    same-length-8
     returns-6)

@@ -22,11 +22,11 @@ returns : tie.Need-returns
 unfolding displayAnswer
 returns c = rw (← c .before .before .before .before .before .before .before .before .read-decimal .ensures, c .before .before .before .before .before .before .d .given .1, lt-ltb largestKind (c .before .before .before .before .before .before .d .given .0 .0) (c .before .before .before .before .if1 .taken)) (c .before .before .bad-record .ensures)
 
-cast-show-in : tie.Need-cast-show-in
-cast-show-in c = search needs
+cast-show : tie.Need-cast-show
+cast-show c = search needs
 
-show-in-requires : tie.Need-show-in-requires
-show-in-requires c κs = search needs
+show-requires : tie.Need-show-requires
+show-requires c κs = search needs
 
 enum-told : tie.Need-enum-told
 enum-told c = search needs
@@ -37,12 +37,15 @@ bad-record-requires-2 c κs = search needs
 same-length-2 : tie.Need-same-length-2
 same-length-2 c = search needs
 
-returns-2 : tie.Need-returns-2
-unfolding displayAnswer
-returns-2 c = rw (← c .before .before .before .before .before .before .before .before .read-decimal .ensures, c .before .before .before .before .before .before .d .given .1, le-ltb largestKind (c .before .before .before .before .before .before .d .given .0 .0) (c .before .before .before .before .if1 .left)) (c .before .before .show-in .ensures)
-
 same-length-3 : tie.Need-same-length-3
 same-length-3 c = search needs
+
+returns-2 : tie.Need-returns-2
+unfolding displayAnswer
+returns-2 c = rw (← c .before .before .before .before .before .before .before .before .before .before .before .read-decimal .ensures, c .before .before .before .before .before .before .before .before .before .d .given .1, le-ltb largestKind (c .before .before .before .before .before .before .before .before .before .d .given .0 .0) (c .before .before .before .before .before .before .before .if1 .left)) (c .before .before .before .before .show .ensures)
+
+same-length-4 : tie.Need-same-length-4
+same-length-4 c = search needs
 
 returns-3 : tie.Need-returns-3
 unfolding displayAnswer
@@ -57,11 +60,12 @@ display-spec =
     bad-record-requires
     same-length
     returns
-    cast-show-in
-    show-in-requires
+    cast-show
+    show-requires
     enum-told
     bad-record-requires-2
     same-length-2
-    returns-2
     same-length-3
+    returns-2
+    same-length-4
     returns-3)

@@ -1,10 +1,4 @@
--- The flags are those of the kind, and there is room for the hex of a text.
-use Rattle.replay.proofs.Pieces.{hex-few}
-use Rattle.replay.specs.Sizes.{longestText}
-use lib.ListN.{length}
-use denote.Ref.{now}
-use mathlib.Core.Path.{ap}
-use native.Mathlib.Omega.{arith}
+-- The flags are those of the kind.
 use borrow.Author.Needs.{needs}
 use Rattle.replay.proofs.tokens.ok_text.Statement.{statement}
 use Rattle.replay.proofs.tokens.ok_text.Tie as tie
@@ -16,9 +10,7 @@ slice-aggregate-ok-hex : tie.Need-slice-aggregate-ok-hex
 slice-aggregate-ok-hex c = search needs
 
 ok-hex-requires : tie.Need-ok-hex-requires
-ok-hex-requires c κs =
-    let flags = c .before .before .flags in
-    omega (arith, hex-few longestText (now (c .before .before .before .before .before .args .text)) (flags .result) (omega arith) (omega arith), ap length (flags .ensures))
+ok-hex-requires c κs = rw (c .before .before .flags .ensures) (c .before .before .before .before .before .pre)
 
 same-length : tie.Need-same-length
 same-length c = search needs

@@ -1,6 +1,9 @@
 -- The arms are those of the definition. The text stands at the front of the lent bytes.
 use Rattle.replay.proofs.Display.{shown-front}
-use Rattle.replay.specs.Tokens.{kindAnswer}
+use Rattle.replay.proofs.Pieces.{hex-few}
+use Rattle.replay.specs.Tokens.{flagsOf, kindAnswer}
+use Rattle.token.specs.DisplayRows.{textSize}
+use Rattle.token.proofs.Displays.{short}
 use Rattle.token.specs.Display.{displayOf, leftBy}
 use denote.Ref.{now}
 use lib.Seq.{length-take-le}
@@ -38,9 +41,8 @@ slice-aggregate-ok-text c = sym (length-take-le _ _ (front (c .before) .0))
 
 ok-text-requires : tie.Need-ok-text-requires
 ok-text-requires c κs =
-    let p = c .before .before .before .before .before .before .before .token-display in
-    let inside = front (c .before .before) .0 in
-    omega (arith, length-take-le (c .before .before .before .d .given .0 .0) (p .last .1 .0) inside, inside, p .kept .1 .0)
+    let k = c .before .before .before .before .before .before .before .before .before .before .before .args .kind in
+    rw (front (c .before .before) .1) (omega (arith, hex-few textSize (displayOf k) (flagsOf k) (short k) (omega arith)))
 
 enum-told : tie.Need-enum-told
 enum-told c = search needs
