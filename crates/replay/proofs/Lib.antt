@@ -1,4 +1,5 @@
 pub mod Pieces
 pub mod Display
 pub mod Escapes
+pub mod Unquotes
 pub mod Rooms

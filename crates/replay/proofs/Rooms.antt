@@ -4,14 +4,16 @@ use native.Mathlib.Omega.{arith}
 use mathlib.Core.Path.{_≡_, refl, sym, ap, _∙_}
 use mathlib.Core.List.{List}
 use borrow.Author.Tests.{le-leb}
+use Rattle.utf8.specs.declared.Reading.the-variants.{Crate, Documented}
 use Rattle.replay.specs.declared.ops.Op.{Op}
 use Rattle.replay.specs.declared.ops.Op.the-variants as op
 use Rattle.replay.specs.Sizes.{mostRoom}
 use Rattle.replay.specs.Rooms.{Alike}
-use Rattle.replay.specs.Strings.{escapingAnswer}
+use Rattle.replay.specs.Strings.{escapingAnswer, unquotingAnswer}
 use Rattle.replay.specs.Answer.{opAnswer, RoomEnough}
 use Rattle.replay.proofs.Display.{display-alike}
 use Rattle.replay.proofs.Escapes.{escape-alike}
+use Rattle.replay.proofs.Unquotes.{unquote-alike}
 
 pub large-alike : (r s : ℕ) → mostRoom ≤ r → mostRoom ≤ s → Alike r s
 large-alike r s h k = record { fits = λ need l. le-leb need r (omega arith) ∙ sym (le-leb need s (omega arith)) }
@@ -21,6 +23,8 @@ op-alike op.Utf8 bytes l = refl
 op-alike op.Display bytes l = display-alike bytes l
 op-alike op.Keyword bytes l = refl
 op-alike op.Label bytes l = refl
+op-alike op.Unquote bytes l = ap (unquotingAnswer Crate bytes) (unquote-alike Crate bytes l)
+op-alike op.UnquoteDoc bytes l = ap (unquotingAnswer Documented bytes) (unquote-alike Documented bytes l)
 op-alike op.Escape bytes l = ap (escapingAnswer bytes) (escape-alike bytes l)
 op-alike op.Unknown bytes l = refl
 

@@ -11,6 +11,7 @@ use Rattle.scan.specs.Ascii.{ascii}
 use Rattle.scan.specs.Text.{sameText}
 use Rattle.utf8.specs.declared.Admission.{Admission}
 use Rattle.utf8.specs.declared.Admission.the-variants.{Admitted, Refused}
+use Rattle.utf8.specs.declared.Reading.the-variants.{Crate, Documented}
 use Rattle.utf8.specs.Answers.{textLimit, admitted}
 use Rattle.record.specs.declared.Decoded.{Decoded}
 use Rattle.record.specs.declared.Decoded.the-variants as decoding
@@ -27,7 +28,7 @@ use Rattle.replay.specs.Sizes.{longestLine, mostRoom}
 use Rattle.replay.specs.Rooms.{roomOf}
 use Rattle.replay.specs.Lines.{badRecord, okLine, refusal}
 use Rattle.replay.specs.Tokens.{keywordAnswer, labelAnswer, displayAnswer}
-use Rattle.replay.specs.Strings.{escapeAnswer}
+use Rattle.replay.specs.Strings.{escapeAnswer, unquoteAnswer}
 
 -- `utf8`: the number of characters
 unfoldable pub utf8Answer : Admission → List ℕ
@@ -48,6 +49,8 @@ ops =
     ∷ named "display" op.Display
     ∷ named "keyword" op.Keyword
     ∷ named "label" op.Label
+    ∷ named "unquote" op.Unquote
+    ∷ named "unquotedoc" op.UnquoteDoc
     ∷ named "escape" op.Escape
     ∷ []
 
@@ -65,6 +68,8 @@ opAnswer op.Utf8 bytes room = utf8Answer (admitted textLimit bytes)
 opAnswer op.Display bytes room = displayAnswer room bytes
 opAnswer op.Keyword bytes room = keywordAnswer (keywordOf bytes)
 opAnswer op.Label bytes room = labelAnswer (isLabel bytes)
+opAnswer op.Unquote bytes room = unquoteAnswer Crate room bytes
+opAnswer op.UnquoteDoc bytes room = unquoteAnswer Documented room bytes
 opAnswer op.Escape bytes room = escapeAnswer room bytes
 opAnswer op.Unknown bytes room = badRecord
 

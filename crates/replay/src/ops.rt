@@ -7,6 +7,7 @@ use record::Decoded;
 use record::Record;
 use record::Room;
 use utf8::Admission;
+use utf8::Reading;
 ghost use mathlib.Core.Path.{_≡_};
 ghost use mathlib.Core.Bool.{cond};
 ghost use Prim.Native.Nat.{_≤_};
@@ -24,6 +25,8 @@ enum Op {
     Display,
     Keyword,
     Label,
+    Unquote,
+    UnquoteDoc,
     Escape,
     Unknown,
 }
@@ -77,6 +80,8 @@ fn op_of(name: &[u8]) -> Op
 {
     let mut op = Op::Unknown;
     op = if_named(name, b"escape", Op::Escape, op);
+    op = if_named(name, b"unquotedoc", Op::UnquoteDoc, op);
+    op = if_named(name, b"unquote", Op::Unquote, op);
     op = if_named(name, b"label", Op::Label, op);
     op = if_named(name, b"keyword", Op::Keyword, op);
     op = if_named(name, b"display", Op::Display, op);
@@ -95,6 +100,8 @@ fn dispatch(name: &[u8], bytes: &[u8], text: &mut [u8], out: &mut [u8]) -> usize
         Op::Display => tokens::display(bytes, text, out),
         Op::Keyword => tokens::keyword(bytes, out),
         Op::Label => tokens::label(bytes, out),
+        Op::Unquote => strings::unquote(bytes, Reading::Crate, text, out),
+        Op::UnquoteDoc => strings::unquote(bytes, Reading::Documented, text, out),
         Op::Escape => strings::escape(bytes, text, out),
         Op::Unknown => says::bad_record(out),
     }

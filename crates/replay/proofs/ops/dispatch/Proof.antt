@@ -33,11 +33,23 @@ label-requires c κs = search needs
 enum-told-5 : tie.Need-enum-told-5
 enum-told-5 c = search needs
 
-escape-requires : tie.Need-escape-requires
-escape-requires c κs = search needs
+unquote-requires : tie.Need-unquote-requires
+unquote-requires c κs = search needs
 
 enum-told-6 : tie.Need-enum-told-6
 enum-told-6 c = search needs
+
+unquote-requires-2 : tie.Need-unquote-requires-2
+unquote-requires-2 c κs = search needs
+
+enum-told-7 : tie.Need-enum-told-7
+enum-told-7 c = search needs
+
+escape-requires : tie.Need-escape-requires
+escape-requires c κs = search needs
+
+enum-told-8 : tie.Need-enum-told-8
+enum-told-8 c = search needs
 
 bad-record-requires : tie.Need-bad-record-requires
 bad-record-requires c κs = search needs
@@ -76,13 +88,31 @@ same-length-7 : tie.Need-same-length-7
 same-length-7 c = search needs
 
 returns-5 : tie.Need-returns-5
-returns-5 c = rw (← c .before .before .before .before .before .before .before .before .before .op-of .ensures, c .before .before .before .before .before .before .before .enum-told5 .given .1) (c .before .before .before .before .escape .ensures)
+returns-5 c = rw (← c .before .before .before .before .before .before .before .before .before .op-of .ensures, c .before .before .before .before .before .before .before .enum-told5 .given .1) (c .before .before .before .before .unquote .ensures)
 
 same-length-8 : tie.Need-same-length-8
 same-length-8 c = search needs
 
+same-length-9 : tie.Need-same-length-9
+same-length-9 c = search needs
+
 returns-6 : tie.Need-returns-6
-returns-6 c = rw (← c .before .before .before .before .before .before .op-of .ensures, c .before .before .before .before .enum-told6 .given .1) (c .before .before .bad-record .ensures)
+returns-6 c = rw (← c .before .before .before .before .before .before .before .before .before .op-of .ensures, c .before .before .before .before .before .before .before .enum-told6 .given .1) (c .before .before .before .before .unquote2 .ensures)
+
+same-length-10 : tie.Need-same-length-10
+same-length-10 c = search needs
+
+same-length-11 : tie.Need-same-length-11
+same-length-11 c = search needs
+
+returns-7 : tie.Need-returns-7
+returns-7 c = rw (← c .before .before .before .before .before .before .before .before .before .op-of .ensures, c .before .before .before .before .before .before .before .enum-told7 .given .1) (c .before .before .before .before .escape .ensures)
+
+same-length-12 : tie.Need-same-length-12
+same-length-12 c = search needs
+
+returns-8 : tie.Need-returns-8
+returns-8 c = rw (← c .before .before .before .before .before .before .op-of .ensures, c .before .before .before .before .enum-told8 .given .1) (c .before .before .bad-record .ensures)
 
 pub dispatch-spec : {M : Type 1} → statement M
 dispatch-spec =
@@ -98,8 +128,12 @@ dispatch-spec =
     enum-told-4
     label-requires
     enum-told-5
-    escape-requires
+    unquote-requires
     enum-told-6
+    unquote-requires-2
+    enum-told-7
+    escape-requires
+    enum-told-8
     bad-record-requires
     same-length
     returns
@@ -114,4 +148,10 @@ dispatch-spec =
     same-length-7
     returns-5
     same-length-8
-    returns-6)
+    same-length-9
+    returns-6
+    same-length-10
+    same-length-11
+    returns-7
+    same-length-12
+    returns-8)

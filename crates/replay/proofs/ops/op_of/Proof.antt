@@ -33,13 +33,27 @@ slice-aggregate-if-named-5 c = search needs
 if-named-requires-5 : tie.Need-if-named-requires-5
 if-named-requires-5 c κs = search needs
 
+slice-aggregate-if-named-6 : tie.Need-slice-aggregate-if-named-6
+slice-aggregate-if-named-6 c = search needs
+
+if-named-requires-6 : tie.Need-if-named-requires-6
+if-named-requires-6 c κs = search needs
+
+slice-aggregate-if-named-7 : tie.Need-slice-aggregate-if-named-7
+slice-aggregate-if-named-7 c = search needs
+
+if-named-requires-7 : tie.Need-if-named-requires-7
+if-named-requires-7 c κs = search needs
+
 returns : tie.Need-returns
 returns c =
-    let c4 = c .before .before in
+    let c6 = c .before .before in
+    let c5 = c6 .before .before in
+    let c4 = c5 .before .before in
     let c3 = c4 .before .before in
     let c2 = c3 .before .before in
     let c1 = c2 .before .before in
-    rw (c .if-named5 .ensures, c4 .if-named4 .ensures, c3 .if-named3 .ensures, c2 .if-named2 .ensures, c1 .if-named .ensures)
+    rw (c .if-named7 .ensures, c6 .if-named6 .ensures, c5 .if-named5 .ensures, c4 .if-named4 .ensures, c3 .if-named3 .ensures, c2 .if-named2 .ensures, c1 .if-named .ensures)
 
 pub op-of-spec : {M : Type 1} → statement M
 op-of-spec =
@@ -55,4 +69,8 @@ op-of-spec =
     if-named-requires-4
     slice-aggregate-if-named-5
     if-named-requires-5
+    slice-aggregate-if-named-6
+    if-named-requires-6
+    slice-aggregate-if-named-7
+    if-named-requires-7
     returns)
