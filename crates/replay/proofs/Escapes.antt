@@ -12,10 +12,10 @@ use Rattle.utf8.specs.declared.CharNumber.{CharNumber}
 use Rattle.utf8.specs.declared.Admission.{Admission}
 use Rattle.utf8.specs.declared.Admission.the-variants as admission
 use Rattle.utf8.specs.Answers.{textLimit, admitted}
-use Rattle.string.specs.declared.Escaping.{Escaping}
-use Rattle.string.specs.declared.Escaping.the-variants.{Written}
-use Rattle.string.specs.Escape.{escaped, escapingAs, escapingOf, leftBy}
-use Rattle.string.proofs.Bounds.{escaping-bound}
+use Rattle.escape.specs.declared.Escaping.{Escaping}
+use Rattle.escape.specs.declared.Escaping.the-variants.{Written}
+use Rattle.escape.specs.Escape.{escaped, escapingAs, escapingOf, leftBy}
+use Rattle.escape.proofs.Bounds.{escaping-bound}
 use Rattle.replay.specs.Sizes.{mostRoom}
 use Rattle.replay.specs.Rooms.{Alike}
 use Rattle.replay.proofs.Pieces.{front}

@@ -22,7 +22,7 @@ use Rattle.string.specs.declared.Unquoting.the-variants as unquoting
 use Rattle.string.specs.Literal.{textBy, partOf, unquoted, extentOf, unquotingBy, unquotingAs, unquotingOf}
 use Rattle.string.specs.Laws.{isRead}
 use Rattle.string.proofs.Readings.{part-is-text}
-use Rattle.string.proofs.Bounds.{BoundedText, unquoting-bound}
+use Rattle.string.proofs.Bounds.{Bounded, unquoting-bound}
 use Rattle.replay.specs.Sizes.{mostRoom}
 use Rattle.replay.specs.Rooms.{Alike}
 
@@ -51,7 +51,7 @@ module _ (reading : Reading) (xs : List ℕ) where
       P : List ℕ → Type 0
       P part = length part ≤ mostRoom
 
-      go : (a : Unquoting) → BoundedText a → P (partOf a xs d)
+      go : (a : Unquoting) → Bounded a → P (partOf a xs d)
       go (unquoting.Inner n) h = either P (ltb n (length xs)) (λ t. omega (arith, length-take n (drop 1 xs))) (λ t. omega arith)
       go (unquoting.Written n) h = either P (leb n (length d)) (λ t. omega (arith, length-take n d)) (λ t. omega arith)
       go (unquoting.Refused q) h = omega arith

@@ -3,11 +3,11 @@ use Prim.Native.Nat.{ℕ}
 use mathlib.Core.List.{List}
 use Rattle.scan.specs.Ascii.{ascii}
 use Rattle.utf8.specs.declared.Reading.{Reading}
-use Rattle.string.specs.declared.Escaping.{Escaping}
-use Rattle.string.specs.declared.Escaping.the-variants.{Written, Refused}
+use Rattle.escape.specs.declared.Escaping.{Escaping}
+use Rattle.escape.specs.declared.Escaping.the-variants.{Written, Refused}
 use Rattle.string.specs.declared.Unquoting.{Unquoting}
 use Rattle.string.specs.declared.Unquoting.the-variants as unquoting
-use Rattle.string.specs.Escape.{escaped, escapingOf}
+use Rattle.escape.specs.Escape.{escaped, escapingOf}
 use Rattle.string.specs.Literal.{unquoted, unquotingOf}
 use Rattle.replay.specs.Lines.{hexLine, refusal}
 

@@ -1,6 +1,6 @@
-// The ops that ask what string says: `escape`, `unquote` and `unquotedoc`.
+// The ops on literals and texts: `escape`, `unquote` and `unquotedoc`.
 use crate::says;
-use string::Escaping;
+use escape::Escaping;
 use string::Unquoting;
 use utf8::Reading;
 ghost use Prim.Native.Nat.{_≤_};
@@ -14,7 +14,7 @@ pub fn escape(bytes: &[u8], text: &mut [u8], out: &mut [u8]) -> usize
     requires { ⌜ mostAnswer ≤ length (now out) ⌝ }
     ensures { λ r. ⌜ Says (escapeAnswer (length (now (text .entry))) (now (bytes .entry))) r (now (out .exit)) ⌝ }
 {
-    let e = string::escape_string(bytes, text);
+    let e = escape::escape_string(bytes, text);
     match e {
         Escaping::Written(n) => says::ok_hex(&text[..n], b"\n", out),
         Escaping::Refused(r) => says::refused(r, out),

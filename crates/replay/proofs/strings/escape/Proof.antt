@@ -3,8 +3,8 @@ use Rattle.replay.proofs.Escapes.{escaped-front}
 use Rattle.replay.proofs.Pieces.{hex-few}
 use Rattle.replay.specs.Sizes.{mostRoom}
 use Rattle.replay.specs.Strings.{escapingAnswer}
-use Rattle.string.proofs.Bounds.{escaping-bound}
-use Rattle.string.specs.Escape.{escaped, leftBy}
+use Rattle.escape.proofs.Bounds.{escaping-bound}
+use Rattle.escape.specs.Escape.{escaped, leftBy}
 use Rattle.scan.specs.Ascii.{ascii}
 use denote.Ref.{now}
 use lib.Seq.{length-take-le}
