@@ -7,13 +7,14 @@ use native.Mathlib.Omega.{arith}
 use native.Mathlib.Decide.{decLt}
 use mathlib.Core.Bool.{Bool, true, false, true≢false}
 use mathlib.Core.List.{List}
-use mathlib.Core.Path.{_≡_, refl, sym, _∙_}
+use mathlib.Core.Path.{_≡_, refl, sym, ap, _∙_}
 use lib.Dec.{leb}
 use lib.ListN.{length, List·getD-eq-default}
 use borrow.Author.Tests.{leb-true}
 use Rattle.scan.specs.Byte.{end, peekAt, isWithin, isHexDigit, digitOf}
 use Rattle.scan.proofs.Below.{below}
 use Rattle.scan.proofs.Choice.{told}
+use Rattle.scan.proofs.Classes.{digit-bound}
 use Rattle.tile.specs.declared.Numeral.{Numeral}
 use Rattle.tile.specs.declared.Numeral.the-variants.{Value, NotDigits}
 use Rattle.tile.specs.Tile.{isDigitIn, numeralFrom}
@@ -26,6 +27,10 @@ pub grown : (v i radix d : ℕ) → v < 16 ^ i → radix ≤ 16 → d < 16 → v
 grown v i radix d h r e =
     let p : 16 ^ (i + 1) ≡ 16 ^ i * 16 = rw add-one (pow-suc 16 i) in
     omega (arith, p, mul-le-mul-left v r)
+
+abbrev valueOf : Numeral → ℕ
+valueOf (Value v) = v
+valueOf NotDigits = 0
 
 abbrev variant : Numeral → ℕ
 variant (Value v) = 0
@@ -62,7 +67,7 @@ module _ (radix : ℕ) (xs : List ℕ) where
   past at h = rw (List·getD-eq-default xs end h)
 
   -- a digit was read at each place
-  here : (n v at w : ℕ) → numeralFrom radix v (suc n) at xs ≡ Value w → isDigitIn radix (peekAt xs at) ≡ true
+  pub here : (n v at w : ℕ) → numeralFrom radix v (suc n) at xs ≡ Value w → isDigitIn radix (peekAt xs at) ≡ true
   here n v at w e = go (isDigitIn radix (peekAt xs at)) refl
     where
       go : (t : Bool) → isDigitIn radix (peekAt xs at) ≡ t → isDigitIn radix (peekAt xs at) ≡ true
@@ -81,3 +86,14 @@ module _ (radix : ℕ) (xs : List ℕ) where
   digits-within (suc n) v at w e =
       let d = here (suc n) v at w e in
       omega (arith, digits-within n (v * radix + digitOf (peekAt xs at)) (at + 1) w (sym (turn (suc n) v at d) ∙ e))
+
+  -- and they amount to less than as many digits of 16 can
+  pub digits-small : radix ≤ 16 → (n i v at w : ℕ) → v < 16 ^ i → numeralFrom radix v n at xs ≡ Value w → w < 16 ^ (i + n)
+  digits-small r zero i v at w h e =
+      let k : v ≡ w = ap valueOf (sym (digits-out v at) ∙ e) in
+      let z : i + 0 ≡ i = omega arith in
+      rw (z, ← k) h
+  digits-small r (suc n) i v at w h e =
+      let d = here n v at w e in
+      let k : i + suc n ≡ i + 1 + n = omega arith in
+      rw k (digits-small r n (i + 1) (v * radix + digitOf (peekAt xs at)) (at + 1) w (grown v i radix (digitOf (peekAt xs at)) h r (digit-bound (peekAt xs at))) (sym (turn n v at d) ∙ e))

@@ -1,14 +1,19 @@
--- What the crates above may know of a tile, as statements; `proofs/Tiles` has their proofs.
+-- What the crates above may know of a tile, as statements; `proofs/Tiles` and `proofs/Bad` have their proofs.
 use Prim.Native.Nat.{ℕ, _<_, _≤_}
+use Prim.Native.Char.{code}
 use mathlib.Core.Bool.{true}
 use mathlib.Core.List.{List}
+use mathlib.Core.Logic.{_↔_, _⊎_}
 use mathlib.Core.Path.{_≡_}
 use lib.ListN.{length}
-use Rattle.utf8.specs.Code.{encoded}
+use Rattle.scan.specs.Byte.{peekAt}
+use Rattle.utf8.specs.Table.{charLength}
+use Rattle.utf8.specs.Code.{isScalar, encoded}
 use Rattle.tile.specs.declared.Form.{Form}
 use Rattle.tile.specs.declared.Tile.{Tile}
 use Rattle.tile.specs.declared.Tile.the-variants.{Piece, Bad}
-use Rattle.tile.specs.Tile.{isAllowed, tileOf}
+use Rattle.tile.specs.declared.Numeral.the-variants.{Value}
+use Rattle.tile.specs.Tile.{noValue, letterValue, numeralFrom, isAllowed, beginsEscape, tileOf}
 
 -- a tile of so many bytes has some of those that there are; it stands for a value that its form may have, whose bytes as a
 -- character are no more than its own
@@ -25,3 +30,38 @@ FairTile room Bad = Unit {0}
 -- every tile is such a one, where the sign is ASCII, as quote signs are
 abbrev pub EachFair : Type 0
 EachFair = (q : ℕ) (xs : List ℕ) → q < 0x80 → FairTile (length xs) (tileOf q xs)
+
+-- n digits of a radix stand from an offset on, and amount to v
+abbrev pub Digits : ℕ → ℕ → ℕ → List ℕ → ℕ → Type 0
+Digits radix at n xs v = numeralFrom radix 0 n at xs ≡ Value v
+
+-- 01's escapes: "`\a \b \f \n \r \t \v \\`, the literal's own quote sign,
+abbrev pub IsLetter : ℕ → List ℕ → Type 0
+IsLetter q xs = ¬ (letterValue q (peekAt xs 1) ≡ noValue)
+
+-- `\xhh`,
+abbrev pub IsHex : List ℕ → Type 0
+IsHex xs = (peekAt xs 1 ≡ code "x") × ((v : ℕ) × Digits 16 2 2 xs v)
+
+-- three octal digits up to 255,
+abbrev pub IsOctal : List ℕ → Type 0
+IsOctal xs = (v : ℕ) × Digits 8 1 3 xs v × (v ≤ 0xff)
+
+-- `\uhhhh`, `\Uhhhhhhhh`; the last two never surrogates nor above 10FFFF."
+abbrev pub IsPoint : List ℕ → Type 0
+IsPoint xs =
+    ((peekAt xs 1 ≡ code "u") × ((v : ℕ) × Digits 16 2 4 xs v × (isScalar v ≡ true)))
+    ⊎ ((peekAt xs 1 ≡ code "U") × ((v : ℕ) × Digits 16 2 8 xs v × (isScalar v ≡ true)))
+
+abbrev pub IsEscape : ℕ → List ℕ → Type 0
+IsEscape q xs = IsLetter q xs ⊎ (IsHex xs ⊎ (IsOctal xs ⊎ IsPoint xs))
+
+-- a backslash that is to begin one
+abbrev pub Begun : ℕ → List ℕ → Type 0
+Begun q xs = beginsEscape q (peekAt xs 0) ≡ true
+
+-- a tile is bad where the sign stands bare, where a backslash begins no escape, or where no character begins, and only there
+abbrev pub BadWhen : Type 0
+BadWhen =
+    (q : ℕ) (xs : List ℕ) →
+    tileOf q xs ≡ Bad ↔ (peekAt xs 0 ≡ q) ⊎ ((Begun q xs × (¬ (IsEscape q xs))) ⊎ ((¬ (Begun q xs)) × (charLength xs ≡ 0)))

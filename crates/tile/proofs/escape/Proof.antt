@@ -1,48 +1,17 @@
 -- The byte behind the backslash decides, as in the definition; where there is none, what stands there is no digit either.
-use Prim.Native.Nat.{ℕ, _<_, _≤_}
+use Prim.Native.Nat.{ℕ}
 use native.Mathlib.Omega.{arith}
 use mathlib.Core.List.{List}
 use mathlib.Core.Path.{_≡_, sym, ap, _∙_}
-use lib.ListN.{length, getD, List·getD-eq-default}
+use lib.ListN.{getD}
 use denote.Ref.{now}
-use borrow.Author.Tests.{ne-eqb}
-use Rattle.scan.specs.Byte.{end, peekAt, isWithin, isHexDigit}
+use Rattle.scan.specs.Byte.{end, peekAt}
 use Rattle.scan.proofs.Classes.{getD-any}
-use Rattle.tile.specs.declared.Form.the-variants.{Letter, Hex, Octal, Point}
-use Rattle.tile.specs.declared.Tile.the-variants.{Piece, Bad}
-use Rattle.tile.specs.Tile.{noValue, letterValue, isDigitIn, numeralFrom, numbered, escapeOf}
+use Rattle.tile.specs.Tile.{noValue, letterValue, numbered}
 use borrow.Author.Needs.{needs}
+use Rattle.tile.proofs.Forms.{none, letter, hex, short, long, octal}
 use Rattle.tile.proofs.escape.Statement.{statement}
 use Rattle.tile.proofs.escape.Tie as tie
-
-module _ (q : ℕ) (xs : List ℕ) where
-  none : q < end → length xs ≤ 1 → Bad ≡ escapeOf q xs
-  unfolding escapeOf letterValue numbered numeralFrom isDigitIn isHexDigit isWithin
-  none h l = rw (List·getD-eq-default xs end l, ne-eqb end q (λ e. omega arith))
-
-  abbrev second : ℕ
-  second = peekAt xs 1
-
-  letter : (letterValue q second ≡ noValue → ⊥) → Piece Letter (letterValue q second) 2 ≡ escapeOf q xs
-  unfolding escapeOf
-  letter n = rw (ne-eqb (letterValue q second) noValue n)
-
-  module _ (v : letterValue q second ≡ noValue) where
-    hex : second ≡ 120 → numbered Hex 16 2 2 xs ≡ escapeOf q xs
-    unfolding escapeOf
-    hex e = rw (v, e)
-
-    short : second ≡ 117 → numbered Point 16 2 4 xs ≡ escapeOf q xs
-    unfolding escapeOf
-    short e = rw (v, e)
-
-    long : second ≡ 85 → numbered Point 16 2 8 xs ≡ escapeOf q xs
-    unfolding escapeOf
-    long e = rw (v, e)
-
-    octal : (second ≡ 120 → ⊥) → (second ≡ 117 → ⊥) → (second ≡ 85 → ⊥) → numbered Octal 8 1 3 xs ≡ escapeOf q xs
-    unfolding escapeOf
-    octal x u l = rw (v, ne-eqb second 120 x, ne-eqb second 117 u, ne-eqb second 85 l)
 
 returns : tie.Need-returns
 returns c = none (c .before .before .args .quote) (now (c .before .before .args .s)) (omega arith) (c .if1 .taken)
