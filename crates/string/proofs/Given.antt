@@ -25,7 +25,7 @@ use Rattle.string.specs.declared.Unquoting.{Unquoting}
 use Rattle.string.specs.declared.Unquoting.the-variants.{Inner, Written, Refused}
 use Rattle.string.specs.Tiles.{tilesOf, isBad, hasBad}
 use Rattle.string.specs.Literal.{doubleQuote, singleQuote, lineFeed, isQuote, signOf, innerOf, isEnclosed, has, isBroken, isBadLiteral, hasEscape, unquoted, extentOf, badLiteral, unquotingOf}
-use Rattle.string.specs.Refusals.{TooShort, Unlike, Unquoted, Stands, Newline, BadAmong, BadLiteral, Escaped, NoRoom, UnquotingGiven}
+use Rattle.string.specs.Refusals.{TooShort, Unlike, NoQuoteSign, Stands, Newline, BadAmong, BadLiteral, WithEscape, NoRoom, UnquotingGiven}
 
 tests-has : (c : ℕ) (ys : List ℕ) → Tests (has c ys) (Stands c ys)
 unfolding has
@@ -53,10 +53,10 @@ module _ (xs : List ℕ) where
   tests-short : Tests (not (leb 2 (length xs))) (TooShort xs)
   tests-short = ((λ e. leb-false 2 (length xs) (not-true (leb 2 (length xs)) e)), λ h. rw (lt-leb 2 (length xs) h))
 
-  tests-open : Tests (not (isEnclosed xs)) (TooShort xs ⊎ (Unlike xs ⊎ Unquoted xs))
+  tests-open : Tests (not (isEnclosed xs)) (TooShort xs ⊎ (Unlike xs ⊎ NoQuoteSign xs))
   unfolding isEnclosed
   tests-open =
-      subst (λ (b : Bool). Tests b (TooShort xs ⊎ (Unlike xs ⊎ Unquoted xs))) (sym (morgan (leb 2 (length xs)) (eqb (peekAt xs (length xs - 1)) q) (isQuote q)))
+      subst (λ (b : Bool). Tests b (TooShort xs ⊎ (Unlike xs ⊎ NoQuoteSign xs))) (sym (morgan (leb 2 (length xs)) (eqb (peekAt xs (length xs - 1)) q) (isQuote q)))
       (tests-or tests-short (tests-or (tests-not (tests-eq (peekAt xs (length xs - 1)) q)) (tests-not tests-quote)))
     where
       morgan : (a b c : Bool) → not (a && (b && c)) ≡ not a || (not b || not c)
@@ -68,7 +68,7 @@ module _ (xs : List ℕ) where
   unfolding isBroken
   tests-broken = tests-and (tests-not (tests-eq q backquote)) (tests-has lineFeed (innerOf xs))
 
-  tests-escape : Tests (hasEscape q (innerOf xs)) (Escaped xs)
+  tests-escape : Tests (hasEscape q (innerOf xs)) (WithEscape xs)
   unfolding hasEscape
   tests-escape = tests-and (tests-not (tests-eq q backquote)) (tests-has backslash (innerOf xs))
 
@@ -107,9 +107,9 @@ module _ (r : Reading) (room : ℕ) (xs : List ℕ) where
   Holds long = TooLong textLimit xs
   Holds broken = (TooLong textLimit xs → ⊥) × NotUtf8 xs
   Holds bad = Taken textLimit xs × BadLiteral xs
-  Holds short = Taken textLimit xs × (BadLiteral xs → ⊥) × Escaped xs × NoRoom r room xs
-  Holds inner = Taken textLimit xs × (BadLiteral xs → ⊥) × (Escaped xs → ⊥)
-  Holds written = Taken textLimit xs × (BadLiteral xs → ⊥) × Escaped xs × (NoRoom r room xs → ⊥)
+  Holds short = Taken textLimit xs × (BadLiteral xs → ⊥) × WithEscape xs × NoRoom r room xs
+  Holds inner = Taken textLimit xs × (BadLiteral xs → ⊥) × (WithEscape xs → ⊥)
+  Holds written = Taken textLimit xs × (BadLiteral xs → ⊥) × WithEscape xs × (NoRoom r room xs → ⊥)
 
   abbrev given : Row → Unquoting
   given long = Refused tooLong
@@ -139,7 +139,7 @@ module _ (r : Reading) (room : ℕ) (xs : List ℕ) where
   gives written h =
       rw (given-exactly textLimit xs .2 .1 (h .0), affirmed (tests-literal xs) (h .1), tests-escape xs .1 (h .2), le-leb (length (unquoted r xs)) room (omega (arith, h .3)))
 
-  some : Dec (TooLong textLimit xs) → Dec (WellFormed xs) → Dec (BadLiteral xs) → Dec (Escaped xs) → Dec (NoRoom r room xs) → (w : Row) × Holds w
+  some : Dec (TooLong textLimit xs) → Dec (WellFormed xs) → Dec (BadLiteral xs) → Dec (WithEscape xs) → Dec (NoRoom r room xs) → (w : Row) × Holds w
   some (yes l) w b e d = (long, l)
   some (no l) (no w) b e d = (broken, (l, w))
   some (no l) (yes w) (yes b) e d = (bad, ((l, w), b))

@@ -26,8 +26,8 @@ abbrev pub Unlike : List ℕ → Type 0
 Unlike xs = ¬ (peekAt xs (length xs - 1) ≡ signOf xs)
 
 -- and a quote sign."
-abbrev pub Unquoted : List ℕ → Type 0
-Unquoted xs = ¬ ((signOf xs ≡ doubleQuote) ⊎ (signOf xs ≡ singleQuote) ⊎ (signOf xs ≡ backquote))
+abbrev pub NoQuoteSign : List ℕ → Type 0
+NoQuoteSign xs = ¬ ((signOf xs ≡ doubleQuote) ⊎ (signOf xs ≡ singleQuote) ⊎ (signOf xs ≡ backquote))
 
 -- a byte stands somewhere in a list
 abbrev pub Stands : ℕ → List ℕ → Type 0
@@ -45,11 +45,11 @@ BadAmong (t ∷ ts) = (t ≡ Bad) ⊎ BadAmong ts
 
 -- 40 "bad literal"
 abbrev pub BadLiteral : List ℕ → Type 0
-BadLiteral xs = TooShort xs ⊎ (Unlike xs ⊎ (Unquoted xs ⊎ (Newline xs ⊎ BadAmong (tilesOf (signOf xs) (innerOf xs)))))
+BadLiteral xs = TooShort xs ⊎ (Unlike xs ⊎ (NoQuoteSign xs ⊎ (Newline xs ⊎ BadAmong (tilesOf (signOf xs) (innerOf xs)))))
 
--- "A literal with no escape" has none of these
-abbrev pub Escaped : List ℕ → Type 0
-Escaped xs = (¬ (signOf xs ≡ backquote)) × Stands backslash (innerOf xs)
+-- what "a literal with no escape" is not
+abbrev pub WithEscape : List ℕ → Type 0
+WithEscape xs = (¬ (signOf xs ≡ backquote)) × Stands backslash (innerOf xs)
 
 -- 3 "result needs more room"
 abbrev pub NoRoom : Reading → ℕ → List ℕ → Type 0
@@ -62,6 +62,6 @@ UnquotingGiven =
     (u ≡ Refused tooLong ↔ TooLong textLimit xs)
     × (u ≡ Refused (notUtf8 (placeAt xs (prefixEnd xs))) ↔ (¬ (TooLong textLimit xs)) × NotUtf8 xs)
     × (u ≡ Refused badLiteral ↔ Taken textLimit xs × BadLiteral xs)
-    × (u ≡ Refused noRoom ↔ Taken textLimit xs × (¬ (BadLiteral xs)) × Escaped xs × NoRoom r room xs)
-    × (u ≡ Inner (length (innerOf xs)) ↔ Taken textLimit xs × (¬ (BadLiteral xs)) × (¬ (Escaped xs)))
-    × (u ≡ Written (length (unquoted r xs)) ↔ Taken textLimit xs × (¬ (BadLiteral xs)) × Escaped xs × (¬ (NoRoom r room xs)))
+    × (u ≡ Refused noRoom ↔ Taken textLimit xs × (¬ (BadLiteral xs)) × WithEscape xs × NoRoom r room xs)
+    × (u ≡ Inner (length (innerOf xs)) ↔ Taken textLimit xs × (¬ (BadLiteral xs)) × (¬ (WithEscape xs)))
+    × (u ≡ Written (length (unquoted r xs)) ↔ Taken textLimit xs × (¬ (BadLiteral xs)) × WithEscape xs × (¬ (NoRoom r room xs)))
