@@ -12,7 +12,7 @@ use lib.Dec.{eqb, leb}
 use lib.ListN.{length, getD, set, drop}
 use lib.Seq.{take-length, drop-cons, sets, sets-eq}
 use borrow.Author.Tests.{eq-eqb, ne-eqb, le-leb, lt-leb, lt-ltb}
-use Rattle.scan.specs.Byte.{peekAt}
+use Rattle.scan.specs.Byte.{peekAt, backslash}
 use Rattle.scan.proofs.Choice.{either, told}
 use Rattle.utf8.specs.Table.{charLength}
 use Rattle.utf8.specs.Code.{codeOf, encoded}
@@ -30,7 +30,7 @@ use Rattle.utf8.proofs.Given.{admitted-text}
 use Rattle.utf8.proofs.Inverse.{decode-encode, long-code}
 use Rattle.escape.specs.declared.Escaping.{Escaping}
 use Rattle.escape.specs.declared.Escaping.the-variants.{Written, Refused}
-use Rattle.escape.specs.Escape.{backslash, noLetter, letterOf, orLetter, escaped, escapingAs, escapingOf, leftBy}
+use Rattle.escape.specs.Escape.{noLetter, letterOf, orLetter, escaped, escapingAs, escapingOf, leftBy}
 use Rattle.escape.specs.Laws.{EscapeJoin, EscapedText}
 use Rattle.escape.specs.Bytes.{escapedByte, escapedBytes}
 

@@ -5,6 +5,7 @@ use mathlib.Core.Bool.{cond}
 use mathlib.Core.List.{List, [], _∷_, _++_}
 use lib.Dec.{leb, eqb}
 use lib.ListN.{length, drop}
+use Rattle.scan.specs.Byte.{backslash}
 use Rattle.utf8.specs.Code.{encoded}
 use Rattle.utf8.specs.Text.{codesOf}
 use Rattle.utf8.specs.declared.Admission.{Admission}
@@ -12,9 +13,6 @@ use Rattle.utf8.specs.declared.Admission.the-variants as admission
 use Rattle.utf8.specs.Answers.{textLimit, noRoom, admitted}
 use Rattle.escape.specs.declared.Escaping.{Escaping}
 use Rattle.escape.specs.declared.Escaping.the-variants.{Written, Refused}
-
-abbrev pub backslash : ℕ
-backslash = code "\\"
 
 -- a character that is copied has no letter
 abbrev pub noLetter : ℕ
@@ -41,7 +39,7 @@ escapedCodes (c ∷ cs) = orLetter (encoded c) (letterOf c) ++ escapedCodes cs
 abbrev pub escaped : List ℕ → List ℕ
 escaped xs = escapedCodes (codesOf xs)
 
--- refusals 1 and 2, then 3
+-- 3, or the length
 abbrev pub fitted : ℕ → List ℕ → Escaping
 fitted room ys = cond (leb (length ys) room) (Written (length ys)) (Refused noRoom)
 
@@ -49,6 +47,7 @@ abbrev pub escapingAs : ℕ → List ℕ → Admission → Escaping
 escapingAs room xs (admission.Admitted n) = fitted room (escaped xs)
 escapingAs room xs (admission.Refused r) = Refused r
 
+-- refusals 1 and 2, then 3
 unfoldable pub escapingOf : ℕ → List ℕ → Escaping
 escapingOf room xs = escapingAs room xs (admitted textLimit xs)
 

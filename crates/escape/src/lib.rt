@@ -40,7 +40,7 @@ fn escaped_size(c: u8) -> usize
     if letter_of(c) == NO_LETTER { 1 } else { 2 }
 }
 
-// And a text.
+// How many bytes a text has when it is escaped.
 fn escaped_length(text: &[u8]) -> usize
     ensures { λ r. ⌜ r ≡ length (escapedBytes (now (text .entry))) ⌝ }
 {

@@ -20,6 +20,7 @@ use Rattle.string.specs.declared.Unquoting.{Unquoting}
 use Rattle.string.specs.declared.Unquoting.the-variants as unquoting
 use Rattle.escape.specs.Escape.{escapingOf}
 use Rattle.string.specs.Literal.{unquotingOf}
+use Rattle.string.specs.Laws.{isRead}
 use Rattle.escape.proofs.Bounds as escaping-bounds
 use Rattle.escape.proofs.Bounds.{escaping-bound}
 use Rattle.string.proofs.Bounds as unquoting-bounds
@@ -28,7 +29,7 @@ use Rattle.utf8.specs.Answers.{placeAt, textLimit, tooLong, notUtf8, admitted, 
 use Rattle.exports.specs.Packed.{refusedFrom, packedOf}
 use Rattle.exports.specs.String.{escapeCode, innerFrom, unquoteCode}
 use Rattle.exports.specs.Utf8.{validateCode, characterCode, charAtCode, encodeCode}
-use Rattle.exports.specs.Laws.{NothingLost, looksRefused, isRefused, ValidateTold, isIllFormed, CharAtTold, isUnwritten, EncodeTold, isNotEscaped, EscapeTold, isUnread, isInner, UnquoteTold}
+use Rattle.exports.specs.Laws.{NothingLost, looksRefused, isRefused, ValidateTold, isIllFormed, CharAtTold, isUnwritten, EncodeTold, isNotEscaped, EscapeTold, isInner, UnquoteTold}
 use Rattle.utf8.proofs.Bounds.{Bounded, admitted-bound, Within, character-within, AtMostFour, encoding-bound}
 
 pub nothing-lost : NothingLost
@@ -80,7 +81,7 @@ escape-told room xs = go (escapingOf room xs) (escaping-bound room xs)
 pub unquote-told : UnquoteTold
 unquote-told r room xs = go (unquotingOf r room xs) (unquoting-bound r room xs)
   where
-    go : (u : Unquoting) → unquoting-bounds.Bounded u → (looksRefused (unquoteCode u) ≡ isUnread u) × (not (looksRefused (unquoteCode u)) && leb innerFrom (unquoteCode u) ≡ isInner u)
+    go : (u : Unquoting) → unquoting-bounds.Bounded u → (looksRefused (unquoteCode u) ≡ not (isRead u)) × (not (looksRefused (unquoteCode u)) && leb innerFrom (unquoteCode u) ≡ isInner u)
     go (unquoting.Inner n) h = rw (lt-leb refusedFrom (unquoteCode (unquoting.Inner n)) (omega arith), le-leb innerFrom (unquoteCode (unquoting.Inner n)) (omega arith)) (refl, refl)
     go (unquoting.Written n) h = rw (small n (omega arith), lt-leb innerFrom n (omega arith)) (refl, refl)
     go (unquoting.Refused s) h = rw (packed s) (refl, refl)

@@ -18,6 +18,7 @@ use Rattle.string.specs.declared.Unquoting.{Unquoting}
 use Rattle.string.specs.declared.Unquoting.the-variants as unquoting
 use Rattle.escape.specs.Escape.{escapingOf}
 use Rattle.string.specs.Literal.{unquotingOf}
+use Rattle.string.specs.Laws.{isRead}
 use Rattle.utf8.specs.declared.Reading.{Reading}
 use Rattle.utf8.specs.Answers.{textLimit, admitted, characterAt, encodingOf}
 use Rattle.exports.specs.Packed.{refusedFrom, packedOf, Packable}
@@ -68,11 +69,6 @@ abbrev pub EscapeTold : Type 0
 EscapeTold = (room : ℕ) (xs : List ℕ) → let e = escapingOf room xs in looksRefused (escapeCode e) ≡ isNotEscaped e
 
 -- and of `unquote_string`, where it takes another answer for a text in the literal itself from bit 32 on
-abbrev pub isUnread : Unquoting → Bool
-isUnread (unquoting.Inner n) = false
-isUnread (unquoting.Written n) = false
-isUnread (unquoting.Refused r) = true
-
 abbrev pub isInner : Unquoting → Bool
 isInner (unquoting.Inner n) = true
 isInner (unquoting.Written n) = false
@@ -83,4 +79,4 @@ UnquoteTold =
     (r : Reading) (room : ℕ) (xs : List ℕ) →
     let u = unquotingOf r room xs in
     let code = unquoteCode u in
-    (looksRefused code ≡ isUnread u) × (not (looksRefused code) && leb innerFrom code ≡ isInner u)
+    (looksRefused code ≡ not (isRead u)) × (not (looksRefused code) && leb innerFrom code ≡ isInner u)

@@ -1,4 +1,4 @@
--- What the C functions over `string` answer, by cases over their answers.
+-- What the C functions over `escape` and `string` answer, by cases over their answers.
 use Prim.Native.Nat.{ℕ, _+_, _^_}
 use mathlib.Core.Bool.{cond}
 use lib.Dec.{eqb}

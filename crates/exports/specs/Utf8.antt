@@ -4,19 +4,15 @@ use mathlib.Core.Bool.{cond}
 use mathlib.Core.List.{List}
 use lib.Dec.{ltb}
 use lib.ListN.{length}
-use Rattle.utf8.specs.declared.Refusal.{Refusal}
 use Rattle.utf8.specs.declared.Admission.{Admission}
 use Rattle.utf8.specs.declared.Admission.the-variants.{Admitted, Refused}
 use Rattle.utf8.specs.declared.Character.{Character}
 use Rattle.utf8.specs.declared.Character.the-variants.{Scalar, Nothing, IllFormed}
 use Rattle.utf8.specs.declared.Encoding.{Encoding}
 use Rattle.utf8.specs.declared.Encoding.the-variants.{Written, NotScalar, NoRoom}
-use Rattle.utf8.specs.Answers.{placeAt, textLimit, atStart, tooLong, noRoom, notUtf8, characterAt}
+use Rattle.utf8.specs.Answers.{placeAt, textLimit, tooLong, noRoom, notUtf8, characterAt}
+use Rattle.string.specs.Literal.{badLiteral}
 use Rattle.exports.specs.Packed.{packedOf}
-
--- 40 "bad literal", for a code point that is no character's
-abbrev pub badLiteral : Refusal
-badLiteral = atStart 40
 
 -- the number of characters, or the refusal
 abbrev pub validateCode : Admission → ℕ

@@ -210,8 +210,8 @@ fn reading_of(documented: u32) -> Reading
     }
 }
 
-// How many bytes the text of a literal has, which it wrote at the front of a lent buffer, or with bit 32, which stand behind the
-// literal's first byte; or refusal 1, 2, 40 or 3.
+// How many bytes the text of a literal has: it was written at the front of a lent buffer, or, with bit 32, it stands behind the
+// literal's first byte. Or refusal 1, 2, 40 or 3.
 #[no_mangle]
 pub extern "C" fn simmerpath_unquote_string(literal: &[u8], documented: u32, text: &mut [u8]) -> u64
     ensures { λ r. ⌜ r ≡ unquoteCode (unquotingOf (readingOf documented) (length (now (text .entry))) (now (literal .entry))) ⌝ }

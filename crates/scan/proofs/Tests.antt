@@ -1,10 +1,12 @@
 -- Tests of a condition: what a test says of it, and how the tests of several conditions make one.
 use Prim.Native.Nat.{ℕ}
 use mathlib.Core.Bool.{Bool, true, false, _&&_, _||_, not, true≢false}
+use mathlib.Core.List.{List, [], _∷_}
 use mathlib.Core.Logic.{_⊎_, inl, inr}
 use mathlib.Core.Path.{_≡_, refl, sym, _∙_}
 use lib.Dec.{eqb}
 use borrow.Author.Tests.{eq-eqb, eqb-true}
+use Rattle.scan.specs.Text.{has, Stands}
 
 -- a test, and the condition that it is one of
 abbrev pub Tests : Bool → Type 0 → Type 0
@@ -41,3 +43,8 @@ tests-not {a = false} s = ((λ e c. true≢false (sym (s .1 c))), λ n. refl)
 
 pub tests-eq : (a b : ℕ) → Tests (eqb a b) (a ≡ b)
 tests-eq a b = (eqb-true a b, eq-eqb a b)
+
+pub tests-has : (c : ℕ) (ys : List ℕ) → Tests (has c ys) (Stands c ys)
+unfolding has
+tests-has c [] = ((λ e. absurd (true≢false (sym e))), λ s. absurd s)
+tests-has c (y ∷ ys) = tests-or (tests-eq y c) (tests-has c ys)

@@ -15,6 +15,10 @@ end = 256
 abbrev pub peekAt : List ℕ → ℕ → ℕ
 peekAt s i = getD s i end
 
+-- what begins an escape
+abbrev pub backslash : ℕ
+backslash = code "\\"
+
 unfoldable pub isWithin : ℕ → ℕ → ℕ → Bool
 isWithin lo hi c = leb lo c && leb c hi
 

@@ -10,7 +10,8 @@ use lib.Dec.{eqb}
 use lib.ListN.{length, length-append}
 use lib.Seq.{take-append-seam, getD-append-seam}
 use borrow.Author.Tests.{ne-eqb, eqb-true, eqb-false, le-leb, not-true}
-use Rattle.scan.specs.Byte.{end, peekAt}
+use Rattle.scan.specs.Text.{has}
+use Rattle.scan.specs.Byte.{end, peekAt, backslash}
 use Rattle.scan.proofs.Below.{below}
 use Rattle.scan.proofs.Choice.{and-left, and-right}
 use Rattle.utf8.specs.declared.Reading.{Reading}
@@ -21,11 +22,11 @@ use Rattle.utf8.proofs.Laws.{none-empty, rest-well, none-ascii, text-join}
 use Rattle.utf8.proofs.Ascii.{ascii-bytes, ascii-text, one-ascii}
 use Rattle.tile.specs.declared.Form.the-variants.{Letter}
 use Rattle.tile.specs.declared.Tile.the-variants.{Piece}
-use Rattle.tile.specs.Tile.{backslash, letterValue, beginsEscape, escapeOf, tileOf}
+use Rattle.tile.specs.Tile.{letterValue, beginsEscape, escapeOf, tileOf}
 use Rattle.escape.specs.Escape.{noLetter, letterOf, escaped}
 use Rattle.escape.specs.Bytes.{escapedBytes}
 use Rattle.string.specs.Tiles.{tilesOf, hasBad, pieceBytes, bytesOf}
-use Rattle.string.specs.Literal.{doubleQuote, lineFeed, isQuote, innerOf, isEnclosed, has, isBroken}
+use Rattle.string.specs.Literal.{doubleQuote, lineFeed, isQuote, innerOf, isEnclosed, hasNewline}
 use Rattle.string.specs.Laws.{quoted, ReadBack, ReadBackJoin, ReadBackPart}
 use Rattle.escape.proofs.Escapes.{copied, lettered, high-copied, none, bytes-join, by-characters-escaped, escape-join, escaped-text}
 use Rattle.string.proofs.Readings.{part-is-text, reads}
@@ -157,7 +158,7 @@ module _ (ys : List ℕ) where
   enclosed = rw (le-leb 2 (length (quoted ys)) (omega (arith, length-append ys (doubleQuote ∷ []))), last-is)
 
 pub read-back : ReadBack
-unfolding isBroken
+unfolding hasNewline
 read-back r xs w =
     let b = back r xs w in
     let e = by-characters-escaped xs w in
@@ -177,4 +178,5 @@ read-back-part r xs d w l h =
     let b = read-back r xs w in
     let literal = quoted (escaped xs) in
     let t : WellFormed literal = quoted-text (escaped xs) (escaped-text xs w) in
-    part-is-text r literal d (reads r literal (length d) ((λ n. omega arith), t) (b .0) (omega (arith, ap length (b .1)))) ∙ b .1
+    let e = reads r literal (length d) ((λ n. omega arith), t) (b .0) (omega (arith, ap length (b .1))) in
+    (e, part-is-text r literal d e ∙ b .1)

@@ -14,6 +14,7 @@ use lib.Seq.{take-append-seam}
 use Rattle.utf8.specs.declared.Reading.{Reading}
 use Rattle.utf8.specs.Text.{WellFormed}
 use Rattle.utf8.specs.Answers.{textLimit}
+use Rattle.utf8.specs.Refusals.{Taken}
 use Rattle.utf8.proofs.Laws.{text-join}
 use Rattle.escape.specs.declared.Escaping.{Escaping}
 use Rattle.escape.specs.declared.Escaping.the-variants.{Written}
@@ -24,6 +25,7 @@ use Rattle.string.specs.Laws.{quoted, isRead}
 use Rattle.escape.proofs.Escapes.{escape-join, escaped-text, written-told}
 use Rattle.string.proofs.Readings.{part-is-text, reads}
 use Rattle.string.proofs.Back.{quoted-text, read-back, read-back-join}
+use Rattle.escape.proofs.Given.{escaping-given}
 use Rattle.escape.proofs.escape_string.Kinds as escape
 use Rattle.escape.proofs.escape_string.Reads as escape-reads
 use Rattle.string.proofs.unquote_string.Kinds as unquote
@@ -31,17 +33,27 @@ use Rattle.string.proofs.unquote_string.Reads as unquote-reads
 use Rattle.string.proofs.part.Kinds as part
 use Rattle.string.proofs.part.Reads as part-reads
 
--- a call of `escape_string` that was accepted, and keeps its promise: of the text x, ys stand at the front of its buffer then
-pub record Escaped (x ys : List ℕ) : Type 0 where
+-- a call of `escape_string` that keeps its promise, on a text, with a buffer of so many bytes
+pub record EscapeCall (x : List ℕ) (room : ℕ) : Type 0 where
   pub κs : Lfts 2
   pub args : Dens κs escape.ps
   pub result : resT escape.r κs .Denot
   pub exit : AtExit (endedOf 2 escape.ps escape.r) κs
   pub post : escape-reads.Post κs args result exit
+  pub of-text : now (args .0) ≡ x
+  pub in-room : length (now (args .1 .0)) ≡ room
+
+-- it is accepted where the text is within the limit and the escape has room
+pub escape-accepted : (x : List ℕ) (room : ℕ) → Taken textLimit x → length (escaped x) ≤ room → (c : EscapeCall x room) → c .result ≡ Written (length (escaped x))
+escape-accepted x room t h c = c .post .0 ∙ ap₂ escapingOf (c .in-room) (c .of-text) ∙ escaping-given room x .3 .1 (t, λ n. omega arith)
+
+-- one that was accepted: ys stand at the front of its buffer then
+pub record Escaped (x ys : List ℕ) : Type 0 where
+  pub room : ℕ
+  pub call : EscapeCall x room
   pub size : ℕ
-  pub accepted : result ≡ Written size
-  pub text : now (args .0) ≡ x
-  pub front : take size (now (exit .1 .0)) ≡ ys
+  pub accepted : call .result ≡ Written size
+  pub front : take size (now (call .exit .1 .0)) ≡ ys
 
 -- calls of `unquote_string` and of `part`, with what the first left and answered: of a literal, in a buffer of so many bytes, ys
 pub record Read (r : Reading) (literal : List ℕ) (room : ℕ) (ys : List ℕ) : Type 0 where
@@ -66,10 +78,10 @@ pub record Read (r : Reading) (literal : List ℕ) (room : ℕ) (ys : List ℕ) 
 -- what was written is the escape
 wrote : {x ys : List ℕ} → Escaped x ys → WellFormed x × (ys ≡ escaped x)
 wrote {x = x} {ys = ys} c =
-    let out = now (c .args .1 .0) in
-    let a : escapingOf (length out) x ≡ Written (c .size) = rw (c .text) at (sym (c .post .0) ∙ c .accepted) in
+    let out = now (c .call .args .1 .0) in
+    let a : escapingOf (length out) x ≡ Written (c .size) = rw (c .call .of-text) at (sym (c .call .post .0) ∙ c .accepted) in
     let w = written-told (length out) x (c .size) a in
-    let l : now (c .exit .1 .0) ≡ escaped x ++ drop (c .size) out = c .post .1 ∙ ap₂ (λ (e : Escaping) (zs : List ℕ). leftBy e (escaped zs) out) (c .accepted) (c .text) in
+    let l : now (c .call .exit .1 .0) ≡ escaped x ++ drop (c .size) out = c .call .post .1 ∙ ap₂ (λ (e : Escaping) (zs : List ℕ). leftBy e (escaped zs) out) (c .accepted) (c .call .of-text) in
     let f : take (c .size) (escaped x ++ drop (c .size) out) ≡ escaped x = rw (w .1) (take-append-seam (escaped x) (drop (length (escaped x)) out)) in
     (w .0, sym (c .front) ∙ ap (take (c .size)) l ∙ f)
 

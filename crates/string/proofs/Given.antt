@@ -10,9 +10,9 @@ use mathlib.Core.Path.{_≡_, refl, sym, ap, subst}
 use lib.Dec.{eqb, leb}
 use lib.ListN.{length}
 use borrow.Author.Tests.{le-leb, lt-leb, leb-false, not-true}
-use Rattle.scan.specs.Byte.{peekAt}
+use Rattle.scan.specs.Byte.{peekAt, backslash}
 use Rattle.scan.proofs.Choice.{exactly}
-use Rattle.scan.proofs.Tests.{Tests, affirmed, decided, tests-or, tests-and, tests-not, tests-eq}
+use Rattle.scan.proofs.Tests.{Tests, affirmed, decided, tests-or, tests-and, tests-not, tests-eq, tests-has}
 use Rattle.utf8.specs.declared.Reading.{Reading}
 use Rattle.utf8.specs.Text.{prefixEnd, WellFormed}
 use Rattle.utf8.specs.Answers.{textLimit, placeAt, tooLong, notUtf8, noRoom}
@@ -20,17 +20,12 @@ use Rattle.utf8.specs.Refusals.{TooLong, NotUtf8, Taken}
 use Rattle.utf8.proofs.Given.{given-exactly}
 use Rattle.tile.specs.declared.Tile.{Tile}
 use Rattle.tile.specs.declared.Tile.the-variants.{Piece, Bad}
-use Rattle.tile.specs.Tile.{backslash, backquote}
+use Rattle.tile.specs.Tile.{backquote}
 use Rattle.string.specs.declared.Unquoting.{Unquoting}
 use Rattle.string.specs.declared.Unquoting.the-variants.{Inner, Written, Refused}
 use Rattle.string.specs.Tiles.{tilesOf, isBad, hasBad}
-use Rattle.string.specs.Literal.{doubleQuote, singleQuote, lineFeed, isQuote, signOf, innerOf, isEnclosed, has, isBroken, isBadLiteral, hasEscape, unquoted, extentOf, badLiteral, unquotingOf}
-use Rattle.string.specs.Refusals.{TooShort, Unlike, NoQuoteSign, Stands, Newline, BadAmong, BadLiteral, WithEscape, NoRoom, UnquotingGiven}
-
-tests-has : (c : ℕ) (ys : List ℕ) → Tests (has c ys) (Stands c ys)
-unfolding has
-tests-has c [] = ((λ e. absurd (true≢false (sym e))), λ s. absurd s)
-tests-has c (y ∷ ys) = tests-or (tests-eq y c) (tests-has c ys)
+use Rattle.string.specs.Literal.{doubleQuote, singleQuote, lineFeed, isQuote, signOf, innerOf, isEnclosed, hasNewline, isBadLiteral, hasEscape, unquoted, extentOf, badLiteral, unquotingOf}
+use Rattle.string.specs.Refusals.{TooShort, SignsDiffer, NoQuoteSign, Newline, BadAmong, BadLiteral, WithEscape, NoRoom, UnquotingGiven}
 
 tests-bad : (ts : List Tile) → Tests (hasBad ts) (BadAmong ts)
 unfolding hasBad
@@ -53,10 +48,10 @@ module _ (xs : List ℕ) where
   tests-short : Tests (not (leb 2 (length xs))) (TooShort xs)
   tests-short = ((λ e. leb-false 2 (length xs) (not-true (leb 2 (length xs)) e)), λ h. rw (lt-leb 2 (length xs) h))
 
-  tests-open : Tests (not (isEnclosed xs)) (TooShort xs ⊎ (Unlike xs ⊎ NoQuoteSign xs))
+  tests-open : Tests (not (isEnclosed xs)) (TooShort xs ⊎ (SignsDiffer xs ⊎ NoQuoteSign xs))
   unfolding isEnclosed
   tests-open =
-      subst (λ (b : Bool). Tests b (TooShort xs ⊎ (Unlike xs ⊎ NoQuoteSign xs))) (sym (morgan (leb 2 (length xs)) (eqb (peekAt xs (length xs - 1)) q) (isQuote q)))
+      subst (λ (b : Bool). Tests b (TooShort xs ⊎ (SignsDiffer xs ⊎ NoQuoteSign xs))) (sym (morgan (leb 2 (length xs)) (eqb (peekAt xs (length xs - 1)) q) (isQuote q)))
       (tests-or tests-short (tests-or (tests-not (tests-eq (peekAt xs (length xs - 1)) q)) (tests-not tests-quote)))
     where
       morgan : (a b c : Bool) → not (a && (b && c)) ≡ not a || (not b || not c)
@@ -64,9 +59,9 @@ module _ (xs : List ℕ) where
       morgan true false c = refl
       morgan false b c = refl
 
-  tests-broken : Tests (isBroken q (innerOf xs)) (Newline xs)
-  unfolding isBroken
-  tests-broken = tests-and (tests-not (tests-eq q backquote)) (tests-has lineFeed (innerOf xs))
+  tests-newline : Tests (hasNewline q (innerOf xs)) (Newline xs)
+  unfolding hasNewline
+  tests-newline = tests-and (tests-not (tests-eq q backquote)) (tests-has lineFeed (innerOf xs))
 
   tests-escape : Tests (hasEscape q (innerOf xs)) (WithEscape xs)
   unfolding hasEscape
@@ -74,7 +69,7 @@ module _ (xs : List ℕ) where
 
   tests-literal : Tests (isBadLiteral xs) (BadLiteral xs)
   tests-literal =
-      let t = tests-or tests-open (tests-or tests-broken (tests-bad (tilesOf q (innerOf xs)))) in
+      let t = tests-or tests-open (tests-or tests-newline (tests-bad (tilesOf q (innerOf xs)))) in
       ((λ e. flat (t .0 e)), λ b. t .1 (nested b))
     where
       flat : {A B C D E : Type 0} → (A ⊎ (B ⊎ C)) ⊎ (D ⊎ E) → A ⊎ (B ⊎ (C ⊎ (D ⊎ E)))

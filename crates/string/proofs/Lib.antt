@@ -3,6 +3,7 @@ pub mod Plain
 pub mod Literals
 pub mod Readings
 pub mod Back
+pub mod There
 pub mod Given
 pub mod Bounds
 pub mod Calls

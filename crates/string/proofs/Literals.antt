@@ -8,6 +8,7 @@ use mathlib.Core.Path.{_≡_, refl, sym, ap}
 use lib.Dec.{eqb, leb}
 use lib.ListN.{length, take, drop, getD}
 use borrow.Author.Tests.{eqb-true, leb-true, le-leb, lt-leb, not-false}
+use Rattle.scan.specs.Text.{has}
 use Rattle.scan.specs.Byte.{end, peekAt}
 use Rattle.scan.proofs.Choice.{and-left, and-right, told}
 use Rattle.scan.proofs.Classes.{getD-any, below-not}
@@ -24,7 +25,7 @@ use Rattle.string.specs.declared.Extent.{Extent}
 use Rattle.string.specs.declared.Extent.the-variants as extent
 use Rattle.string.specs.declared.Unquoting.the-variants.{Written, Refused}
 use Rattle.string.specs.Tiles.{tilesOf, hasBad}
-use Rattle.string.specs.Literal.{doubleQuote, singleQuote, isQuote, signOf, innerOf, isEnclosed, has, isBroken, isBadLiteral, hasEscape, unquoted, extentOf, unquotingBy, unquotingOf}
+use Rattle.string.specs.Literal.{doubleQuote, singleQuote, isQuote, signOf, innerOf, isEnclosed, hasNewline, isBadLiteral, hasEscape, unquoted, extentOf, unquotingBy, unquotingOf}
 use Rattle.string.specs.Measure.{measured}
 use Rattle.string.proofs.Plain.{neither, unescaped}
 
@@ -87,11 +88,11 @@ module _ (r : Reading) (xs : List ℕ) where
   not-enclosed e = rw e
 
   module _ (e : isEnclosed xs ≡ true) where
-    pub broken : isBroken (signOf xs) (innerOf xs) ≡ true → extent.Bad ≡ extentOf r xs
+    pub newline : hasNewline (signOf xs) (innerOf xs) ≡ true → extent.Bad ≡ extentOf r xs
     unfolding extentOf
-    broken b = rw (e, b)
+    newline b = rw (e, b)
 
-    module _ (b : isBroken (signOf xs) (innerOf xs) ≡ false) where
+    module _ (b : hasNewline (signOf xs) (innerOf xs) ≡ false) where
       pub measured-is : hasEscape (signOf xs) (innerOf xs) ≡ true → measured r (tilesOf (signOf xs) (innerOf xs)) ≡ extentOf r xs
       unfolding extentOf measured
       measured-is s = rw (e, b, s)
@@ -111,13 +112,13 @@ module _ (r : Reading) (xs : List ℕ) where
 -- a literal that is not bad
 pub record Sound (xs : List ℕ) : Type 0 where
   pub enclosed : isEnclosed xs ≡ true
-  pub whole : isBroken (signOf xs) (innerOf xs) ≡ false
+  pub whole : hasNewline (signOf xs) (innerOf xs) ≡ false
   pub good : hasBad (tilesOf (signOf xs) (innerOf xs)) ≡ false
 
 pub sound : (xs : List ℕ) → isBadLiteral xs ≡ false → Sound xs
 sound xs e =
-    let a = neither (not (isEnclosed xs)) (isBroken (signOf xs) (innerOf xs) || hasBad (tilesOf (signOf xs) (innerOf xs))) e in
-    let b = neither (isBroken (signOf xs) (innerOf xs)) (hasBad (tilesOf (signOf xs) (innerOf xs))) (a .1) in
+    let a = neither (not (isEnclosed xs)) (hasNewline (signOf xs) (innerOf xs) || hasBad (tilesOf (signOf xs) (innerOf xs))) e in
+    let b = neither (hasNewline (signOf xs) (innerOf xs)) (hasBad (tilesOf (signOf xs) (innerOf xs))) (a .1) in
     record { enclosed = not-false (isEnclosed xs) (a .0); whole = b .0; good = b .1 }
 
 abbrev tag : Extent → ℕ

@@ -60,10 +60,10 @@ ReadBackJoin =
     (r : Reading) (xs ys : List ℕ) → WellFormed xs → WellFormed ys →
     let literal = quoted (escaped xs ++ escaped ys) in (isBadLiteral literal ≡ false) × (unquoted r literal ≡ xs ++ ys)
 
--- where the limit and the room are kept, that is the part which the answer names
+-- where the limit and the room are kept, it is read, and that is the part which the answer names
 abbrev pub ReadBackPart : Type 0
 ReadBackPart =
     (r : Reading) (xs d : List ℕ) → WellFormed xs →
     let literal = quoted (escaped xs) in
     let u = unquotingOf r (length d) literal in
-    length literal ≤ textLimit → length xs ≤ length d → partOf u literal (textBy u (unquoted r literal) d) ≡ xs
+    length literal ≤ textLimit → length xs ≤ length d → (isRead u ≡ true) × (partOf u literal (textBy u (unquoted r literal) d) ≡ xs)

@@ -1,17 +1,18 @@
 -- Reading a string literal: document 01, "String literals (003)". The tests stand in the order in which a literal is found bad.
 use Prim.Native.Nat.{ℕ, _-_}
 use Prim.Native.Char.{code}
-use mathlib.Core.Bool.{Bool, false, cond, _&&_, _||_, not}
-use mathlib.Core.List.{List, [], _∷_, _++_}
+use mathlib.Core.Bool.{Bool, cond, _&&_, _||_, not}
+use mathlib.Core.List.{List, [], _++_}
 use lib.Dec.{eqb, leb, ltb}
 use lib.ListN.{length, take, drop}
-use Rattle.scan.specs.Byte.{peekAt}
+use Rattle.scan.specs.Byte.{peekAt, backslash}
+use Rattle.scan.specs.Text.{has}
 use Rattle.utf8.specs.declared.Admission.{Admission}
 use Rattle.utf8.specs.declared.Admission.the-variants as admission
 use Rattle.utf8.specs.declared.Reading.{Reading}
 use Rattle.utf8.specs.declared.Refusal.{Refusal}
 use Rattle.utf8.specs.Answers.{textLimit, atStart, noRoom, admitted}
-use Rattle.tile.specs.Tile.{backslash, backquote}
+use Rattle.tile.specs.Tile.{backquote}
 use Rattle.string.specs.declared.Extent.{Extent}
 use Rattle.string.specs.declared.Extent.the-variants as extent
 use Rattle.string.specs.declared.Unquoting.{Unquoting}
@@ -41,18 +42,14 @@ innerOf xs = take (length xs - 2) (drop 1 xs)
 unfoldable pub isEnclosed : List ℕ → Bool
 isEnclosed xs = leb 2 (length xs) && (eqb (peekAt xs (length xs - 1)) (signOf xs) && isQuote (signOf xs))
 
-unfoldable pub has : ℕ → List ℕ → Bool
-has c [] = false
-has c (x ∷ xs) = eqb x c || has c xs
-
 -- "Backquotes: content taken as it is .. Else: no LF in it"
-unfoldable pub isBroken : ℕ → List ℕ → Bool
-isBroken q ys = not (eqb q backquote) && has lineFeed ys
+unfoldable pub hasNewline : ℕ → List ℕ → Bool
+hasNewline q ys = not (eqb q backquote) && has lineFeed ys
 
 abbrev pub isBadLiteral : List ℕ → Bool
 isBadLiteral xs =
     not (isEnclosed xs)
-    || (isBroken (signOf xs) (innerOf xs)
+    || (hasNewline (signOf xs) (innerOf xs)
     || hasBad (tilesOf (signOf xs) (innerOf xs)))
 
 -- "A literal with no escape": a backquoted one, or one without a backslash

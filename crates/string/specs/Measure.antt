@@ -1,4 +1,4 @@
--- What the measuring pass says of tiles: the bytes that they give, or that one of them is bad.
+-- What the measuring pass says of tiles: the bytes that they give, or that one of them is bad. No promise outside rests on it.
 use mathlib.Core.Bool.{cond}
 use mathlib.Core.List.{List}
 use lib.ListN.{length}

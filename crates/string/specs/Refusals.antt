@@ -1,20 +1,22 @@
 -- Document 01's rows 1, 2, 40 and 3 as conditions on a literal, and the statement that each answer is given exactly when its row holds;
--- `proofs/Given` has its proof. "Order: 1, 2, the reading left to right (first refusal wins), 3."
-use Prim.Native.Nat.{ℕ, _-_, _<_}
+-- `proofs/Given` and `proofs/There` have the proofs. "Order: 1, 2, the reading left to right (first refusal wins), 3."
+use Prim.Native.Nat.{ℕ, _+_, _-_, _<_}
 use mathlib.Core.List.{List, [], _∷_}
 use mathlib.Core.Logic.{_↔_, _⊎_}
 use mathlib.Core.Path.{_≡_}
-use lib.ListN.{length}
-use Rattle.scan.specs.Byte.{peekAt}
+use lib.ListN.{length, take, drop}
+use Rattle.scan.specs.Byte.{peekAt, backslash}
+use Rattle.scan.specs.Text.{Stands}
 use Rattle.utf8.specs.declared.Reading.{Reading}
-use Rattle.utf8.specs.Text.{prefixEnd}
+use Rattle.utf8.specs.Text.{prefixEnd, WellFormed}
 use Rattle.utf8.specs.Answers.{textLimit, placeAt, tooLong, notUtf8, noRoom}
 use Rattle.utf8.specs.Refusals.{TooLong, NotUtf8, Taken}
 use Rattle.tile.specs.declared.Tile.{Tile}
 use Rattle.tile.specs.declared.Tile.the-variants.{Bad}
-use Rattle.tile.specs.Tile.{backslash, backquote}
+use Rattle.tile.specs.Tile.{backquote}
 use Rattle.string.specs.declared.Unquoting.the-variants.{Inner, Written, Refused}
-use Rattle.string.specs.Tiles.{tilesOf}
+use Rattle.tile.specs.Laws.{IsEscape, Begun}
+use Rattle.string.specs.Tiles.{sizeOf, tilesOf}
 use Rattle.string.specs.Literal.{doubleQuote, singleQuote, lineFeed, signOf, innerOf, unquoted, badLiteral, unquotingOf}
 
 -- "At least two bytes,
@@ -22,30 +24,41 @@ abbrev pub TooShort : List ℕ → Type 0
 TooShort xs = length xs < 2
 
 -- first byte equal to last
-abbrev pub Unlike : List ℕ → Type 0
-Unlike xs = ¬ (peekAt xs (length xs - 1) ≡ signOf xs)
+abbrev pub SignsDiffer : List ℕ → Type 0
+SignsDiffer xs = ¬ (peekAt xs (length xs - 1) ≡ signOf xs)
 
 -- and a quote sign."
 abbrev pub NoQuoteSign : List ℕ → Type 0
 NoQuoteSign xs = ¬ ((signOf xs ≡ doubleQuote) ⊎ (signOf xs ≡ singleQuote) ⊎ (signOf xs ≡ backquote))
 
--- a byte stands somewhere in a list
-abbrev pub Stands : ℕ → List ℕ → Type 0
-Stands c [] = ⊥
-Stands c (x ∷ xs) = (x ≡ c) ⊎ Stands c xs
-
 -- "Else: no LF in it,
 abbrev pub Newline : List ℕ → Type 0
 Newline xs = (¬ (signOf xs ≡ backquote)) × Stands lineFeed (innerOf xs)
 
--- no bare closing sign", and no escape but those of the list: what these are is said of a tile (`tile`, specs/Laws, `BadWhen`)
+-- no bare closing sign", and no other escape than those of the list: no tile is bad
 abbrev pub BadAmong : List Tile → Type 0
 BadAmong [] = ⊥
 BadAmong (t ∷ ts) = (t ≡ Bad) ⊎ BadAmong ts
 
+-- which in text means that where a tile starts, the sign stands, or a backslash that begins none of 01's escapes (`tile`, specs/Laws)
+abbrev pub sizesOf : List Tile → ℕ
+sizesOf [] = 0
+sizesOf (t ∷ ts) = sizeOf t + sizesOf ts
+
+abbrev pub Starts : ℕ → List ℕ → ℕ → Type 0
+Starts q ys at = (k : ℕ) × (at ≡ sizesOf (take k (tilesOf q ys)))
+
+abbrev pub BadAt : ℕ → List ℕ → Type 0
+BadAt q zs = (peekAt zs 0 ≡ q) ⊎ (Begun q zs × (¬ (IsEscape q zs)))
+
+abbrev pub BadThere : Type 0
+BadThere =
+    (q : ℕ) (ys : List ℕ) → q < 0x80 → 0 < q → WellFormed ys →
+    BadAmong (tilesOf q ys) ↔ ((at : ℕ) × (at < length ys) × Starts q ys at × BadAt q (drop at ys))
+
 -- 40 "bad literal"
 abbrev pub BadLiteral : List ℕ → Type 0
-BadLiteral xs = TooShort xs ⊎ (Unlike xs ⊎ (NoQuoteSign xs ⊎ (Newline xs ⊎ BadAmong (tilesOf (signOf xs) (innerOf xs)))))
+BadLiteral xs = TooShort xs ⊎ (SignsDiffer xs ⊎ (NoQuoteSign xs ⊎ (Newline xs ⊎ BadAmong (tilesOf (signOf xs) (innerOf xs)))))
 
 -- what "a literal with no escape" is not
 abbrev pub WithEscape : List ℕ → Type 0

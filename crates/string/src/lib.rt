@@ -13,10 +13,11 @@ ghost use mathlib.Core.Path.{_≡_};
 ghost use Prim.Native.Nat.{_+_, _<_, _≤_};
 ghost use lib.ListN.{length};
 ghost use lib.Seq.{sets};
+ghost use Rattle.scan.specs.Text.{has};
 ghost use Rattle.utf8.specs.Text.{WellFormed};
 ghost use Rattle.tile.specs.Tile.{isAllowed};
 ghost use Rattle.string.specs.Tiles.{tilesOf, hasBad, givesByte, pieceBytes, bytesOf};
-ghost use Rattle.string.specs.Literal.{isQuote, isEnclosed, has, isBroken, hasEscape, unquoted, extentOf, unquotingOf, textBy, partOf};
+ghost use Rattle.string.specs.Literal.{isQuote, isEnclosed, hasNewline, hasEscape, unquoted, extentOf, unquotingOf, textBy, partOf};
 ghost use Rattle.string.specs.declared.Unquoting.the-variants.{Inner, Written};
 ghost use Rattle.string.specs.Measure.{measured};
 
@@ -85,8 +86,8 @@ fn is_enclosed(literal: &[u8]) -> bool
 }
 
 // Whether there is a line feed where none may be.
-fn is_broken(sign: u8, inner: &[u8]) -> bool
-    ensures { λ r. ⌜ r ≡ isBroken sign (now (inner .entry)) ⌝ }
+fn has_newline(sign: u8, inner: &[u8]) -> bool
+    ensures { λ r. ⌜ r ≡ hasNewline sign (now (inner .entry)) ⌝ }
 {
     sign != BACKQUOTE && contains(inner, LINE_FEED)
 }
@@ -147,7 +148,7 @@ fn extent_of(literal: &[u8], reading: Reading) -> Extent
     let sign = literal[0];
     let end = literal.len() - 1;
     let inner = &literal[1..end];
-    if is_broken(sign, inner) {
+    if has_newline(sign, inner) {
         return Extent::Bad;
     }
     if has_escape(sign, inner) {
@@ -220,7 +221,7 @@ pub fn unquote_string(literal: &[u8], reading: Reading, text: &mut [u8]) -> Unqu
     }
 }
 
-// The part of a literal behind its first sign that has so many bytes; none where it has not.
+// So many bytes of a literal, behind its first; none where it has fewer.
 fn inner_part(literal: &[u8], n: usize) -> &[u8]
     ensures { λ r. ⌜ now r ≡ partOf (Inner n) (now (literal .entry)) [] ⌝ }
 {
@@ -231,7 +232,7 @@ fn inner_part(literal: &[u8], n: usize) -> &[u8]
     &literal[..0]
 }
 
-// The first so many bytes of a text buffer; none where it has not.
+// The first so many bytes of a text buffer; none where it has fewer.
 fn front(text: &[u8], n: usize) -> &[u8]
     ensures { λ r. ⌜ now r ≡ partOf (Written n) [] (now (text .entry)) ⌝ }
 {

@@ -37,7 +37,7 @@ variant (Value v) = 0
 variant NotDigits = 1
 
 module _ (radix : ℕ) (xs : List ℕ) where
-  turn : (n v at : ℕ) → isDigitIn radix (peekAt xs at) ≡ true → numeralFrom radix v (suc n) at xs ≡ numeralFrom radix (v * radix + digitOf (peekAt xs at)) n (at + 1) xs
+  pub turn : (n v at : ℕ) → isDigitIn radix (peekAt xs at) ≡ true → numeralFrom radix v (suc n) at xs ≡ numeralFrom radix (v * radix + digitOf (peekAt xs at)) n (at + 1) xs
   unfolding numeralFrom
   turn n v at e = rw (e, add-one)
 

@@ -2,23 +2,24 @@
 -- were read, and the letter before them, which makes four at least, where no code point has more.
 use Prim.Native.Nat.{ℕ, suc, _+_, _<_, _≤_}
 use native.Mathlib.Omega.{arith}
-use native.Mathlib.Decide.{decLt}
+use native.Mathlib.Decide.{decLt, ℕ-discrete}
 use mathlib.Core.Bool.{true, not}
 use mathlib.Core.List.{List}
+use mathlib.Core.Logic.{_⊎_, inl, inr}
 use mathlib.Core.Path.{_≡_, refl, ap, _∙_}
-use lib.Dec.{eqb, leb}
+use lib.Dec.{eqb}
 use lib.ListN.{length, List·getD-eq-default}
 use lib.Seq.{length-take-le}
-use borrow.Author.Tests.{le-leb, lt-ltb, eqb-false, ne-eqb, not-true}
+use borrow.Author.Tests.{eqb-false, ne-eqb, not-true}
 use Rattle.scan.specs.Byte.{end, peekAt}
 use Rattle.scan.proofs.Choice.{either}
 use Rattle.utf8.specs.Table.{charLength}
-use Rattle.utf8.specs.Code.{codeOf, isScalar}
-use Rattle.utf8.specs.declared.Character.{Character}
+use Rattle.utf8.specs.Code.{codeOf}
+use Rattle.utf8.specs.declared.Character.the-variants.{Nothing, IllFormed}
 use Rattle.utf8.specs.Answers.{characterAt}
 use Rattle.utf8.proofs.Chars.{char-bound}
 use Rattle.utf8.proofs.Ascii.{ascii-bytes}
-use Rattle.utf8.proofs.Bounds.{encoded-bound}
+use Rattle.utf8.proofs.Bounds.{first-character, byte-scalar, encoded-bound}
 use Rattle.utf8.proofs.Inverse.{decode-encode}
 use Rattle.tile.specs.declared.Form.{Form}
 use Rattle.tile.specs.declared.Form.the-variants.{Plain, Letter, Hex, Octal, Point}
@@ -40,15 +41,19 @@ module _ (xs : List ℕ) where
       record { some = omega arith; within = char-bound xs; allowed = unfold isAllowed in d .0; few = omega (arith, t) }
 
   plain-fair : FairTile (length xs) (plainOf (characterAt xs 0))
-  unfolding characterAt
-  plain-fair =
-      let P : Character → Type 0 = λ a. FairTile (length xs) (plainOf a) in
-      either P (leb (length xs) 0) (λ e. tt)
-      (λ e. either P (eqb n 0) (λ t. tt) (λ t. character-fair (eqb-false n 0 t)))
+  plain-fair = go (ℕ-discrete n 0)
+    where
+      none : (characterAt xs 0 ≡ Nothing) ⊎ (characterAt xs 0 ≡ IllFormed) → FairTile (length xs) (plainOf (characterAt xs 0))
+      none (inl e) = rw e tt
+      none (inr e) = rw e tt
+
+      go : Dec (n ≡ 0) → FairTile (length xs) (plainOf (characterAt xs 0))
+      go (yes e) = none (first-character xs .1 e)
+      go (no z) = rw (first-character xs .0 (omega arith)) (character-fair z)
 
 ascii-allowed : (v : ℕ) → v < 0x80 → isAllowed Letter v ≡ true
-unfolding isAllowed isScalar
-ascii-allowed v l = rw (le-leb v 0x10ffff (omega arith), lt-ltb v 0xd800 (omega arith))
+unfolding isAllowed
+ascii-allowed v l = byte-scalar v (omega arith)
 
 module _ (q : ℕ) (h : q < 0x80) where
   letter-ascii : (c : ℕ) → letterValue q c < 0x80

@@ -1,22 +1,24 @@
--- What the crates above may know of a tile, as statements; `proofs/Tiles` and `proofs/Bad` have their proofs.
+-- What the crates above may know of a tile, as statements; `proofs/Tiles`, `proofs/Behind` and `proofs/Bad` have their proofs.
 use Prim.Native.Nat.{ℕ, _<_, _≤_}
 use Prim.Native.Char.{code}
 use mathlib.Core.Bool.{true}
 use mathlib.Core.List.{List}
 use mathlib.Core.Logic.{_↔_, _⊎_}
 use mathlib.Core.Path.{_≡_}
-use lib.ListN.{length}
-use Rattle.scan.specs.Byte.{peekAt}
+use lib.ListN.{length, drop}
+use Rattle.scan.specs.Ascii.{ascii}
+use Rattle.scan.specs.Byte.{peekAt, backslash}
+use Rattle.scan.specs.Text.{Stands}
 use Rattle.utf8.specs.Table.{charLength}
 use Rattle.utf8.specs.Code.{isScalar, encoded}
+use Rattle.utf8.specs.Text.{WellFormed}
 use Rattle.tile.specs.declared.Form.{Form}
 use Rattle.tile.specs.declared.Tile.{Tile}
 use Rattle.tile.specs.declared.Tile.the-variants.{Piece, Bad}
 use Rattle.tile.specs.declared.Numeral.the-variants.{Value}
-use Rattle.tile.specs.Tile.{noValue, letterValue, numeralFrom, isAllowed, beginsEscape, tileOf}
+use Rattle.tile.specs.Tile.{backquote, numeralFrom, isAllowed, tileOf}
 
--- a tile of so many bytes has some of those that there are; it stands for a value that its form may have, whose bytes as a
--- character are no more than its own
+-- a tile takes one byte at least, and no more than there are; its form may have its value, and has as many bytes as that character, or more
 pub record Fair (room : ℕ) (form : Form) (value size : ℕ) : Type 0 where
   pub some : 0 < size
   pub within : size ≤ room
@@ -31,13 +33,21 @@ FairTile room Bad = Unit {0}
 abbrev pub EachFair : Type 0
 EachFair = (q : ℕ) (xs : List ℕ) → q < 0x80 → FairTile (length xs) (tileOf q xs)
 
+-- behind a tile of text there is text
+abbrev pub TextAfter : List ℕ → Tile → Type 0
+TextAfter xs (Piece f v n) = WellFormed (drop n xs)
+TextAfter xs Bad = Unit {0}
+
+abbrev pub TextBehind : Type 0
+TextBehind = (q : ℕ) (xs : List ℕ) → q < 0x80 → 0 < q → WellFormed xs → TextAfter xs (tileOf q xs)
+
 -- n digits of a radix stand from an offset on, and amount to v
 abbrev pub Digits : ℕ → ℕ → ℕ → List ℕ → ℕ → Type 0
 Digits radix at n xs v = numeralFrom radix 0 n at xs ≡ Value v
 
--- 01's escapes: "`\a \b \f \n \r \t \v \\`, the literal's own quote sign,
+-- 01's escapes, by what follows the backslash: "`\a \b \f \n \r \t \v \\`, the literal's own quote sign,
 abbrev pub IsLetter : ℕ → List ℕ → Type 0
-IsLetter q xs = ¬ (letterValue q (peekAt xs 1) ≡ noValue)
+IsLetter q xs = (peekAt xs 1 ≡ q) ⊎ Stands (peekAt xs 1) (ascii "abfnrtv\\")
 
 -- `\xhh`,
 abbrev pub IsHex : List ℕ → Type 0
@@ -58,10 +68,10 @@ IsEscape q xs = IsLetter q xs ⊎ (IsHex xs ⊎ (IsOctal xs ⊎ IsPoint xs))
 
 -- a backslash that is to begin one
 abbrev pub Begun : ℕ → List ℕ → Type 0
-Begun q xs = beginsEscape q (peekAt xs 0) ≡ true
+Begun q xs = (peekAt xs 0 ≡ backslash) × (¬ (q ≡ backquote))
 
 -- a tile is bad where the sign stands bare, where a backslash begins no escape, or where no character begins, and only there
 abbrev pub BadWhen : Type 0
 BadWhen =
-    (q : ℕ) (xs : List ℕ) →
+    (q : ℕ) (xs : List ℕ) → 0 < q →
     tileOf q xs ≡ Bad ↔ (peekAt xs 0 ≡ q) ⊎ ((Begun q xs × (¬ (IsEscape q xs))) ⊎ ((¬ (Begun q xs)) × (charLength xs ≡ 0)))

@@ -5,7 +5,7 @@ use Prim.Native.Char.{code}
 use mathlib.Core.Bool.{Bool, true, false, cond, _&&_, not}
 use mathlib.Core.List.{List}
 use lib.Dec.{eqb, leb, ltb}
-use Rattle.scan.specs.Byte.{peekAt, isHexDigit, digitOf}
+use Rattle.scan.specs.Byte.{peekAt, backslash, isHexDigit, digitOf}
 use Rattle.utf8.specs.declared.Character.{Character}
 use Rattle.utf8.specs.declared.Character.the-variants.{Scalar, Nothing, IllFormed}
 use Rattle.utf8.specs.Code.{isScalar}
@@ -16,9 +16,6 @@ use Rattle.tile.specs.declared.Numeral.{Numeral}
 use Rattle.tile.specs.declared.Numeral.the-variants.{Value, NotDigits}
 use Rattle.tile.specs.declared.Tile.{Tile}
 use Rattle.tile.specs.declared.Tile.the-variants.{Piece, Bad}
-
-abbrev pub backslash : ℕ
-backslash = code "\\"
 
 abbrev pub backquote : ℕ
 backquote = code "`"
@@ -93,7 +90,7 @@ unfoldable pub beginsEscape : ℕ → ℕ → Bool
 beginsEscape q c = eqb c backslash && not (eqb q backquote)
 
 -- the tile that bytes begin with, of a literal with the sign q: "no backquote in it. Else: .. no bare closing sign". Where no character
--- begins it is bad too, which no text of UTF-8 meets.
+-- begins it is bad too, which the content of no literal meets that is UTF-8.
 unfoldable pub tileOf : ℕ → List ℕ → Tile
 tileOf q xs =
     let c = peekAt xs 0 in

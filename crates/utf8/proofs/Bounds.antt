@@ -3,9 +3,11 @@
 use Prim.Native.Nat.{ℕ, suc, _+_, _-_, _<_, _≤_}
 use native.Mathlib.Omega.{arith}
 use mathlib.Core.List.{List, [], _∷_}
+use mathlib.Core.Logic.{_⊎_, inl, inr}
+use mathlib.Core.Path.{_≡_, refl}
 use lib.Dec.{leb, ltb, eqb}
 use lib.ListN.{length, drop, length-drop}
-use borrow.Author.Tests.{leb-false, ltb-false}
+use borrow.Author.Tests.{le-leb, lt-leb, leb-false, ltb-false, lt-ltb, eq-eqb, ne-eqb}
 use Rattle.utf8.specs.declared.Refusal.{Refusal}
 use Rattle.utf8.specs.declared.Admission.{Admission}
 use Rattle.utf8.specs.declared.Admission.the-variants.{Admitted, Refused}
@@ -14,9 +16,9 @@ use Rattle.utf8.specs.declared.Character.the-variants.{Scalar, Nothing, 
 use Rattle.utf8.specs.declared.Encoding.{Encoding}
 use Rattle.utf8.specs.declared.Encoding.the-variants.{Written, NotScalar, NoRoom}
 use Rattle.utf8.specs.Table.{charLength}
-use Rattle.utf8.specs.Code.{isScalar, encoded}
+use Rattle.utf8.specs.Code.{codeOf, isScalar, encoded}
 use Rattle.utf8.specs.Text.{Char, charsOf, sizeOf, prefixEnd, begunIn, charNumber}
-use Rattle.utf8.specs.Laws.{FewBytes}
+use Rattle.utf8.specs.Laws.{ByteScalar, EncodingFits, FirstCharacter, FewBytes}
 use Rattle.utf8.specs.Answers.{validityOf, admittedAs, admitted, characterAt, encodingOf}
 use Rattle.scan.proofs.Choice.{either}
 use Rattle.utf8.proofs.Chars.{char-bound}
@@ -74,6 +76,22 @@ character-within xs at =
     (λ t. leb-false (length xs) at e)
     (λ t. omega (arith, char-bound (drop at xs), length-drop at xs)))
 
+pub first-character : FirstCharacter
+unfolding characterAt
+first-character xs = (some, none)
+  where
+    some : 0 < charLength xs → characterAt xs 0 ≡ Scalar (codeOf (charLength xs) xs) (charLength xs)
+    some h = rw (lt-leb (length xs) 0 (omega (arith, char-bound xs)), ne-eqb (charLength xs) 0 (λ e. omega arith))
+
+    none : charLength xs ≡ 0 → (characterAt xs 0 ≡ Nothing) ⊎ (characterAt xs 0 ≡ IllFormed)
+    none e =
+        either (λ (a : Character). (a ≡ Nothing) ⊎ (a ≡ IllFormed)) (leb (length xs) 0) (λ t. inl refl)
+        (λ t. rw (eq-eqb (charLength xs) 0 e) (inr refl))
+
+pub byte-scalar : ByteScalar
+unfolding isScalar
+byte-scalar c h = rw (le-leb c 0x10ffff (omega arith), lt-ltb c 0xd800 (omega arith))
+
 -- a code point has at most four bytes
 abbrev pub AtMostFour : Encoding → Type 0
 AtMostFour (Written n) = n ≤ 4
@@ -87,6 +105,10 @@ encoded-bound c =
     either P (leb c 0x7f) (λ e. omega arith)
     (λ e. either P (leb c 0x7ff) (λ e. omega arith)
     (λ e. either P (leb c 0xffff) (λ e. omega arith) (λ e. omega arith)))
+
+pub encoding-fits : EncodingFits
+unfolding encodingOf
+encoding-fits c room at s h = rw (s, le-leb (at + length (encoded c)) room h)
 
 pub encoding-bound : (c room at : ℕ) → AtMostFour (encodingOf c room at)
 unfolding encodingOf

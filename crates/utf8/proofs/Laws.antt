@@ -7,7 +7,7 @@ use mathlib.Core.Bool.{Bool, true, false, cond, _&&_, _||_, true≢false}
 use mathlib.Core.List.{List, [], _∷_, _++_, append-assoc, append-nil}
 use mathlib.Core.Path.{_≡_, refl, sym, ap, _∙_}
 use lib.Dec.{eqb, leb}
-use lib.ListN.{length, drop, length-append}
+use lib.ListN.{length, drop, length-drop, length-append}
 use borrow.Author.Tests.{leb-true, ne-eqb}
 use Rattle.scan.specs.Byte.{peekAt, isWithin}
 use Rattle.scan.proofs.Classes.{within-yes, within-bounds}
@@ -38,6 +38,13 @@ size-join (c ∷ cs) ds = omega (arith, size-join cs ds)
 pub rest-well : (bs ys : List ℕ) → One bs → WellFormed (bs ++ ys) → WellFormed ys
 unfolding sizeOf
 rest-well bs ys o w = omega (arith, sym (ap sizeOf (chars-one bs ys o)) ∙ w, length-append bs ys)
+
+-- and what a character leaves of a text
+pub rest-text : (xs : List ℕ) → 0 < charLength xs → WellFormed xs → WellFormed (drop (charLength xs) xs)
+unfolding sizeOf
+rest-text xs h w =
+    let e = ap sizeOf (chars-some xs h) in
+    omega (arith, sym e ∙ w, char-bound xs, length-drop (charLength xs) xs)
 
 -- the bytes of one character are text
 pub one-text : (bs : List ℕ) → One bs → WellFormed bs

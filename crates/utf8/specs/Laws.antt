@@ -3,16 +3,17 @@
 use Prim.Native.Nat.{ℕ, suc, _+_, _≤_, _<_, min}
 use mathlib.Core.Bool.{Bool, true, false, cond, _&&_}
 use mathlib.Core.List.{List, [], _∷_, _++_}
-use mathlib.Core.Logic.{_↔_}
+use mathlib.Core.Logic.{_↔_, _⊎_}
 use mathlib.Core.Path.{_≡_}
 use lib.Dec.{ltb}
 use lib.ListN.{length, take, drop}
-use Rattle.utf8.specs.declared.Character.the-variants.{Scalar}
+use Rattle.utf8.specs.declared.Character.the-variants.{Scalar, Nothing, IllFormed}
+use Rattle.utf8.specs.declared.Encoding.the-variants.{Written}
 use Rattle.scan.specs.Byte.{peekAt}
 use Rattle.utf8.specs.Table.{isTail, charLength}
 use Rattle.utf8.specs.Code.{codeOf, isScalar, encoded}
 use Rattle.utf8.specs.Text.{charOf, charsOf, codesOf, prefixEnd, WellFormed, isWellFormed, startOf, charNumber}
-use Rattle.utf8.specs.Answers.{characterOf}
+use Rattle.utf8.specs.Answers.{characterOf, characterAt, encodingOf}
 
 -- the characters are the one that the bytes begin with, and those of the rest; none where they begin with none
 abbrev pub Steps : Type 0
@@ -62,6 +63,21 @@ AsciiBytes = (c : ℕ) → c < 0x80 → encoded c ≡ c ∷ []
 
 abbrev pub FewBytes : Type 0
 FewBytes = (c : ℕ) → length (encoded c) ≤ 4
+
+-- a byte's value is a character's code point
+abbrev pub ByteScalar : Type 0
+ByteScalar = (c : ℕ) → c ≤ 0xff → isScalar c ≡ true
+
+-- a character that has room is written
+abbrev pub EncodingFits : Type 0
+EncodingFits = (c room at : ℕ) → isScalar c ≡ true → at + length (encoded c) ≤ room → encodingOf c room at ≡ Written (length (encoded c))
+
+-- the character at the front is the one that the bytes begin with; where they begin with none there is none
+abbrev pub FirstCharacter : Type 0
+FirstCharacter =
+    (xs : List ℕ) →
+    let n = charLength xs in
+    (0 < n → characterAt xs 0 ≡ Scalar (codeOf n xs) n) × (n ≡ 0 → (characterAt xs 0 ≡ Nothing) ⊎ (characterAt xs 0 ≡ IllFormed))
 
 -- the bytes of code points, one after the other
 abbrev pub textOf : List ℕ → List ℕ

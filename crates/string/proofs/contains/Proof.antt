@@ -9,7 +9,7 @@ use lib.ListN.{length, getD, drop, drop-of-length-le}
 use lib.Seq.{drop-cons}
 use denote.Ref.{now}
 use borrow.Author.Tests.{eq-eqb, ne-eqb}
-use Rattle.string.specs.Literal.{has}
+use Rattle.scan.specs.Text.{has}
 use Rattle.string.proofs.contains.Statement.{statement}
 use Rattle.string.proofs.contains.Tie as tie
 

@@ -7,9 +7,10 @@ use mathlib.Core.Path.{_≡_, sym, ap, _∙_}
 use lib.ListN.{length}
 use denote.Ref.{now}
 use borrow.Author.Tests.{not-true, not-false}
+use Rattle.scan.specs.Text.{has}
 use Rattle.utf8.specs.declared.Reading.{Reading}
 use Rattle.string.specs.declared.Extent.the-variants as extent
-use Rattle.string.specs.Literal.{signOf, innerOf, isEnclosed, has, isBroken, hasEscape}
+use Rattle.string.specs.Literal.{signOf, innerOf, isEnclosed, hasNewline, hasEscape}
 use Rattle.string.proofs.Literals as literals
 use borrow.Author.Needs.{needs}
 use Rattle.string.proofs.extent_of.Statement.{statement}
@@ -49,18 +50,18 @@ part-inner-start c = omega (arith, two (c .before))
 part-inner-end : tie.Need-part-inner-end
 part-inner-end c = search needs
 
-is-broken-requires : tie.Need-is-broken-requires
-is-broken-requires c κs = search needs
+has-newline-requires : tie.Need-has-newline-requires
+has-newline-requires c κs = search needs
 
-broken-told : (c : tie.After-is-broken) → let d = c .before .before .before in c .is-broken .result ≡ isBroken (signOf (xs d)) (innerOf (xs d))
-broken-told c =
+newline-told : (c : tie.After-has-newline) → let d = c .before .before .before in c .has-newline .result ≡ hasNewline (signOf (xs d)) (innerOf (xs d))
+newline-told c =
     let d = c .before .before .before in
-    c .is-broken .ensures ∙ rw (literals.sign-is (xs d) (enclosed d), literals.cut-is (xs d) (enclosed d))
+    c .has-newline .ensures ∙ rw (literals.sign-is (xs d) (enclosed d), literals.cut-is (xs d) (enclosed d))
 
 returns-2 : tie.Need-returns-2
 returns-2 c =
     let d = c .before .before .before .before in
-    literals.broken (reads d) (xs d) (enclosed d) (sym (broken-told (c .before)) ∙ c .if2 .taken)
+    literals.newline (reads d) (xs d) (enclosed d) (sym (newline-told (c .before)) ∙ c .if2 .taken)
 
 has-escape-requires : tie.Need-has-escape-requires
 has-escape-requires c κs = search needs
@@ -70,8 +71,8 @@ escape-told c =
     let d = c .before .before .before .before .before in
     c .has-escape .ensures ∙ rw (literals.sign-is (xs d) (enclosed d), literals.cut-is (xs d) (enclosed d))
 
-unbroken : (c : tie.After-has-escape) → let d = c .before .before .before .before .before in isBroken (signOf (xs d)) (innerOf (xs d)) ≡ false
-unbroken c = sym (broken-told (c .before .before)) ∙ c .before .if2 .left
+no-newline : (c : tie.After-has-escape) → let d = c .before .before .before .before .before in hasNewline (signOf (xs d)) (innerOf (xs d)) ≡ false
+no-newline c = sym (newline-told (c .before .before)) ∙ c .before .if2 .left
 
 measure-requires : tie.Need-measure-requires
 measure-requires c κs =
@@ -83,7 +84,7 @@ returns-3 c =
     let d = c .before .before .before .before .before .before .before in
     c .measure .ensures
     ∙ rw (literals.sign-is (xs d) (enclosed d), literals.cut-is (xs d) (enclosed d))
-    (literals.measured-is (reads d) (xs d) (enclosed d) (unbroken (c .before .before)) (sym (escape-told (c .before .before)) ∙ c .before .if3 .taken))
+    (literals.measured-is (reads d) (xs d) (enclosed d) (no-newline (c .before .before)) (sym (escape-told (c .before .before)) ∙ c .before .if3 .taken))
 
 contains-requires : tie.Need-contains-requires
 contains-requires c κs = search needs
@@ -102,13 +103,13 @@ module _ (c : tie.After-contains) where
 returns-4 : tie.Need-returns-4
 returns-4 c =
     let e = d (c .before) in
-    literals.sign-inside (reads e) (xs e) (enclosed e) (unbroken (c .before .before .before)) (no-escape (c .before)) (e .before .before .before .pre) (sym (sign-told (c .before)) ∙ c .if4 .taken)
+    literals.sign-inside (reads e) (xs e) (enclosed e) (no-newline (c .before .before .before)) (no-escape (c .before)) (e .before .before .before .pre) (sym (sign-told (c .before)) ∙ c .if4 .taken)
 
 returns-5 : tie.Need-returns-5
 returns-5 c =
     let e = d (c .before) in
     ap (λ (ys : List ℕ). extent.Inner (length ys)) (literals.cut-is (xs e) (enclosed e))
-    ∙ literals.as-it-stands (reads e) (xs e) (enclosed e) (unbroken (c .before .before .before)) (no-escape (c .before)) (e .before .before .before .pre) (sym (sign-told (c .before)) ∙ c .if4 .left)
+    ∙ literals.as-it-stands (reads e) (xs e) (enclosed e) (no-newline (c .before .before .before)) (no-escape (c .before)) (e .before .before .before .pre) (sym (sign-told (c .before)) ∙ c .if4 .left)
 
 pub extent-of-spec : {M : Type 1} → statement M
 extent-of-spec =
@@ -121,7 +122,7 @@ extent-of-spec =
     sub-inner
     part-inner-start
     part-inner-end
-    is-broken-requires
+    has-newline-requires
     returns-2
     has-escape-requires
     measure-requires

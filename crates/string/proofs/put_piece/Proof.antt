@@ -10,14 +10,15 @@ use lib.Seq.{sets-eq}
 use types.Run.{OneOf}
 use denote.Enum.Declared.{tagOf}
 use denote.Ref.{now}
-use borrow.Author.Tests.{le-leb, lt-ltb, leb-true}
+use borrow.Author.Tests.{leb-true}
 use Rattle.scan.proofs.Choice.{told}
 use Rattle.utf8.specs.declared.Encoding.{Encoding}
 use Rattle.utf8.specs.declared.Encoding.the-variants.{Written, NotScalar, NoRoom}
 use Rattle.utf8.specs.declared.Reading.{Reading}
 use Rattle.utf8.specs.declared.Reading.the-variants.{Crate, Documented}
 use Rattle.utf8.specs.Code.{isScalar, encoded}
-use Rattle.utf8.specs.Answers.{encodingOf, leftBy}
+use Rattle.utf8.specs.Answers.{leftBy}
+use Rattle.utf8.proofs.Bounds.{byte-scalar, encoding-fits}
 use Rattle.utf8.proofs.Encoding as encoding
 use Rattle.tile.specs.declared.Form.{Form}
 use Rattle.tile.specs.Tile.{isByte, isAllowed}
@@ -37,7 +38,7 @@ module _ (f : Form) (v : ℕ) (a : isAllowed f v ≡ true) where
   scalar = go (isByte f) refl
     where
       go : (t : Bool) → isByte f ≡ t → isScalar v ≡ true
-      go true e = let l : v ≤ 0xff = leb-true v 0xff (rw e at a) in unfold isScalar in rw (le-leb v 0x10ffff (omega arith), lt-ltb v 0xd800 (omega arith))
+      go true e = byte-scalar v (leb-true v 0xff (rw e at a))
       go false e = rw e at a
 
 module _ (r : Reading) (f : Form) (v : ℕ) where
@@ -58,10 +59,6 @@ abbrev sizeOf : Encoding → ℕ
 sizeOf (Written n) = n
 sizeOf NotScalar = 0
 sizeOf NoRoom = 0
-
-encodes : (v room at : ℕ) → isScalar v ≡ true → at + length (encoded v) ≤ room → encodingOf v room at ≡ Written (length (encoded v))
-unfolding encodingOf
-encodes v room at s h = rw (s, le-leb (at + length (encoded v)) room h)
 
 gives-byte-requires : tie.Need-gives-byte-requires
 gives-byte-requires c κs = search needs
@@ -110,7 +107,7 @@ module _ (c : tie.After-encode) where
   fits = omega (arith, a .pre .1, ap length its)
 
   written : c .encode .result ≡ Written (length (encoded (a .args .value)))
-  written = c .encode .ensures .0 ∙ encodes (a .args .value) (length (now (a .args .out))) (a .args .at) (scalar (a .args .form) (a .args .value) (a .pre .0)) fits
+  written = c .encode .ensures .0 ∙ encoding-fits (a .args .value) (length (now (a .args .out))) (a .args .at) (scalar (a .args .form) (a .args .value) (a .pre .0)) fits
 
 no-other : (e : Encoding) (n : ℕ) → e ≡ Written n → OneOf (1 ∷ 2 ∷ []) (tagOf encoding.the-type e) → ⊥
 no-other (Written m) n e (inl t) = omega arith

@@ -4,15 +4,16 @@ use Prim.Native.Nat.{ℕ, _+_, _<_, _≤_}
 use mathlib.Core.Bool.{true, false, _||_}
 use mathlib.Core.Path.{_≡_, refl, sym, _∙_}
 use borrow.Author.Needs.{needs}
-use borrow.Author.Tests.{le-leb, lt-leb, leb-true, not-true, not-false}
+use borrow.Author.Tests.{lt-leb, leb-true, not-true, not-false}
 use denote.Ref.{now}
 use lib.Dec.{leb, ltb}
 use lib.ListN.{length}
 use lib.Seq.{sets-eq}
-use Rattle.utf8.specs.declared.Encoding.the-variants.{Written, NotScalar, NoRoom}
+use Rattle.utf8.specs.declared.Encoding.the-variants.{NotScalar, NoRoom}
 use Rattle.utf8.specs.Code.{isScalar, encoded}
 use Rattle.utf8.specs.Answers.{encodingOf}
 use Rattle.scan.proofs.Choice.{and-left}
+use Rattle.utf8.proofs.Bounds.{encoding-fits}
 use Rattle.utf8.proofs.encode.Statement.{statement}
 use Rattle.utf8.proofs.encode.Tie as tie
 
@@ -27,10 +28,6 @@ module _ (code room at : ℕ) where
   no-room : isScalar code ≡ true → room < at + length (encoded code) → encodingOf code room at ≡ NoRoom
   unfolding encodingOf
   no-room s h = rw (s, lt-leb (at + length (encoded code)) room h)
-
-  written : isScalar code ≡ true → at + length (encoded code) ≤ room → encodingOf code room at ≡ Written (length (encoded code))
-  unfolding encodingOf
-  written s h = rw (s, le-leb (at + length (encoded code)) room h)
 
   in-range : isScalar code ≡ true → code ≤ 0x10ffff
   unfolding isScalar
@@ -76,7 +73,7 @@ returns-4 c =
     let d = c .before .before .before .before in
     let a = d .before .before .before .before .before .before .args in
     let e = d .before .encoded-size .ensures in (
-      rw e (sym (written (a .code) (length (now (a .out))) (a .at .0) (scalar (d .before .before .before)) (fits d))),
+      rw e (sym (encoding-fits (a .code) (length (now (a .out))) (a .at .0) (scalar (d .before .before .before)) (fits d))),
       c .before .before .write-code .ensures ∙ rw e (sets-eq (encoded (a .code)) (now (a .out)) (a .at .0) (fits d)),
     )
 
