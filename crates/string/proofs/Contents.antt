@@ -2,13 +2,17 @@
 -- there and gives no more than it takes (`each-fair`), so both passes end, and what they count fits.
 use Prim.Native.Nat.{ℕ, zero, suc, pred, _+_, _-_, _<_, _≤_}
 use native.Mathlib.Omega.{arith}
-use mathlib.Core.Bool.{true, false}
+use mathlib.Core.Bool.{Bool, true, false, cond, _||_, true≢false}
 use mathlib.Core.List.{List, [], _∷_, _++_}
-use mathlib.Core.Path.{_≡_, refl, ap, subst, _∙_}
+use mathlib.Core.Path.{_≡_, refl, sym, ap, subst, _∙_}
 use lib.ListN.{length, drop, length-drop, length-append, drop-of-length-le}
 use lib.Seq.{drop-drop}
+use lib.Dec.{leb}
+use borrow.Author.Tests.{leb-true}
 use Rattle.scan.proofs.Choice.{either}
 use Rattle.utf8.specs.declared.Reading.{Reading}
+use Rattle.utf8.specs.Code.{encoded}
+use Rattle.utf8.proofs.Ascii.{ascii-bytes}
 use Rattle.tile.specs.declared.Form.{Form}
 use Rattle.tile.specs.declared.Tile.{Tile}
 use Rattle.tile.specs.declared.Tile.the-variants.{Piece, Bad}
@@ -17,7 +21,7 @@ use Rattle.tile.specs.Laws.{Fair, FairTile}
 use Rattle.tile.proofs.Tiles.{each-fair}
 use Rattle.string.specs.declared.Extent.the-variants as extent
 use Rattle.string.specs.Tiles.{sizeOf, tilesPast, tilesOf, hasBad, givesByte, pieceBytes, tileBytes, bytesOf}
-use Rattle.string.specs.Measure.{measured}
+use Rattle.string.specs.Measure.{isSingle, measured}
 
 piece-few : (r : Reading) {room : ℕ} {f : Form} {v n : ℕ} → Fair room f v n → length (pieceBytes r f v) ≤ n
 unfolding pieceBytes
@@ -135,3 +139,24 @@ module _ (r : Reading) (ts : List Tile) where
   pub measured-text : (n : ℕ) → hasBad ts ≡ false → n ≡ length (bytesOf r ts) → extent.Text n ≡ measured r ts
   unfolding measured
   measured-text n e h = rw (e, h)
+
+-- and what one tile gives
+module _ (r : Reading) (f : Form) (v : ℕ) where
+  pub single : isSingle r f v ≡ true → pieceBytes r f v ≡ v ∷ []
+  unfolding isSingle pieceBytes
+  single = go (leb v 0x7f) refl (givesByte r f)
+    where
+      go : (s : Bool) → leb v 0x7f ≡ s → (t : Bool) → s || t ≡ true → cond t (v ∷ []) (encoded v) ≡ v ∷ []
+      go true a true e = refl
+      go true a false e = let h : v ≤ 0x7f = leb-true v 0x7f a in ascii-bytes v (omega arith)
+      go false a true e = refl
+      go false a false e = absurd (true≢false (sym e))
+
+  pub several : isSingle r f v ≡ false → pieceBytes r f v ≡ encoded v
+  unfolding isSingle pieceBytes
+  several = go (leb v 0x7f) (givesByte r f)
+    where
+      go : (s t : Bool) → s || t ≡ false → cond t (v ∷ []) (encoded v) ≡ encoded v
+      go true t e = absurd (true≢false e)
+      go false true e = absurd (true≢false e)
+      go false false e = refl

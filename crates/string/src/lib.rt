@@ -19,7 +19,7 @@ ghost use Rattle.tile.specs.Tile.{isAllowed};
 ghost use Rattle.string.specs.Tiles.{tilesOf, hasBad, givesByte, pieceBytes, bytesOf};
 ghost use Rattle.string.specs.Literal.{isQuote, isEnclosed, hasNewline, hasEscape, unquoted, extentOf, unquotingOf, textBy, partOf};
 ghost use Rattle.string.specs.declared.Unquoting.the-variants.{Inner, Written};
-ghost use Rattle.string.specs.Measure.{measured};
+ghost use Rattle.string.specs.Measure.{isSingle, measured};
 
 // Document 01's "bad literal".
 pub const BAD_LITERAL: usize = 40;
@@ -48,6 +48,8 @@ const SINGLE_QUOTE: u8 = b'\'';
 const BACKQUOTE: u8 = b'`';
 
 const LINE_FEED: u8 = b'\n';
+
+const LAST_ASCII: u32 = 0x7f;
 
 // The bytes of the two signs.
 const SIGNS: usize = 2;
@@ -109,11 +111,18 @@ fn gives_byte(reading: Reading, form: Form) -> bool
     }
 }
 
+// Whether what a tile gives is its value as one byte.
+fn is_single(reading: Reading, form: Form, value: u32) -> bool
+    ensures { λ r. ⌜ r ≡ isSingle reading form value ⌝ }
+{
+    value <= LAST_ASCII || gives_byte(reading, form)
+}
+
 // How many bytes a tile gives.
 fn piece_size(reading: Reading, form: Form, value: u32) -> usize
     ensures { λ r. ⌜ r ≡ length (pieceBytes reading form value) ⌝ }
 {
-    if gives_byte(reading, form) {
+    if is_single(reading, form, value) {
         return 1;
     }
     utf8::encoded_size(value)
@@ -167,7 +176,7 @@ fn put_piece(reading: Reading, form: Form, value: u32, out: &mut [u8], at: usize
     ensures { λ r. ⌜ r ≡ at + length (pieceBytes reading form value) ⌝ }
     ensures { λ _. ⌜ now (out .exit) ≡ sets (now (out .entry)) at (pieceBytes reading form value) ⌝ }
 {
-    if gives_byte(reading, form) {
+    if is_single(reading, form, value) {
         out[at] = value as u8;
         return at + 1;
     }

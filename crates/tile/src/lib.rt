@@ -50,6 +50,8 @@ const NO_VALUE: u32 = 0;
 
 const LARGEST_BYTE: u32 = 0xff;
 
+const LAST_ASCII: usize = 0x7f;
+
 const HEX: usize = 16;
 
 const OCTAL: usize = 8;
@@ -184,6 +186,14 @@ pub fn unquote_char(s: &[u8], quote: u8) -> Tile
     }
     if begins_escape(quote, first) {
         return escape(s, quote);
+    }
+    if first <= LAST_ASCII {
+        let value = first as u32;
+        return Tile::Piece {
+            form: Form::Plain,
+            value,
+            size: 1,
+        };
     }
     let a = utf8::char_at(s, ByteOffset(0));
     let Character::Scalar { code, size } = a else {

@@ -4,7 +4,7 @@ use Prim.Native.Nat.{ℕ, suc, _+_, _-_, _<_, _≤_}
 use native.Mathlib.Omega.{arith}
 use mathlib.Core.List.{List, [], _∷_}
 use mathlib.Core.Logic.{_⊎_, inl, inr}
-use mathlib.Core.Path.{_≡_, refl}
+use mathlib.Core.Path.{_≡_, refl, _∙_}
 use lib.Dec.{leb, ltb, eqb}
 use lib.ListN.{length, drop, length-drop}
 use borrow.Author.Tests.{le-leb, lt-leb, leb-false, ltb-false, lt-ltb, eq-eqb, ne-eqb}
@@ -18,11 +18,12 @@ use Rattle.utf8.specs.declared.Encoding.the-variants.{Written, NotScalar
 use Rattle.utf8.specs.Table.{charLength}
 use Rattle.utf8.specs.Code.{codeOf, isScalar, encoded}
 use Rattle.utf8.specs.Text.{Char, charsOf, sizeOf, prefixEnd, begunIn, charNumber}
-use Rattle.utf8.specs.Laws.{ByteScalar, EncodingFits, FirstCharacter, FewBytes}
+use Rattle.utf8.specs.Laws.{ByteScalar, EncodingFits, FirstCharacter, FirstAscii, FewBytes}
 use Rattle.utf8.specs.Answers.{validityOf, admittedAs, admitted, characterAt, encodingOf}
 use Rattle.scan.proofs.Choice.{either}
 use Rattle.utf8.proofs.Chars.{char-bound}
 use Rattle.utf8.proofs.Texts.{Filled, filled, prefix-bound}
+use Rattle.utf8.proofs.Laws.{ascii-length, ascii-code}
 
 -- characters that have bytes are no more than their bytes
 filled-bound : (cs : List Char) → Filled cs → length cs ≤ sizeOf cs
@@ -87,6 +88,12 @@ first-character xs = (some, none)
     none e =
         either (λ (a : Character). (a ≡ Nothing) ⊎ (a ≡ IllFormed)) (leb (length xs) 0) (λ t. inl refl)
         (λ t. rw (eq-eqb (charLength xs) 0 e) (inr refl))
+
+pub first-ascii : FirstAscii
+first-ascii [] h = let f : ⊥ = omega arith in absurd f
+first-ascii (x ∷ xs) h =
+    let e = first-character (x ∷ xs) .0 (omega (arith, ascii-length x xs h)) in
+    e ∙ rw (ascii-length x xs h, ascii-code x xs h)
 
 pub byte-scalar : ByteScalar
 unfolding isScalar

@@ -79,6 +79,9 @@ FirstCharacter =
     let n = charLength xs in
     (0 < n → characterAt xs 0 ≡ Scalar (codeOf n xs) n) × (n ≡ 0 → (characterAt xs 0 ≡ Nothing) ⊎ (characterAt xs 0 ≡ IllFormed))
 
+abbrev pub FirstAscii : Type 0
+FirstAscii = (xs : List ℕ) → peekAt xs 0 < 0x80 → characterAt xs 0 ≡ Scalar (peekAt xs 0) 1
+
 -- the bytes of code points, one after the other
 abbrev pub textOf : List ℕ → List ℕ
 textOf [] = []

@@ -1,7 +1,8 @@
--- A byte is stored, since a byte escape has a value of at most 255; a character is encoded, and every value that a form may have is one.
+-- One byte is stored: an ASCII character's, or a byte escape's, whose value is at most 255. Any other character is encoded, and every value
+-- that a form may have is one.
 use Prim.Native.Nat.{ℕ, _+_, _≤_}
 use native.Mathlib.Omega.{arith}
-use mathlib.Core.Bool.{Bool, true, false}
+use mathlib.Core.Bool.{Bool, true, false, _||_, true≢false}
 use mathlib.Core.List.{[], _∷_}
 use mathlib.Core.Logic.{inl, inr}
 use mathlib.Core.Path.{_≡_, refl, sym, ap, _∙_}
@@ -10,6 +11,7 @@ use lib.Seq.{sets-eq}
 use types.Run.{OneOf}
 use denote.Enum.Declared.{tagOf}
 use denote.Ref.{now}
+use lib.Dec.{leb}
 use borrow.Author.Tests.{leb-true}
 use Rattle.scan.proofs.Choice.{told}
 use Rattle.utf8.specs.declared.Encoding.{Encoding}
@@ -24,14 +26,20 @@ use Rattle.tile.specs.declared.Form.{Form}
 use Rattle.tile.specs.Tile.{isByte, isAllowed}
 use Rattle.string.specs.Tiles.{givesByte, pieceBytes}
 use borrow.Author.Needs.{needs}
+use Rattle.string.specs.Measure.{isSingle}
+use Rattle.string.proofs.Contents.{single, several}
 use Rattle.string.proofs.put_piece.Statement.{statement}
 use Rattle.string.proofs.put_piece.Tie as tie
 
 module _ (f : Form) (v : ℕ) (a : isAllowed f v ≡ true) where
-  byte-small : (r : Reading) → givesByte r f ≡ true → v ≤ 0xff
-  unfolding isAllowed
-  byte-small Crate e = let z : _≡_ {A = ℕ} 0 1 = cc in omega arith
-  byte-small Documented e = leb-true v 0xff (rw e at a)
+  byte-small : (r : Reading) → isSingle r f v ≡ true → v ≤ 0xff
+  unfolding isSingle isAllowed
+  byte-small r = go (leb v 0x7f) refl r
+    where
+      go : (s : Bool) → leb v 0x7f ≡ s → (r : Reading) → s || givesByte r f ≡ true → v ≤ 0xff
+      go true l r e = let h : v ≤ 0x7f = leb-true v 0x7f l in omega arith
+      go false l Crate e = absurd (true≢false (sym e))
+      go false l Documented e = leb-true v 0xff (rw e at a)
 
   scalar : isScalar v ≡ true
   unfolding isAllowed
@@ -40,15 +48,6 @@ module _ (f : Form) (v : ℕ) (a : isAllowed f v ≡ true) where
       go : (t : Bool) → isByte f ≡ t → isScalar v ≡ true
       go true e = byte-scalar v (leb-true v 0xff (rw e at a))
       go false e = rw e at a
-
-module _ (r : Reading) (f : Form) (v : ℕ) where
-  one-byte : givesByte r f ≡ true → pieceBytes r f v ≡ v ∷ []
-  unfolding pieceBytes
-  one-byte e = rw e
-
-  character : givesByte r f ≡ false → pieceBytes r f v ≡ encoded v
-  unfolding pieceBytes
-  character e = rw e
 
 abbrev tag : Encoding → ℕ
 tag (Written n) = 0
@@ -60,19 +59,19 @@ sizeOf (Written n) = n
 sizeOf NotScalar = 0
 sizeOf NoRoom = 0
 
-gives-byte-requires : tie.Need-gives-byte-requires
-gives-byte-requires c κs = search needs
+is-single-requires : tie.Need-is-single-requires
+is-single-requires c κs = search needs
 
-byte : (c : tie.Then1) → givesByte (c .before .before .before .args .reading) (c .before .before .before .args .form) ≡ true
-byte c = sym (c .before .gives-byte .ensures) ∙ c .if1 .taken
+one : (c : tie.Then1) → let a = c .before .before .before .args in isSingle (a .reading) (a .form) (a .value) ≡ true
+one c = sym (c .before .is-single .ensures) ∙ c .if1 .taken
 
 stored : (c : tie.Then1) → let a = c .before .before .before .args in pieceBytes (a .reading) (a .form) (a .value) ≡ a .value ∷ []
-stored c = let a = c .before .before .before .args in one-byte (a .reading) (a .form) (a .value) (byte c)
+stored c = let a = c .before .before .before .args in single (a .reading) (a .form) (a .value) (one c)
 
 cast-out : tie.Need-cast-out
 cast-out c =
     let a = c .before .before .before in
-    omega (arith, byte-small (a .args .form) (a .args .value) (a .pre .0) (a .args .reading) (byte c))
+    omega (arith, byte-small (a .args .form) (a .args .value) (a .pre .0) (a .args .reading) (one c))
 
 slice-write-out : tie.Need-slice-write-out
 slice-write-out c = omega (arith, c .before .before .before .pre .1, ap length (stored c))
@@ -101,7 +100,7 @@ module _ (c : tie.After-encode) where
   a = c .before .before .before .before .before
 
   its : pieceBytes (a .args .reading) (a .args .form) (a .args .value) ≡ encoded (a .args .value)
-  its = character (a .args .reading) (a .args .form) (a .args .value) (sym (c .before .before .before .gives-byte .ensures) ∙ c .before .before .if1 .left)
+  its = several (a .args .reading) (a .args .form) (a .args .value) (sym (c .before .before .before .is-single .ensures) ∙ c .before .before .if1 .left)
 
   fits : a .args .at + length (encoded (a .args .value)) ≤ length (now (a .args .out))
   fits = omega (arith, a .pre .1, ap length its)
@@ -137,7 +136,7 @@ pub put-piece-spec : {M : Type 1} → statement M
 put-piece-spec =
     tie.close
     (tie.spec
-    gives-byte-requires
+    is-single-requires
     cast-out
     slice-write-out
     add-result

@@ -13,6 +13,7 @@ use Rattle.scan.specs.Byte.{peekAt}
 use Rattle.utf8.specs.declared.Character.{Character}
 use Rattle.utf8.specs.declared.Character.the-variants.{Scalar, Nothing, IllFormed}
 use Rattle.utf8.specs.Answers.{characterAt}
+use Rattle.utf8.proofs.Bounds.{first-ascii}
 use Rattle.utf8.proofs.Character as character
 use Rattle.tile.specs.declared.Tile.the-variants.{Bad}
 use Rattle.tile.specs.Tile.{beginsEscape, escapeOf, plainOf, tileOf}
@@ -68,6 +69,17 @@ returns-2 c =
     let d = c .before .before in
     c .escape .ensures ∙ escaped (q d) (xs d) (other d) (sym (told d) ∙ c .before .if2 .taken)
 
+cast-value : tie.Need-cast-value
+cast-value c = omega arith
+
+returns-3 : tie.Need-returns-3
+returns-3 c =
+    let d = c .before .before in
+    let p = d .before .before .peek .ensures in
+    rw p
+    (ap plainOf (sym (first-ascii (xs d) (omega (arith, p, c .if3 .taken))))
+    ∙ plain (q d) (xs d) (other d) (sym (told d) ∙ c .before .if2 .left))
+
 char-at-requires : tie.Need-char-at-requires
 char-at-requires c κs = search needs
 
@@ -80,17 +92,17 @@ none (Scalar c n) (inr e) = let f : ⊥ = omega arith in absurd f
 none Nothing e = refl
 none IllFormed e = refl
 
-returns-3 : tie.Need-returns-3
-returns-3 c =
-    let d = c .before .before .before in
-    sym (none (c .before .char-at .result) (c .match .keys2))
-    ∙ ap plainOf (c .before .char-at .ensures) ∙ plain (q d) (xs d) (other d) (sym (told d) ∙ c .before .before .if2 .left)
-
 returns-4 : tie.Need-returns-4
 returns-4 c =
-    let d = c .before .before .before .before .before in
+    let d = c .before .before .before .before in
+    sym (none (c .before .char-at .result) (c .match .keys2))
+    ∙ ap plainOf (c .before .char-at .ensures) ∙ plain (q d) (xs d) (other d) (sym (told d) ∙ c .before .before .before .if2 .left)
+
+returns-5 : tie.Need-returns-5
+returns-5 c =
+    let d = c .before .before .before .before .before .before in
     ap plainOf (sym (c .before .a .given .1) ∙ c .before .before .before .char-at .ensures)
-    ∙ plain (q d) (xs d) (other d) (sym (told d) ∙ c .before .before .before .before .if2 .left)
+    ∙ plain (q d) (xs d) (other d) (sym (told d) ∙ c .before .before .before .before .before .if2 .left)
 
 pub unquote-char-spec : {M : Type 1} → statement M
 unquote-char-spec =
@@ -101,7 +113,9 @@ unquote-char-spec =
     begins-escape-requires
     escape-requires
     returns-2
+    cast-value
+    returns-3
     char-at-requires
     enum-known-a
-    returns-3
-    returns-4)
+    returns-4
+    returns-5)
