@@ -4,15 +4,15 @@ use Prim.Native.Nat.{ℕ, zero, suc, _<_, _≤_}
 use Prim.Native.Char.{code}
 use native.Mathlib.Nat.{le-of-suc-le-suc, not-suc-le-zero}
 use native.Mathlib.Omega.{arith}
-use mathlib.Core.Bool.{true, false, and-false}
+use mathlib.Core.Bool.{Bool, true, false, _||_, and-false}
 use mathlib.Core.List.{List, [], _∷_}
 use mathlib.Core.Path.{_≡_, refl}
-use lib.Dec.{leb}
+use lib.Dec.{leb, ltb}
 use lib.ListN.{length, getD}
 use borrow.Author.Tests.{le-leb, lt-leb, leb-true}
 use Rattle.scan.specs.declared.Class.{Class}
 use Rattle.scan.specs.declared.Class.the-variants.{Space, Alpha, Digit, HexDigit, AlphaNumeric, Word, Line}
-use Rattle.scan.specs.Byte.{end, isWithin, isSpace, isAlpha, isDigit, isHexDigit, digitOf, isAlphaNumeric, isWord, isLine, isIn}
+use Rattle.scan.specs.Byte.{end, isWithin, isSpace, isAlpha, isDigit, isHexDigit, digitOf, isDigitIn, lowered, isAlphaNumeric, isWord, isLine, isIn}
 use Rattle.scan.proofs.Choice.{either, and-left, and-right}
 
 pub getD-any : (xs : List ℕ) (i a b : ℕ) → i < length xs → getD xs i a ≡ getD xs i b
@@ -56,3 +56,27 @@ digit-bound c =
     (λ e. either P (isWithin (code "a") (code "f") c) (λ e. omega (arith, within-bounds (code "a") (code "f") c e))
     (λ e. either P (isWithin (code "A") (code "F") c) (λ e. omega (arith, within-bounds (code "A") (code "F") c e))
     (λ e. omega arith)))
+
+-- a digit of any radix is ASCII
+pub digit-ascii : (radix c : ℕ) → isDigitIn radix c ≡ true → c < 0x80
+unfolding isDigitIn isHexDigit
+digit-ascii radix c d =
+    go (isDigit c) refl (isWithin (code "a") (code "f") c) refl (and-left (isDigit c || (isWithin (code "a") (code "f") c || isWithin (code "A") (code "F") c)) (ltb (digitOf c) radix) d)
+  where
+    go : (s : Bool) → isDigit c ≡ s → (t : Bool) → isWithin (code "a") (code "f") c ≡ t → s || (t || isWithin (code "A") (code "F") c) ≡ true → c < 0x80
+    go true a t b e = omega (arith, within-bounds (code "0") (code "9") c a)
+    go false a true b e = omega (arith, within-bounds (code "a") (code "f") c b)
+    go false a false b e = omega (arith, within-bounds (code "A") (code "F") c e)
+
+-- lowering keeps within a byte, and leaves what is not ASCII as it is
+pub lowered-byte : (c : ℕ) → c ≤ 0xff → lowered c ≤ 0xff
+unfolding lowered
+lowered-byte c h = either (λ n. n ≤ 0xff) (isWithin (code "A") (code "Z") c) (λ e. omega (arith, within-bounds (code "A") (code "Z") c e)) (λ e. h)
+
+pub lowered-above : (c : ℕ) → 0x80 ≤ c → lowered c ≡ c
+unfolding lowered
+lowered-above c h = rw (above-not (code "A") (code "Z") c (omega arith))
+
+pub lowered-ascii : (c : ℕ) → c < 0x80 → lowered c < 0x80
+unfolding lowered
+lowered-ascii c h = either (λ n. n < 0x80) (isWithin (code "A") (code "Z") c) (λ e. omega (arith, within-bounds (code "A") (code "Z") c e)) (λ e. h)

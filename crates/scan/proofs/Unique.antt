@@ -15,6 +15,10 @@ use Rattle.scan.proofs.is_hex_digit.Kinds as is-hex-digit
 use Rattle.scan.proofs.is_hex_digit.Reads as is-hex-digit-reads
 use Rattle.scan.proofs.digit_of.Kinds as digit-of
 use Rattle.scan.proofs.digit_of.Reads as digit-of-reads
+use Rattle.scan.proofs.is_digit_in.Kinds as is-digit-in
+use Rattle.scan.proofs.is_digit_in.Reads as is-digit-in-reads
+use Rattle.scan.proofs.lowered.Kinds as lowered
+use Rattle.scan.proofs.lowered.Reads as lowered-reads
 use Rattle.scan.proofs.is_alpha_numeric.Kinds as is-alpha-numeric
 use Rattle.scan.proofs.is_alpha_numeric.Reads as is-alpha-numeric-reads
 use Rattle.scan.proofs.is_word.Kinds as is-word
@@ -48,6 +52,12 @@ same-is-hex-digit κs a x y e f p q = p ∙ sym q
 
 pub same-digit-of : OneAnswer digit-of.ps digit-of.r digit-of-reads.Post
 same-digit-of κs a x y e f p q = p ∙ sym q
+
+pub same-is-digit-in : OneAnswer is-digit-in.ps is-digit-in.r is-digit-in-reads.Post
+same-is-digit-in κs a x y e f p q = p ∙ sym q
+
+pub same-lowered : OneAnswer lowered.ps lowered.r lowered-reads.Post
+same-lowered κs a x y e f p q = p ∙ sym q
 
 pub same-is-alpha-numeric : OneAnswer is-alpha-numeric.ps is-alpha-numeric.r is-alpha-numeric-reads.Post
 same-is-alpha-numeric κs a x y e f p q = p ∙ sym q

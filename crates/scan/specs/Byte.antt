@@ -5,7 +5,7 @@ use Prim.Native.Char.{code}
 use mathlib.Core.Bool.{Bool, cond, _&&_, _||_, not}
 use mathlib.Core.List.{List}
 use lib.ListN.{getD}
-use lib.Dec.{leb, eqb}
+use lib.Dec.{leb, ltb, eqb}
 use Rattle.scan.specs.declared.Class.{Class}
 use Rattle.scan.specs.declared.Class.the-variants.{Space, Alpha, Digit, HexDigit, AlphaNumeric, Word, Line}
 
@@ -48,6 +48,14 @@ digitOf c =
     (cond (isWithin (code "a") (code "f") c) (c - code "a" + valueOfA)
     (cond (isWithin (code "A") (code "F") c) (c - code "A" + valueOfA)
     0))
+
+-- a digit of a radix, in either case
+unfoldable pub isDigitIn : ℕ → ℕ → Bool
+isDigitIn radix c = isHexDigit c && ltb (digitOf c) radix
+
+-- a letter in lower case, and all others as they are
+unfoldable pub lowered : ℕ → ℕ
+lowered c = cond (isWithin (code "A") (code "Z") c) (c + (code "a" - code "A")) c
 
 -- "Inside braces every word (no colon)": letters and digits
 unfoldable pub isAlphaNumeric : ℕ → Bool

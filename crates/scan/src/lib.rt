@@ -1,6 +1,6 @@
 // Bytes: what stands at a place, the classes of document 01, where a run of a class ends, and whether two texts are one.
 ghost use mathlib.Core.Path.{_≡_};
-ghost use Rattle.scan.specs.Byte.{peekAt, isWithin, isSpace, isAlpha, isDigit, isHexDigit, digitOf, isAlphaNumeric, isWord, isLine, isIn};
+ghost use Rattle.scan.specs.Byte.{peekAt, isWithin, isSpace, isAlpha, isDigit, isHexDigit, digitOf, isDigitIn, lowered, isAlphaNumeric, isWord, isLine, isIn};
 ghost use Rattle.scan.specs.Run.{runEnd};
 ghost use Rattle.scan.specs.Text.{sameText};
 
@@ -18,6 +18,9 @@ const CR: usize = 13;
 const SPACE: usize = 32;
 
 const VALUE_OF_A: usize = 10;
+
+// What lies between a capital letter and its small one.
+const CASE: usize = 32;
 
 // The classes of bytes.
 pub enum Class {
@@ -86,6 +89,24 @@ pub fn digit_of(c: usize) -> usize
         return c - b'A' as usize + VALUE_OF_A;
     }
     0
+}
+
+// A digit of a radix, in either case.
+pub fn is_digit_in(radix: usize, c: usize) -> bool
+    ensures { λ r. ⌜ r ≡ isDigitIn radix c ⌝ }
+{
+    is_hex_digit(c) && digit_of(c) < radix
+}
+
+// An ASCII letter in lower case, and all others as they are.
+pub fn lowered(c: usize) -> usize
+    ensures { λ r. ⌜ r ≡ lowered c ⌝ }
+{
+    if is_within(b'A', b'Z', c) {
+        c + CASE
+    } else {
+        c
+    }
 }
 
 // A letter or a digit: what a label, and a word in braces, goes on with.

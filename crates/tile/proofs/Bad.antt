@@ -9,7 +9,7 @@ use mathlib.Core.Logic.{_⊎_, inl, inr}
 use mathlib.Core.Path.{_≡_, refl, sym, ap, subst, _∙_}
 use lib.Dec.{eqb}
 use borrow.Author.Tests.{le-leb, eq-eqb, ne-eqb, eqb-true, eqb-false, leb-true, not-true}
-use Rattle.scan.specs.Byte.{peekAt, backslash, isWithin, isHexDigit, digitOf}
+use Rattle.scan.specs.Byte.{peekAt, backslash, isWithin, isHexDigit, digitOf, isDigitIn}
 use Rattle.scan.proofs.Choice.{either, told}
 use Rattle.scan.proofs.Tests.{Tests, denied, tests-and, tests-not, tests-eq}
 use Rattle.utf8.specs.Table.{charLength}
@@ -23,7 +23,7 @@ use Rattle.tile.specs.declared.Numeral.{Numeral}
 use Rattle.tile.specs.declared.Numeral.the-variants.{Value, NotDigits}
 use Rattle.tile.specs.declared.Tile.{Tile}
 use Rattle.tile.specs.declared.Tile.the-variants.{Piece, Bad}
-use Rattle.tile.specs.Tile.{backquote, noValue, letterValue, isDigitIn, numeralFrom, isAllowed, numberedAs, numbered, escapeOf, beginsEscape, plainOf, tileOf}
+use Rattle.tile.specs.Tile.{backquote, noValue, letterValue, numeralFrom, isAllowed, numberedAs, numbered, escapeOf, beginsEscape, plainOf, tileOf}
 use Rattle.tile.specs.Laws.{Digits, IsEscape, Begun, BadWhen}
 use Rattle.tile.proofs.Digits.{here, digits-small}
 use Rattle.tile.proofs.Letters.{letter-some, letter-told}

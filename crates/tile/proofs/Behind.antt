@@ -2,7 +2,7 @@
 use Prim.Native.Nat.{ℕ, zero, suc, _+_, _*_, _<_, _≤_}
 use native.Mathlib.Omega.{arith}
 use native.Mathlib.Decide.{decLt, ℕ-discrete}
-use mathlib.Core.Bool.{Bool, true, false, _||_, not}
+use mathlib.Core.Bool.{true, not}
 use mathlib.Core.List.{List, [], _∷_}
 use mathlib.Core.Logic.{_⊎_, inl, inr}
 use mathlib.Core.Path.{_≡_, refl, sym, _∙_}
@@ -10,10 +10,10 @@ use lib.Dec.{eqb, ltb}
 use lib.ListN.{drop}
 use borrow.Author.Tests.{eqb-true, eqb-false, ltb-true, not-true}
 use Rattle.scan.specs.Ascii.{ascii}
-use Rattle.scan.specs.Byte.{peekAt, backslash, isWithin, isDigit, isHexDigit, digitOf}
+use Rattle.scan.specs.Byte.{peekAt, backslash, digitOf, isDigitIn}
 use Rattle.scan.specs.Text.{Stands}
 use Rattle.scan.proofs.Choice.{either, and-left, and-right}
-use Rattle.scan.proofs.Classes.{within-bounds}
+use Rattle.scan.proofs.Classes.{digit-ascii}
 use Rattle.utf8.specs.declared.Character.the-variants.{Nothing, IllFormed}
 use Rattle.utf8.specs.Table.{charLength}
 use Rattle.utf8.specs.Text.{WellFormed}
@@ -26,7 +26,7 @@ use Rattle.tile.specs.declared.Form.the-variants.{Hex, Octal, Point}
 use Rattle.tile.specs.declared.Numeral.{Numeral}
 use Rattle.tile.specs.declared.Numeral.the-variants.{Value, NotDigits}
 use Rattle.tile.specs.declared.Tile.{Tile}
-use Rattle.tile.specs.Tile.{backquote, noValue, letterValue, isDigitIn, numeralFrom, isAllowed, numberedAs, numbered, escapeOf, beginsEscape, plainOf, tileOf}
+use Rattle.tile.specs.Tile.{backquote, noValue, letterValue, numeralFrom, isAllowed, numberedAs, numbered, escapeOf, beginsEscape, plainOf, tileOf}
 use Rattle.tile.specs.Laws.{TextAfter, TextBehind}
 use Rattle.tile.proofs.Digits.{here, turn}
 use Rattle.tile.proofs.Letters.{letter-told}
@@ -37,15 +37,6 @@ ascii-drop zero xs a w = w
 ascii-drop (suc n) [] a w = w
 ascii-drop (suc n) (x ∷ xs) a w =
     ascii-drop n xs (λ i l. a (suc i) (omega arith)) (omega (arith, ascii-head x xs (a 0 (omega arith)) .0, w))
-
-digit-ascii : (radix c : ℕ) → isDigitIn radix c ≡ true → c < 0x80
-unfolding isDigitIn isHexDigit
-digit-ascii radix c d = go (isDigit c) refl (isWithin 97 102 c) refl (and-left (isDigit c || (isWithin 97 102 c || isWithin 65 70 c)) (ltb (digitOf c) radix) d)
-  where
-    go : (s : Bool) → isDigit c ≡ s → (t : Bool) → isWithin 97 102 c ≡ t → s || (t || isWithin 65 70 c) ≡ true → c < 0x80
-    go true a t b e = omega (arith, within-bounds 48 57 c a)
-    go false a true b e = omega (arith, within-bounds 97 102 c b)
-    go false a false b e = omega (arith, within-bounds 65 70 c e)
 
 -- each place of digits
 places : (radix : ℕ) (xs : List ℕ) (n v at w : ℕ) → numeralFrom radix v n at xs ≡ Value w → (i : ℕ) → at ≤ i → i < at + n → peekAt xs i < 0x80

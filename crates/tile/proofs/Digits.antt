@@ -11,13 +11,13 @@ use mathlib.Core.Path.{_≡_, refl, sym, ap, _∙_}
 use lib.Dec.{leb}
 use lib.ListN.{length, List·getD-eq-default}
 use borrow.Author.Tests.{leb-true}
-use Rattle.scan.specs.Byte.{end, peekAt, isWithin, isHexDigit, digitOf}
+use Rattle.scan.specs.Byte.{end, peekAt, isWithin, isHexDigit, digitOf, isDigitIn}
 use Rattle.scan.proofs.Below.{below}
 use Rattle.scan.proofs.Choice.{told}
 use Rattle.scan.proofs.Classes.{digit-bound}
 use Rattle.tile.specs.declared.Numeral.{Numeral}
 use Rattle.tile.specs.declared.Numeral.the-variants.{Value, NotDigits}
-use Rattle.tile.specs.Tile.{isDigitIn, numeralFrom}
+use Rattle.tile.specs.Tile.{numeralFrom}
 
 -- eight digits at most fit 32 bits
 pub fits : (i : ℕ) → i ≤ 8 → 16 ^ i ≤ 0x100000000

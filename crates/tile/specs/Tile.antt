@@ -4,8 +4,8 @@ use Prim.Native.Nat.{ℕ, zero, suc, _+_, _*_}
 use Prim.Native.Char.{code}
 use mathlib.Core.Bool.{Bool, true, false, cond, _&&_, not}
 use mathlib.Core.List.{List}
-use lib.Dec.{eqb, leb, ltb}
-use Rattle.scan.specs.Byte.{peekAt, backslash, isHexDigit, digitOf}
+use lib.Dec.{eqb, leb}
+use Rattle.scan.specs.Byte.{peekAt, backslash, isDigitIn, digitOf}
 use Rattle.utf8.specs.declared.Character.{Character}
 use Rattle.utf8.specs.declared.Character.the-variants.{Scalar, Nothing, IllFormed}
 use Rattle.utf8.specs.Code.{isScalar}
@@ -37,10 +37,6 @@ letterValue q c =
     (cond (eqb c (code "v")) 0x0b
     (cond (eqb c backslash) backslash
     noValue))))))))
-
--- a digit of a radix, in either case
-unfoldable pub isDigitIn : ℕ → ℕ → Bool
-isDigitIn radix c = isHexDigit c && ltb (digitOf c) radix
 
 -- n digits of a radix from an offset on, read behind those that amount to v
 unfoldable pub numeralFrom : ℕ → ℕ → ℕ → ℕ → List ℕ → Numeral

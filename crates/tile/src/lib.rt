@@ -3,7 +3,7 @@ use utf8::ByteOffset;
 use utf8::Character;
 ghost use mathlib.Core.Path.{_≡_};
 ghost use Prim.Native.Nat.{_≤_};
-ghost use Rattle.tile.specs.Tile.{letterValue, isDigitIn, numeralFrom, isByte, isAllowed, numbered, escapeOf, beginsEscape, tileOf};
+ghost use Rattle.tile.specs.Tile.{letterValue, numeralFrom, isByte, isAllowed, numbered, escapeOf, beginsEscape, tileOf};
 
 // How a tile is written: as it is, as a letter or a sign behind a backslash, as `\xhh`, as three octal digits, or as `\uhhhh` or
 // `\Uhhhhhhhh`.
@@ -81,13 +81,6 @@ fn letter_value(quote: u8, c: u8) -> u32
     }
 }
 
-// A digit of a radix, in either case.
-fn is_digit_in(radix: usize, c: usize) -> bool
-    ensures { λ r. ⌜ r ≡ isDigitIn radix c ⌝ }
-{
-    scan::is_hex_digit(c) && scan::digit_of(c) < radix
-}
-
 // What the `count` digits of a radix from an offset on amount to.
 fn read_digits(s: &[u8], at: usize, count: usize, radix: usize) -> Numeral
     requires { ⌜ (at ≤ 2) × (count ≤ 8) × (radix ≤ 16) ⌝ }
@@ -97,7 +90,7 @@ fn read_digits(s: &[u8], at: usize, count: usize, radix: usize) -> Numeral
     let mut i = 0;
     while i < count {
         let c = scan::peek(s, at + i);
-        if !is_digit_in(radix, c) {
+        if !scan::is_digit_in(radix, c) {
             return Numeral::NotDigits;
         }
         value = value * radix as u32 + scan::digit_of(c) as u32;

@@ -2,26 +2,25 @@
 -- so is one with a character that is not ASCII, so that it may be looked for by its bytes (`by-bytes` of utf8).
 use Prim.Native.Nat.{ℕ, suc, _+_, _<_, _≤_}
 use native.Mathlib.Omega.{arith}
-use native.Mathlib.Decide.{decLt, ℕ-discrete}
-use mathlib.Core.Bool.{Bool, true, false, cond, _&&_, and-false, true≢false}
+use native.Mathlib.Decide.{ℕ-discrete}
+use mathlib.Core.Bool.{Bool, true, false, cond, _&&_}
 use mathlib.Core.List.{List, [], _∷_, _++_, map}
 use mathlib.Core.Path.{_≡_, refl, sym, ap, _∙_}
-use Prim.Native.Char.{code}
 use lib.Dec.{eqb, leb, ltb}
 use lib.ListN.{length, getD, take, drop, length-append, length-map, List·getD-append}
 use lib.Seq.{take-at, drop-at, getD-at, getD-append-add, take-append-le, sets, sets-eq}
-use borrow.Author.Tests.{eq-eqb, ne-eqb, le-ltb, lt-ltb, leb-true, ltb-true}
+use borrow.Author.Tests.{eq-eqb, ne-eqb, le-ltb, leb-true, ltb-true}
+use Rattle.scan.specs.Byte.{lowered}
 use Rattle.scan.specs.Text.{sameText}
 use Rattle.scan.proofs.Choice.{either, and-left, and-right}
-use Rattle.scan.proofs.Classes.{above-not}
 use Rattle.scan.proofs.Same.{same-not}
 use Rattle.utf8.specs.Laws.{isAscii}
-use Rattle.utf8.proofs.Ascii.{by-bytes}
+use Rattle.utf8.proofs.Ascii.{by-bytes, lowered-other}
 use Rattle.token.specs.declared.Keyword.{Keyword}
 use Rattle.token.specs.declared.Keyword.the-variants.{Kind, Nothing}
 use Rattle.token.specs.Padded.{padded}
 use Rattle.token.proofs.Padding.{padded-length, padded-take}
-use Rattle.token.specs.Words.{Entry, words, lowered, kindIn, keywordOf}
+use Rattle.token.specs.Words.{Entry, words, kindIn, keywordOf}
 use Rattle.token.specs.Laws.{TableFinds}
 use Rattle.token.specs.WordRows.{wordCount, widestWord, wordRow, rowOf, tableOf, wordTable, isRow, foundIn, keywordIn}
 
@@ -82,23 +81,7 @@ long-none (e ∷ es) w h l =
     let s = leb-true (length (e .text)) widestWord (and-left (isShort e) (allEntries isShort es) h) in
     rw (same-not w (e .text) (λ z. omega arith)) (long-none es w (and-right (isShort e) (allEntries isShort es) h) l)
 
--- a word with a byte that is not ASCII is none, since lowering leaves that byte as it is
-lowered-other : (x : ℕ) → 0x80 ≤ x → lowered x ≡ x
-unfolding lowered
-lowered-other x h = rw (above-not (code "A") (code "Z") x (omega arith))
-
-other-not : (ys t : List ℕ) → isAscii ys ≡ false → isAscii t ≡ true → sameText (map lowered ys) t ≡ false
-unfolding sameText
-other-not [] t h a = absurd (true≢false h)
-other-not (y ∷ ys) [] h a = refl
-other-not (y ∷ ys) (c ∷ t) h a = go (decLt y 0x80) (other-not ys t)
-  where
-    go : Dec (y < 0x80) → (isAscii ys ≡ false → isAscii t ≡ true → sameText (map lowered ys) t ≡ false) → eqb (lowered y) c && sameText (map lowered ys) t ≡ false
-    go (yes l) ih = rw (ih (rw (lt-ltb y 0x80 l) at h) (and-right (ltb c 0x80) (isAscii t) a)) (and-false (eqb (lowered y) c))
-    go (no l) ih =
-        let k = ltb-true c 0x80 (and-left (ltb c 0x80) (isAscii t) a) in
-        rw (lowered-other y (omega arith), ne-eqb y c (λ z. omega arith))
-
+-- a word with a byte that is not ASCII is none
 abbrev isPlain : Entry → Bool
 isPlain e = isAscii (e .text)
 
@@ -106,7 +89,7 @@ other-none : (es : List Entry) (ys : List ℕ) → allEntries isPlain es ≡ tru
 unfolding kindIn
 other-none [] ys h a = refl
 other-none (e ∷ es) ys h a =
-    rw (other-not ys (e .text) a (and-left (isPlain e) (allEntries isPlain es) h)) (other-none es ys (and-right (isPlain e) (allEntries isPlain es) h) a)
+    rw (lowered-other ys (e .text) a (and-left (isPlain e) (allEntries isPlain es) h)) (other-none es ys (and-right (isPlain e) (allEntries isPlain es) h) a)
 
 -- the table of words: all are short, and ASCII
 short : allEntries isShort words ≡ true

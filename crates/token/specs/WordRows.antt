@@ -5,11 +5,12 @@ use mathlib.Core.Bool.{Bool, cond, _&&_}
 use mathlib.Core.List.{List, [], _∷_, _++_, map}
 use lib.Dec.{eqb, ltb}
 use lib.ListN.{length, getD, take, drop}
+use Rattle.scan.specs.Byte.{lowered}
 use Rattle.scan.specs.Text.{sameText}
 use Rattle.token.specs.declared.Keyword.{Keyword}
 use Rattle.token.specs.declared.Keyword.the-variants.{Kind, Nothing}
 use Rattle.token.specs.Padded.{padded}
-use Rattle.token.specs.Words.{Entry, words, lowered}
+use Rattle.token.specs.Words.{Entry, words}
 
 -- how many words there are, the bytes of the longest, and those of a row
 abbrev pub wordCount : ℕ

@@ -1,11 +1,10 @@
 -- The 35 words that have a kind of their own: document 01, "Kinds", in the order of the Rust's KEYWORDS.
-use Prim.Native.Nat.{ℕ, _+_, _-_}
-use Prim.Native.Char.{code}
+use Prim.Native.Nat.{ℕ}
 use Prim.Native.String.{String}
 use mathlib.Core.Bool.{cond}
 use mathlib.Core.List.{List, [], _∷_, map}
 use Rattle.scan.specs.Ascii.{ascii}
-use Rattle.scan.specs.Byte.{isWithin}
+use Rattle.scan.specs.Byte.{lowered}
 use Rattle.scan.specs.Text.{sameText}
 use Rattle.utf8.specs.Text.{codesOf, isWellFormed}
 use Rattle.token.specs.declared.Keyword.{Keyword}
@@ -57,10 +56,6 @@ words =
     ∷ word "inf" 4
     ∷ word "nan" 4
     ∷ []
-
--- a letter in lower case
-unfoldable pub lowered : ℕ → ℕ
-lowered c = cond (isWithin (code "A") (code "Z") c) (c + (code "a" - code "A")) c
 
 -- the kind of the entry whose text a word is
 unfoldable pub kindIn : List Entry → List ℕ → Keyword

@@ -8,11 +8,11 @@ ghost use mathlib.Core.List.{map};
 ghost use Prim.Native.Nat.{_≤_};
 ghost use lib.ListN.{length};
 ghost use lib.Seq.{sets};
-ghost use Rattle.scan.specs.Byte.{isWithin};
+ghost use Rattle.scan.specs.Byte.{isWithin, lowered};
 ghost use Rattle.token.specs.Classes.{isOperator, isComparisonOperator, isSetOperator, isAggregator, isAggregatorWithParam};
 ghost use Rattle.token.specs.Display.{displayOf, fitted, displayed, leftBy};
 ghost use Rattle.token.specs.DisplayRows.{pastKinds, table};
-ghost use Rattle.token.specs.Words.{lowered, keywordOf};
+ghost use Rattle.token.specs.Words.{keywordOf};
 ghost use Rattle.token.specs.WordRows.{wordCount, widestWord, wordRow, wordTable, isRow, foundIn, keywordIn};
 ghost use Rattle.token.specs.Label.{isLabel};
 
@@ -261,17 +261,6 @@ pub fn words() -> [u8; WORD_TABLE]
     WORDS
 }
 
-// A byte in lower case.
-fn lower(c: u8) -> u8
-    ensures { λ r. ⌜ r ≡ lowered c ⌝ }
-{
-    if scan::is_within(b'A', b'Z', c as usize) {
-        c + (b'a' - b'A')
-    } else {
-        c
-    }
-}
-
 // Writes a word in lower case to the front of a buffer that it fits.
 fn lower_into(word: &[u8], buf: &mut [u8; WIDEST_WORD])
     requires { ⌜ length (now word) ≤ widestWord ⌝ }
@@ -279,7 +268,7 @@ fn lower_into(word: &[u8], buf: &mut [u8; WIDEST_WORD])
 {
     let mut i = 0;
     while i < word.len() {
-        buf[i] = lower(word[i]);
+        buf[i] = scan::lowered(word[i] as usize) as u8;
         i += 1;
     }
 }

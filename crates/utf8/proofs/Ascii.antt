@@ -3,18 +3,21 @@
 use Prim.Native.Nat.{ℕ, zero, suc, _<_, _≤_}
 use native.Mathlib.Omega.{arith}
 use native.Mathlib.Decide.{decLt, ℕ-discrete}
-use mathlib.Core.Bool.{Bool, true, false, cond, true≢false}
-use mathlib.Core.List.{List, [], _∷_}
+use mathlib.Core.Bool.{Bool, true, false, cond, _&&_, and-false, true≢false}
+use mathlib.Core.List.{List, [], _∷_, map}
 use mathlib.Core.Path.{_≡_, refl, sym, ap, _∙_}
-use lib.Dec.{ltb}
+use lib.Dec.{eqb, ltb}
 use lib.ListN.{length, replicate}
 use borrow.Author.Tests.{ltb-true, lt-ltb, le-ltb, eq-eqb, ne-eqb}
+use Rattle.scan.specs.Byte.{lowered}
+use Rattle.scan.specs.Text.{sameText}
 use Rattle.scan.proofs.Choice.{either, and-left, and-right}
+use Rattle.scan.proofs.Classes.{lowered-above}
 use Rattle.utf8.specs.Table.{tail, fits, charLength}
 use Rattle.utf8.specs.Lead.{sizeBy}
 use Rattle.utf8.specs.Code.{codeOf}
 use Rattle.utf8.specs.Text.{charsPast, codesOf, sizeOf, prefixEnd, WellFormed, isWellFormed}
-use Rattle.utf8.specs.Laws.{AsciiBytes, isAscii, AsciiText, AsciiCodes, ByBytes}
+use Rattle.utf8.specs.Laws.{AsciiBytes, isAscii, AsciiText, AsciiCodes, ByBytes, LoweredOther}
 use Rattle.utf8.proofs.Lead.{second, sized, char-by}
 use Rattle.utf8.proofs.Chars.{chars-none, chars-some}
 use Rattle.utf8.proofs.Codes.{one-byte}
@@ -77,3 +80,15 @@ by-bytes A other f away xs = go (isAscii xs) refl (ℕ-discrete (prefixEnd xs) (
     go true e d = let t = ascii-text xs e in rw (eq-eqb (prefixEnd xs) (length xs) (t .0), t .1)
     go false e (no n) = rw (ne-eqb (prefixEnd xs) (length xs) n) (away xs e)
     go false e (yes w) = rw (eq-eqb (prefixEnd xs) (length xs) w) (away xs e ∙ sym (away (codesOf xs) (other-codes xs w e)))
+
+pub lowered-other : LoweredOther
+unfolding sameText
+lowered-other [] t h a = absurd (true≢false h)
+lowered-other (y ∷ ys) [] h a = refl
+lowered-other (y ∷ ys) (c ∷ t) h a = go (decLt y 0x80) (lowered-other ys t)
+  where
+    go : Dec (y < 0x80) → (isAscii ys ≡ false → isAscii t ≡ true → sameText (map lowered ys) t ≡ false) → eqb (lowered y) c && sameText (map lowered ys) t ≡ false
+    go (yes l) ih = rw (ih (rw (lt-ltb y 0x80 l) at h) (and-right (ltb c 0x80) (isAscii t) a)) (and-false (eqb (lowered y) c))
+    go (no l) ih =
+        let k = ltb-true c 0x80 (and-left (ltb c 0x80) (isAscii t) a) in
+        rw (lowered-above y (omega arith), ne-eqb y c (λ z. omega arith))

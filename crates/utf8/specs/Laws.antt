@@ -2,14 +2,15 @@
 -- `proofs/Ascii` and `proofs/Bounds`.
 use Prim.Native.Nat.{ℕ, suc, _+_, _≤_, _<_, min}
 use mathlib.Core.Bool.{Bool, true, false, cond, _&&_}
-use mathlib.Core.List.{List, [], _∷_, _++_}
+use mathlib.Core.List.{List, [], _∷_, _++_, map}
 use mathlib.Core.Logic.{_↔_, _⊎_}
 use mathlib.Core.Path.{_≡_}
 use lib.Dec.{ltb}
 use lib.ListN.{length, take, drop}
 use Rattle.utf8.specs.declared.Character.the-variants.{Scalar, Nothing, IllFormed}
 use Rattle.utf8.specs.declared.Encoding.the-variants.{Written}
-use Rattle.scan.specs.Byte.{peekAt}
+use Rattle.scan.specs.Byte.{peekAt, lowered}
+use Rattle.scan.specs.Text.{sameText}
 use Rattle.utf8.specs.Table.{isTail, charLength}
 use Rattle.utf8.specs.Code.{codeOf, isScalar, encoded}
 use Rattle.utf8.specs.Text.{charOf, charsOf, codesOf, prefixEnd, WellFormed, isWellFormed, startOf, charNumber}
@@ -56,6 +57,10 @@ abbrev pub ByBytes : Type 1
 ByBytes =
     (A : Type 0) (other : A) (f : List ℕ → A) → ((ys : List ℕ) → isAscii ys ≡ false → f ys ≡ other) →
     (xs : List ℕ) → f xs ≡ cond (isWellFormed xs) (f (codesOf xs)) other
+
+-- and what is not ASCII is no ASCII text in any case of its letters
+abbrev pub LoweredOther : Type 0
+LoweredOther = (ys t : List ℕ) → isAscii ys ≡ false → isAscii t ≡ true → sameText (map lowered ys) t ≡ false
 
 -- an ASCII code point has one byte, itself, and no code point has more than four
 abbrev pub AsciiBytes : Type 0

@@ -9,8 +9,8 @@ use borrow.Author.Needs.{needs}
 use denote.Ref.{now}
 use lib.ListN.{length, getD, drop, length-map, drop-of-length-le, List·getD-map}
 use lib.Seq.{drop-cons, sets}
-use Rattle.scan.specs.Byte.{isWithin}
-use Rattle.token.specs.Words.{lowered}
+use Rattle.scan.proofs.Classes.{lowered-byte}
+use Rattle.scan.specs.Byte.{isWithin, lowered}
 use Rattle.token.proofs.lower_into.Statement.{statement}
 use Rattle.token.proofs.lower_into.Tie as tie
 
@@ -23,11 +23,17 @@ abbrev μ-loop : tie.MeasureT-loop
 loop-holds : tie.Need-loop-holds Inv-loop μ-loop
 loop-holds c = (search needs, refl)
 
-shared-slice-read-lower : tie.Need-shared-slice-read-lower Inv-loop μ-loop
-shared-slice-read-lower c = search needs
+shared-slice-read-lowered : tie.Need-shared-slice-read-lowered Inv-loop μ-loop
+shared-slice-read-lowered c = search needs
 
-lower-requires : tie.Need-lower-requires Inv-loop μ-loop
-lower-requires c κs = search needs
+cast-lowered : tie.Need-cast-lowered Inv-loop μ-loop
+cast-lowered c = omega (arith, c .shared-slice-known2 .given (c .before .before .loop .i))
+
+lowered-requires : tie.Need-lowered-requires Inv-loop μ-loop
+lowered-requires c κs = search needs
+
+cast-buf : tie.Need-cast-buf Inv-loop μ-loop
+cast-buf c = omega (arith, c .lowered .ensures, lowered-byte (getD (now (c .before .before .before .before .before .args .word)) (c .before .before .before .loop .i) 0) (omega (arith, c .before .shared-slice-known2 .given (c .before .before .before .loop .i))))
 
 element-write-buf : tie.Need-element-write-buf Inv-loop μ-loop
 element-write-buf c = omega arith
@@ -47,7 +53,7 @@ loop-again : tie.Need-loop-again Inv-loop μ-loop
 loop-again c =
     let w = now (c .before .before .before .before .before .args .word) in
     let i = c .before .before .before .loop .i in
-    (omega arith, c .before .before .before .loop .inv .1 ∙ rw (drop-cons (map lowered w) i 0 (omega (arith, length-map w lowered)), letter w i, ← c .lower .ensures, add-one))
+    (omega arith, c .before .before .before .loop .inv .1 ∙ rw (drop-cons (map lowered w) i 0 (omega (arith, length-map w lowered)), letter w i, ← c .lowered .ensures, add-one))
 
 returns : tie.Need-returns Inv-loop μ-loop
 returns c =
@@ -63,8 +69,10 @@ lower-into-spec =
     Inv-loop
     μ-loop
     loop-holds
-    shared-slice-read-lower
-    lower-requires
+    shared-slice-read-lowered
+    cast-lowered
+    lowered-requires
+    cast-buf
     element-write-buf
     add-i
     loop-less

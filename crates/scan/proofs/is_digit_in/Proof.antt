@@ -1,8 +1,8 @@
--- Each way out knows what the two tests said.
+-- `scan::is_digit_in` meets its contract: each way out knows what the two tests said.
 use borrow.Author.Needs.{needs}
-use Rattle.tile.specs.Tile.{isDigitIn}
-use Rattle.tile.proofs.is_digit_in.Statement.{statement}
-use Rattle.tile.proofs.is_digit_in.Tie as tie
+use Rattle.scan.specs.Byte.{isDigitIn}
+use Rattle.scan.proofs.is_digit_in.Statement.{statement}
+use Rattle.scan.proofs.is_digit_in.Tie as tie
 
 is-hex-digit-requires : tie.Need-is-hex-digit-requires
 is-hex-digit-requires c κs = search needs
