@@ -5,10 +5,10 @@ use Prim.Native.Char.{code}
 use native.Mathlib.Nat.{le-of-suc-le-suc, not-suc-le-zero}
 use native.Mathlib.Omega.{arith}
 use mathlib.Core.Bool.{Bool, true, false, _||_, and-false}
-use mathlib.Core.List.{List, [], _∷_}
+use mathlib.Core.List.{List, [], _∷_, map}
 use mathlib.Core.Path.{_≡_, refl}
 use lib.Dec.{leb, ltb}
-use lib.ListN.{length, getD}
+use lib.ListN.{length, getD, List·getD-map}
 use borrow.Author.Tests.{le-leb, lt-leb, leb-true}
 use Rattle.scan.specs.declared.Class.{Class}
 use Rattle.scan.specs.declared.Class.the-variants.{Space, Alpha, Digit, HexDigit, AlphaNumeric, Word, Line}
@@ -80,3 +80,7 @@ lowered-above c h = rw (above-not (code "A") (code "Z") c (omega arith))
 pub lowered-ascii : (c : ℕ) → c < 0x80 → lowered c < 0x80
 unfolding lowered
 lowered-ascii c h = either (λ n. n < 0x80) (isWithin (code "A") (code "Z") c) (λ e. omega (arith, within-bounds (code "A") (code "Z") c e)) (λ e. h)
+
+pub lowered-at : (xs : List ℕ) (i : ℕ) → getD (map lowered xs) i 0 ≡ lowered (getD xs i 0)
+unfolding lowered isWithin
+lowered-at xs i = List·getD-map lowered xs i 0

@@ -2,15 +2,15 @@
 -- all of them written from its front.
 use native.Mathlib.Numerals.{add-one}
 use native.Mathlib.Omega.{arith}
-use Prim.Native.Nat.{ℕ, _-_, _≤_}
-use mathlib.Core.List.{List, [], map}
+use Prim.Native.Nat.{_-_, _≤_}
+use mathlib.Core.List.{[], map}
 use mathlib.Core.Path.{_≡_, refl, sym, _∙_}
 use borrow.Author.Needs.{needs}
 use denote.Ref.{now}
-use lib.ListN.{length, getD, drop, length-map, drop-of-length-le, List·getD-map}
+use lib.ListN.{length, getD, drop, length-map, drop-of-length-le}
 use lib.Seq.{drop-cons, sets}
-use Rattle.scan.proofs.Classes.{lowered-byte}
-use Rattle.scan.specs.Byte.{isWithin, lowered}
+use Rattle.scan.proofs.Classes.{lowered-byte, lowered-at}
+use Rattle.scan.specs.Byte.{lowered}
 use Rattle.token.proofs.lower_into.Statement.{statement}
 use Rattle.token.proofs.lower_into.Tie as tie
 
@@ -44,16 +44,11 @@ add-i c = omega arith
 loop-less : tie.Need-loop-less Inv-loop μ-loop
 loop-less c = omega arith
 
--- the letter that is written is the next of those that are left
-letter : (xs : List ℕ) (i : ℕ) → getD (map lowered xs) i 0 ≡ lowered (getD xs i 0)
-unfolding lowered isWithin
-letter xs i = List·getD-map lowered xs i 0
-
 loop-again : tie.Need-loop-again Inv-loop μ-loop
 loop-again c =
     let w = now (c .before .before .before .before .before .args .word) in
     let i = c .before .before .before .loop .i in
-    (omega arith, c .before .before .before .loop .inv .1 ∙ rw (drop-cons (map lowered w) i 0 (omega (arith, length-map w lowered)), letter w i, ← c .lowered .ensures, add-one))
+    (omega arith, c .before .before .before .loop .inv .1 ∙ rw (drop-cons (map lowered w) i 0 (omega (arith, length-map w lowered)), lowered-at w i, ← c .lowered .ensures, add-one))
 
 returns : tie.Need-returns Inv-loop μ-loop
 returns c =

@@ -1,0 +1,9 @@
+pub mod Runs
+pub mod Table
+pub mod Powers
+pub mod Values
+pub mod Signs
+pub mod Places
+pub mod Zeros
+pub mod Caps
+pub mod Characters

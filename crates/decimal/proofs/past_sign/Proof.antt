@@ -1,0 +1,23 @@
+-- Each way out knows whether a sign stands there.
+use native.Mathlib.Numerals.{add-one}
+use borrow.Author.Needs.{needs}
+use Rattle.decimal.proofs.past_sign.Statement.{statement}
+use Rattle.decimal.proofs.past_sign.Tie as tie
+
+peek-requires : tie.Need-peek-requires
+peek-requires c κs = search needs
+
+is-sign-requires : tie.Need-is-sign-requires
+is-sign-requires c κs = search needs
+
+add-result : tie.Need-add-result
+add-result c = search needs
+
+returns : tie.Need-returns
+returns c = rw (← c .before .before .peek .ensures, ← c .before .is-sign .ensures, c .if1 .taken, add-one)
+
+returns-2 : tie.Need-returns-2
+returns-2 c = rw (← c .before .before .peek .ensures, ← c .before .is-sign .ensures, c .if1 .left)
+
+pub past-sign-spec : {M : Type 1} → statement M
+past-sign-spec = tie.close (tie.spec peek-requires is-sign-requires add-result returns returns-2)

@@ -1,0 +1,447 @@
+// Decimal texts, by the grammar of Rust's f64, and their values where these are exact; the number that every reader of numbers answers with.
+use scan::Class;
+ghost use mathlib.Core.Bool.{false, _&&_, _||_};
+ghost use mathlib.Core.Path.{_≡_};
+ghost use Prim.Native.Nat.{suc, _+_, _≤_, min};
+ghost use mathlib.Core.List.{_++_, map};
+ghost use lib.IntN.{pos};
+ghost use lib.Ieee.{fin, inf, nan};
+ghost use lib.ListN.{length};
+ghost use Rattle.scan.specs.Ascii.{ascii};
+ghost use Rattle.scan.specs.Byte.{lowered};
+ghost use Rattle.scan.specs.Text.{sameText};
+ghost use Rattle.decimal.specs.declared.Decimal.the-variants.{Named};
+ghost use Rattle.decimal.specs.Grammar.{isSign, pastSign, pastPoint, isExponent, isMinus, pastExponent, between, partsOf, hasDigits, isExponentWhole, isNumeral};
+ghost use Rattle.decimal.specs.Value.{radixOf, valueFrom, valueOf, mostTold, trailing, trimmed, largest, steps, longest, isExact, nearest, plain, scaledBy, numeralRead, decimalOf};
+ghost use Rattle.decimal.specs.Scaled.{tenTo};
+
+// How a number was written.
+pub enum Notation {
+    Decimal,
+    Hex,
+    Octal,
+}
+
+// A number: its value, and how it was written.
+pub struct Number {
+    pub value: f64,
+    pub notation: Notation,
+}
+
+// What a text is: no decimal; infinity or NaN by name; a decimal in the exact range, or a negative or positive one outside it.
+pub enum Decimal {
+    NotDecimal,
+    Named(Number),
+    Exact(Number),
+    Outside(bool),
+}
+
+// Where the digits of a text's parts begin and end.
+pub struct Parts {
+    pub whole_from: usize,
+    pub whole_to: usize,
+    pub fraction_from: usize,
+    pub fraction_to: usize,
+    pub exponent_from: usize,
+    pub exponent_to: usize,
+}
+
+// A sign.
+fn is_sign(c: usize) -> bool
+    ensures { λ r. ⌜ r ≡ isSign c ⌝ }
+{
+    c == b'+' as usize || c == b'-' as usize
+}
+
+// The place past a sign, where one stands.
+fn past_sign(s: &[u8], at: usize) -> usize
+    requires { ⌜ at ≤ length (now s) ⌝ }
+    ensures { λ r. ⌜ r ≡ pastSign (now (s .entry)) at ⌝ }
+{
+    if is_sign(scan::peek(s, at)) {
+        at + 1
+    } else {
+        at
+    }
+}
+
+// The place past a point, where one stands.
+fn past_point(s: &[u8], at: usize) -> usize
+    requires { ⌜ at ≤ length (now s) ⌝ }
+    ensures { λ r. ⌜ r ≡ pastPoint (now (s .entry)) at ⌝ }
+{
+    if scan::peek(s, at) == b'.' as usize {
+        at + 1
+    } else {
+        at
+    }
+}
+
+// Whether an exponent begins at a place.
+fn is_exponent(s: &[u8], at: usize) -> bool
+    ensures { λ r. ⌜ r ≡ isExponent (now (s .entry)) at ⌝ }
+{
+    scan::lowered(scan::peek(s, at)) == b'e' as usize
+}
+
+// The place past an `e` and its sign, where it stands.
+fn past_exponent(s: &[u8], at: usize) -> usize
+    requires { ⌜ at ≤ length (now s) ⌝ }
+    ensures { λ r. ⌜ r ≡ pastExponent (now (s .entry)) at ⌝ }
+{
+    if is_exponent(s, at) {
+        return past_sign(s, at + 1);
+    }
+    at
+}
+
+// Where the parts of a text lie.
+fn parts_of(s: &[u8]) -> Parts
+    ensures { λ r. ⌜ r ≡ partsOf (now (s .entry)) ⌝ }
+{
+    let whole_from = past_sign(s, 0);
+    let whole_to = scan::run_end(Class::Digit, s, whole_from);
+    let fraction_from = past_point(s, whole_to);
+    let fraction_to = scan::run_end(Class::Digit, s, fraction_from);
+    let exponent_from = past_exponent(s, fraction_to);
+    let exponent_to = scan::run_end(Class::Digit, s, exponent_from);
+    Parts {
+        whole_from,
+        whole_to,
+        fraction_from,
+        fraction_to,
+        exponent_from,
+        exponent_to,
+    }
+}
+
+// Whether there are digits before the point or behind it.
+fn has_digits(p: Parts) -> bool
+    ensures { λ r. ⌜ r ≡ hasDigits p ⌝ }
+{
+    p.whole_from < p.whole_to || p.fraction_from < p.fraction_to
+}
+
+// Whether an exponent has digits, where there is one.
+fn is_exponent_whole(s: &[u8], p: Parts) -> bool
+    ensures { λ r. ⌜ r ≡ isExponentWhole (now (s .entry)) p ⌝ }
+{
+    !is_exponent(s, p.fraction_to) || p.exponent_from < p.exponent_to
+}
+
+// Whether a text is digits with a point and an exponent, and nothing else, by where its parts lie.
+fn is_numeral(s: &[u8], p: Parts) -> bool
+    requires { ⌜ p ≡ partsOf (now s) ⌝ }
+    ensures { λ r. ⌜ r ≡ isNumeral (now (s .entry)) ⌝ }
+{
+    has_digits(p) && (is_exponent_whole(s, p) && p.exponent_to == s.len())
+}
+
+// Whether a word is a name, in any case of its letters.
+fn is_named(word: &[u8], name: &[u8]) -> bool
+    ensures { λ r. ⌜ r ≡ sameText (map lowered (now (word .entry))) (now (name .entry)) ⌝ }
+{
+    if word.len() != name.len() {
+        return false;
+    }
+    let mut i = 0;
+    while i < word.len() {
+        if scan::lowered(word[i] as usize) != name[i] as usize {
+            return false;
+        }
+        i += 1;
+    }
+    true
+}
+
+// The most that a reader of digits tells apart: it is above each magnitude of a signed 64-bit integer.
+pub const MOST_TOLD: u64 = 0x8000_0000_0000_0001;
+
+// How many digits a notation has.
+pub fn radix(notation: Notation) -> usize
+    ensures { λ r. ⌜ r ≡ radixOf notation ⌝ }
+{
+    match notation {
+        Notation::Decimal => 10,
+        Notation::Hex => 16,
+        Notation::Octal => 8,
+    }
+}
+
+// A number, or the most that is told apart.
+fn capped(n: u64) -> u64
+    ensures { λ r. ⌜ r ≡ min mostTold n ⌝ }
+{
+    if n < MOST_TOLD { n } else { MOST_TOLD }
+}
+
+// What digits of a notation amount to behind those that amount to `start`, or the most that is told apart.
+pub fn digits_value(start: u64, notation: Notation, digits: &[u8]) -> u64
+    ensures { λ r. ⌜ r ≡ min mostTold (valueFrom (radixOf notation) start (now (digits .entry))) ⌝ }
+{
+    let radix = radix(notation) as u64;
+    let last = MOST_TOLD / radix;
+    let mut value = start;
+    let mut i = 0;
+    while i < digits.len() {
+        if last < value {
+            return MOST_TOLD;
+        }
+        value = value * radix + scan::digit_of(digits[i] as usize) as u64;
+        i += 1;
+    }
+    capped(value)
+}
+
+// How many zeros the digits between two offsets end with.
+fn zeros_before(s: &[u8], from: usize, to: usize) -> usize
+    requires { ⌜ (from ≤ to) × (to ≤ length (now s)) ⌝ }
+    ensures { λ r. ⌜ r ≡ trailing (between (now (s .entry)) from to) ⌝ }
+{
+    let mut at = to;
+    while from < at {
+        if scan::digit_of(s[at - 1] as usize) != 0 {
+            return to - at;
+        }
+        at -= 1;
+    }
+    to - at
+}
+
+// The greatest whole number up to which an f64 holds each, and the greatest power of ten that it holds exactly.
+const LARGEST: u64 = 0x20_0000_0000_0000;
+
+const STEPS: usize = 22;
+
+// What the digits of a text amount to without the zeros that they end with, or the most that is told apart.
+fn significand(
+    s: &[u8],
+    whole_from: usize,
+    whole_to: usize,
+    fraction_from: usize,
+    fraction_to: usize,
+) -> u64
+    requires { ⌜ («whole_from» ≤ «whole_to») × («whole_to» ≤ length (now s)) ⌝ }
+    requires { ⌜ («fraction_from» ≤ «fraction_to») × («fraction_to» ≤ length (now s)) ⌝ }
+    ensures { λ r. ⌜ r ≡ min mostTold (valueOf (trimmed (between (now (s .entry)) «whole_from» «whole_to» ++ between (now (s .entry)) «fraction_from» «fraction_to»))) ⌝ }
+{
+    let zeros = zeros_before(s, fraction_from, fraction_to);
+    if zeros == fraction_to - fraction_from {
+        let more = zeros_before(s, whole_from, whole_to);
+        return digits_value(0, Notation::Decimal, &s[whole_from..whole_to - more]);
+    }
+    let whole = digits_value(0, Notation::Decimal, &s[whole_from..whole_to]);
+    digits_value(
+        whole,
+        Notation::Decimal,
+        &s[fraction_from..fraction_to - zeros],
+    )
+}
+
+// 10 ^ 0 to 10 ^ 22, each of which an `f64` holds exactly.
+const POWERS: [f64; 23] = [
+    1.0,
+    10.0,
+    100.0,
+    1000.0,
+    10000.0,
+    100000.0,
+    1000000.0,
+    10000000.0,
+    100000000.0,
+    1000000000.0,
+    1e10,
+    1e11,
+    1e12,
+    1e13,
+    1e14,
+    1e15,
+    1e16,
+    1e17,
+    1e18,
+    1e19,
+    1e20,
+    1e21,
+    1e22,
+];
+
+// A power of ten.
+fn power(e: usize) -> f64
+    requires { ⌜ e ≤ steps ⌝ }
+    ensures { λ r. ⌜ r ≡ tenTo e ⌝ }
+{
+    POWERS[e]
+}
+
+// The f64 nearest to w times one power of ten over another, of which neither is more than 10 ^ 22 times the other: one rounded
+// multiplication or division of two exact values.
+fn magnitude(w: u64, raised: usize, reduced: usize) -> f64
+    requires { ⌜ (w ≤ largest) × (raised ≤ reduced + steps) × (reduced ≤ raised + steps) ⌝ }
+    ensures { λ r. ⌜ r ≡ nearest false w raised reduced ⌝ }
+{
+    if reduced <= raised {
+        return w as f64 * power(raised - reduced);
+    }
+    w as f64 / power(reduced - raised)
+}
+
+// The same with a sign.
+fn nearest(negative: bool, w: u64, raised: usize, reduced: usize) -> f64
+    requires { ⌜ (w ≤ largest) × (raised ≤ reduced + steps) × (reduced ≤ raised + steps) ⌝ }
+    ensures { λ r. ⌜ r ≡ nearest negative w raised reduced ⌝ }
+{
+    let r = magnitude(w, raised, reduced);
+    if negative { -r } else { r }
+}
+
+// What an exponent amounts to, or the most that is told apart.
+fn exponent(s: &[u8], from: usize, to: usize) -> usize
+    requires { ⌜ (from ≤ to) × (to ≤ length (now s)) ⌝ }
+    ensures { λ r. ⌜ r ≡ min mostTold (valueOf (between (now (s .entry)) from to)) ⌝ }
+{
+    digits_value(0, Notation::Decimal, &s[from..to]) as usize
+}
+
+// A zero, which keeps its sign.
+fn zero(negative: bool) -> f64
+    ensures { λ r. ⌜ r ≡ fin negative 0 (pos 0) ⌝ }
+{
+    if negative { -0.0 } else { 0.0 }
+}
+
+// Whether w times one power of ten over another is exact.
+fn is_exact(w: u64, raised: usize, reduced: usize) -> bool
+    requires { ⌜ (raised ≤ mostTold + longest) × (reduced ≤ mostTold + longest) ⌝ }
+    ensures { λ r. ⌜ r ≡ isExact w raised reduced ⌝ }
+{
+    w <= LARGEST && (raised <= reduced + STEPS && reduced <= raised + STEPS)
+}
+
+// The value of w times one power of ten over another, where it is exact.
+fn scaled_by(negative: bool, w: u64, raised: usize, reduced: usize) -> Decimal
+    requires { ⌜ (raised ≤ mostTold + longest) × (reduced ≤ mostTold + longest) ⌝ }
+    ensures { λ r. ⌜ r ≡ scaledBy negative w raised reduced ⌝ }
+{
+    if w == 0 {
+        let value = zero(negative);
+        return Decimal::Exact(Number {
+            value,
+            notation: Notation::Decimal,
+        });
+    }
+    if !is_exact(w, raised, reduced) {
+        return Decimal::Outside(negative);
+    }
+    let value = nearest(negative, w, raised, reduced);
+    Decimal::Exact(Number {
+        value,
+        notation: Notation::Decimal,
+    })
+}
+
+// Whether a minus stands at a place.
+fn is_minus(s: &[u8], at: usize) -> bool
+    ensures { λ r. ⌜ r ≡ isMinus (now (s .entry)) at ⌝ }
+{
+    scan::peek(s, at) == b'-' as usize
+}
+
+// Whether a negative exponent begins at a place.
+fn is_lowered(s: &[u8], at: usize) -> bool
+    requires { ⌜ at ≤ longest ⌝ }
+    ensures { λ r. ⌜ r ≡ isExponent (now (s .entry)) at && isMinus (now (s .entry)) (suc at) ⌝ }
+{
+    is_exponent(s, at) && is_minus(s, at + 1)
+}
+
+// How many zeros the digits of a text end with.
+fn trailing_zeros(
+    s: &[u8],
+    whole_from: usize,
+    whole_to: usize,
+    fraction_from: usize,
+    fraction_to: usize,
+) -> usize
+    requires { ⌜ («whole_from» ≤ «whole_to») × («whole_to» ≤ length (now s)) × (length (now s) ≤ longest) ⌝ }
+    requires { ⌜ («fraction_from» ≤ «fraction_to») × («fraction_to» ≤ length (now s)) ⌝ }
+    ensures { λ r. ⌜ r ≡ trailing (between (now (s .entry)) «whole_from» «whole_to» ++ between (now (s .entry)) «fraction_from» «fraction_to») ⌝ }
+{
+    let zeros = zeros_before(s, fraction_from, fraction_to);
+    if zeros == fraction_to - fraction_from {
+        let more = zeros_before(s, whole_from, whole_to);
+        return zeros + more;
+    }
+    zeros
+}
+
+// The value of a numeral, by where its parts lie.
+fn numeral(s: &[u8], p: Parts) -> Decimal
+    requires { ⌜ (p ≡ partsOf (now s)) × (length (now s) ≤ longest) ⌝ }
+    ensures { λ r. ⌜ r ≡ numeralRead (now (s .entry)) ⌝ }
+{
+    let w = significand(s, p.whole_from, p.whole_to, p.fraction_from, p.fraction_to);
+    let zeros = trailing_zeros(s, p.whole_from, p.whole_to, p.fraction_from, p.fraction_to);
+    let e = exponent(s, p.exponent_from, p.exponent_to);
+    let behind = p.fraction_to - p.fraction_from;
+    let negative = is_minus(s, 0);
+    if is_lowered(s, p.fraction_to) {
+        return scaled_by(negative, w, zeros, behind + e);
+    }
+    scaled_by(negative, w, zeros + e, behind)
+}
+
+// Whether a word is infinity's name.
+fn is_infinite(word: &[u8]) -> bool
+    ensures { λ r. ⌜ r ≡ sameText (map lowered (now (word .entry))) (ascii "inf") || sameText (map lowered (now (word .entry))) (ascii "infinity") ⌝ }
+{
+    is_named(word, b"inf") || is_named(word, b"infinity")
+}
+
+// A value that has a name.
+fn named(value: f64) -> Decimal
+    ensures { λ r. ⌜ r ≡ Named (plain value) ⌝ }
+{
+    Decimal::Named(Number {
+        value,
+        notation: Notation::Decimal,
+    })
+}
+
+// Infinity, with its sign.
+fn infinite(negative: bool) -> f64
+    ensures { λ r. ⌜ r ≡ inf negative ⌝ }
+{
+    if negative { -1.0 / 0.0 } else { 1.0 / 0.0 }
+}
+
+// The one NaN.
+fn not_a_number() -> f64
+    ensures { λ r. ⌜ r ≡ nan ⌝ }
+{
+    0.0 / 0.0
+}
+
+// The most bytes of a decimal text.
+pub const LONGEST: usize = 256;
+
+// What a text is, as a decimal.
+pub fn read_decimal(s: &[u8]) -> Decimal
+    ensures { λ r. ⌜ r ≡ decimalOf (now (s .entry)) ⌝ }
+{
+    if LONGEST < s.len() {
+        return Decimal::NotDecimal;
+    }
+    let from = past_sign(s, 0);
+    let word = &s[from..];
+    if is_infinite(word) {
+        return named(infinite(is_minus(s, 0)));
+    }
+    if is_named(word, b"nan") {
+        return named(not_a_number());
+    }
+    let p = parts_of(s);
+    if !is_numeral(s, p) {
+        return Decimal::NotDecimal;
+    }
+    numeral(s, p)
+}
