@@ -8,10 +8,8 @@ use mathlib.Core.Path.{_≡_}
 use lib.Dec.{leb}
 use borrow.Author.Tests.{le-leb, leb-true, eq-eqb, ne-eqb}
 use Rattle.scan.proofs.Tests.{Tests, affirmed, decided, tests-and}
+use Rattle.decimal.specs.Laws.{InRange}
 use Rattle.decimal.specs.Value.{mostTold, longest, largest, steps, isExact, scaledBy}
-
-abbrev pub InRange : ℕ → ℕ → ℕ → Type 0
-InRange w up down = (w ≤ largest) × ((up ≤ down + steps) × (down ≤ up + steps))
 
 tests-le : (a b : ℕ) → Tests (leb a b) (a ≤ b)
 tests-le a b = (leb-true a b, le-leb a b)

@@ -23,6 +23,7 @@ use Rattle.decimal.specs.declared.Decimal.{Decimal}
 use Rattle.decimal.specs.declared.Decimal.the-variants.{NotDecimal}
 use Rattle.decimal.specs.Grammar.{isSign, pastSign, pastPoint, isExponent, pastExponent, wholeFrom, wholeTo, fractionFrom, fractionTo, exponentFrom, exponentTo, partsOf, hasDigits, isExponentWhole, isNumeral, isNamed, isInfinite, isNan}
 use Rattle.decimal.specs.Value.{longest, decimalIn, decimalOf}
+use Rattle.decimal.specs.Laws.{ByCharacters}
 
 -- the places before n hold ASCII
 abbrev AsciiTo : List ℕ → ℕ → Type 0
@@ -120,6 +121,6 @@ other-none xs h =
     go true = refl
     go false = refl
 
-pub by-characters : (xs : List ℕ) → decimalIn xs ≡ decimalOf xs
+pub by-characters : ByCharacters
 unfolding decimalOf
 by-characters xs = by-bytes Decimal NotDecimal decimalIn other-none xs

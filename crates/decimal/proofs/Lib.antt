@@ -7,3 +7,6 @@ pub mod Places
 pub mod Zeros
 pub mod Caps
 pub mod Characters
+pub mod Exactness
+pub mod Given
+pub mod Unique
