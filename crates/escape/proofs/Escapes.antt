@@ -1,7 +1,7 @@
 -- Laws of escaping. A byte is escaped to one or two; text escaped byte by byte is the text escaped by characters, since the five that
 -- have a letter are ASCII, and the bytes of a longer character have none.
 use Prim.Native.Nat.{ℕ, suc, _+_, _<_, _≤_}
-use native.Mathlib.Nat.{add-zero, zero-add, add-suc, suc-add}
+use native.Mathlib.Nat.{zero-add}
 use native.Mathlib.Numerals.{add-one}
 use native.Mathlib.Omega.{arith}
 use native.Mathlib.Decide.{decLt}
@@ -9,7 +9,7 @@ use mathlib.Core.Bool.{Bool, true, false, cond}
 use mathlib.Core.List.{List, [], _∷_, _++_, append-assoc, append-nil}
 use mathlib.Core.Path.{_≡_, refl, sym, ap, _∙_}
 use lib.Dec.{eqb, leb}
-use lib.ListN.{length, getD, set, drop}
+use lib.ListN.{length, getD, drop}
 use lib.Seq.{take-length, drop-cons, sets, sets-eq}
 use borrow.Author.Tests.{eq-eqb, ne-eqb, le-leb, lt-leb, lt-ltb}
 use Rattle.scan.specs.Byte.{peekAt, backslash}
@@ -59,11 +59,6 @@ next xs i h = rw (drop-cons xs i 0 h, add-one)
 pub none : escapedBytes [] ≡ []
 unfolding escapedBytes
 none = refl
-
--- what is stored in two parts is stored one after the other
-pub sets-join : (d xs ys : List ℕ) (at : ℕ) → sets d at (xs ++ ys) ≡ sets (sets d at xs) (at + length xs) ys
-sets-join d [] ys at = rw (add-zero at)
-sets-join d (x ∷ xs) ys at = rw (add-suc at (length xs), ← suc-add at (length xs)) (sets-join (set d at x) xs ys (suc at))
 
 -- what is not ASCII has no letter
 high : (c : ℕ) → 0x80 ≤ c → letterOf c ≡ noLetter

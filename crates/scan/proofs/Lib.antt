@@ -5,5 +5,6 @@ pub mod Below
 pub mod Classes
 pub mod Runs
 pub mod Same
+pub mod Stores
 pub mod One
 pub mod Unique

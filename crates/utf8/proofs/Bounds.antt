@@ -4,10 +4,11 @@ use Prim.Native.Nat.{ℕ, suc, _+_, _-_, _<_, _≤_}
 use native.Mathlib.Omega.{arith}
 use mathlib.Core.List.{List, [], _∷_}
 use mathlib.Core.Logic.{_⊎_, inl, inr}
-use mathlib.Core.Path.{_≡_, refl, _∙_}
+use mathlib.Core.Path.{_≡_, refl, ap, _∙_}
 use lib.Dec.{leb, ltb, eqb}
 use lib.ListN.{length, drop, length-drop}
-use borrow.Author.Tests.{le-leb, lt-leb, leb-false, ltb-false, lt-ltb, eq-eqb, ne-eqb}
+use lib.Seq.{drop-drop}
+use borrow.Author.Tests.{le-leb, lt-leb, leb-false, ltb-false, lt-ltb, eq-eqb, ne-eqb, eqb-true, eqb-false}
 use Rattle.utf8.specs.declared.Refusal.{Refusal}
 use Rattle.utf8.specs.declared.Admission.{Admission}
 use Rattle.utf8.specs.declared.Admission.the-variants.{Admitted, Refused}
@@ -18,12 +19,13 @@ use Rattle.utf8.specs.declared.Encoding.the-variants.{Written, NotScalar
 use Rattle.utf8.specs.Table.{charLength}
 use Rattle.utf8.specs.Code.{codeOf, isScalar, encoded}
 use Rattle.utf8.specs.Text.{Char, charsOf, sizeOf, prefixEnd, begunIn, charNumber}
-use Rattle.utf8.specs.Laws.{ByteScalar, EncodingFits, FirstCharacter, FirstAscii, FewBytes}
+use Rattle.utf8.specs.Laws.{ByteScalar, EncodingFits, FirstCharacter, FirstAscii, FewBytes, StandsAt, CharacterStands}
 use Rattle.utf8.specs.Answers.{validityOf, admittedAs, admitted, characterAt, encodingOf}
 use Rattle.scan.proofs.Choice.{either}
-use Rattle.utf8.proofs.Chars.{char-bound}
+use Rattle.utf8.proofs.Chars.{char-bound, chars-some}
 use Rattle.utf8.proofs.Texts.{Filled, filled, prefix-bound}
-use Rattle.utf8.proofs.Laws.{ascii-length, ascii-code}
+use Rattle.utf8.proofs.Laws.{none-empty, rest-text, ascii-length, ascii-code}
+use Rattle.utf8.proofs.Inverse.{decode-encode}
 
 -- characters that have bytes are no more than their bytes
 filled-bound : (cs : List Char) → Filled cs → length cs ≤ sizeOf cs
@@ -76,6 +78,24 @@ character-within xs at =
     (λ e. either (Within xs at) (eqb (charLength (drop at xs)) 0)
     (λ t. leb-false (length xs) at e)
     (λ t. omega (arith, char-bound (drop at xs), length-drop at xs)))
+
+-- text is empty where no character begins; so before its end one does
+pub character-stands : CharacterStands
+unfolding characterAt
+character-stands xs at l w =
+    let rest = drop at xs in
+    let k = length-drop at xs in
+    rw (lt-leb (length xs) at l)
+    (either (StandsAt xs at) (eqb (charLength rest) 0)
+    (λ e. omega (arith, k, ap length (none-empty rest (eqb-true (charLength rest) 0 e) w)))
+    (λ e. let h : 0 < charLength rest = omega (arith, eqb-false (charLength rest) 0 e) in
+    record {
+      some = h;
+      within = omega (arith, k, char-bound rest);
+      scalar = decode-encode rest h .0;
+      codes = rw (chars-some rest h, drop-drop);
+      behind = rw drop-drop at (rest-text rest h w);
+    }))
 
 pub first-character : FirstCharacter
 unfolding characterAt

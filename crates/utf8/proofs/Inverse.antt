@@ -18,9 +18,9 @@ use Rattle.utf8.specs.declared.Character.the-variants.{Scalar, IllFormed
 use Rattle.utf8.specs.Table.{tail, isTail, fits, charLength}
 use Rattle.utf8.specs.Lead.{sizeBy, lowSecond, highSecond, withTails}
 use Rattle.utf8.specs.Code.{codeOf, isScalar, sixBits, encoded}
-use Rattle.utf8.specs.Text.{charsPast, sizeOf, WellFormed}
+use Rattle.utf8.specs.Text.{charsPast, codesOf, sizeOf, WellFormed}
 use Rattle.utf8.specs.Answers.{characterOf}
-use Rattle.utf8.specs.Laws.{EncodeDecode, DecodeEncode, LongCode, textOf, AllScalar, TextIs}
+use Rattle.utf8.specs.Laws.{EncodeDecode, DecodeEncode, LongCode, textOf, AllScalar, TextIs, CodesText}
 use Rattle.utf8.proofs.Lead.{second, sized, char-by, char-tests}
 use Rattle.utf8.proofs.Chars.{char-bound}
 use Rattle.utf8.proofs.Codes.{one-byte, two-bytes, three-bytes, four-bytes}
@@ -346,17 +346,16 @@ text-well : (cs : List ℕ) → AllScalar cs → WellFormed (textOf cs)
 text-well [] a = unfold charsPast sizeOf in refl
 text-well (c ∷ cs) a = well-join (encoded c) (textOf cs) (encoded-one c (a .0)) (text-well cs (a .1))
 
-abbrev Written : List ℕ → Type 0
-Written xs = (cs : List ℕ) × AllScalar cs × (textOf cs ≡ xs)
-
-written-more : (bs ys : List ℕ) → One bs → (WellFormed ys → Written ys) → WellFormed (bs ++ ys) → Written (bs ++ ys)
-written-more bs ys o ih w =
+-- the code points of a text are characters, and have its bytes
+pub codes-text : CodesText
+codes-text =
+    by-characters (λ xs. WellFormed xs → AllScalar (codesOf xs) × (textOf (codesOf xs) ≡ xs))
+    (λ xs e w. rw (none-empty xs e w) (unfold charsPast in (tt, refl)))
+    (λ bs ys o ih w.
     let t = ih (rest-well bs ys o w) in
     let b = rw (o .whole) at (decode-encode bs (omega (arith, o .some, o .whole))) in
-    (codeOf (length bs) bs ∷ t .0, (b .0, t .1), ap₂ _++_ (b .1 ∙ take-length bs) (t .2))
+    rw (chars-one bs ys o) ((b .0, t .0), ap₂ _++_ (b .1 ∙ take-length bs) (t .1)))
 
 pub text-is : TextIs
-text-is xs = (
-  by-characters (λ xs. WellFormed xs → Written xs) (λ xs e w. ([], tt, sym (none-empty xs e w))) written-more xs,
-  λ t. subst WellFormed (t .2) (text-well (t .0) (t .1)),
-)
+text-is xs =
+    ((λ w. let t = codes-text xs w in (codesOf xs, t .0, t .1)), λ t. subst WellFormed (t .2) (text-well (t .0) (t .1)))

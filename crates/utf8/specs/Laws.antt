@@ -7,6 +7,7 @@ use mathlib.Core.Logic.{_↔_, _⊎_}
 use mathlib.Core.Path.{_≡_}
 use lib.Dec.{ltb}
 use lib.ListN.{length, take, drop}
+use Rattle.utf8.specs.declared.Character.{Character}
 use Rattle.utf8.specs.declared.Character.the-variants.{Scalar, Nothing, IllFormed}
 use Rattle.utf8.specs.declared.Encoding.the-variants.{Written}
 use Rattle.scan.specs.Byte.{peekAt, lowered}
@@ -87,6 +88,23 @@ FirstCharacter =
 abbrev pub FirstAscii : Type 0
 FirstAscii = (xs : List ℕ) → peekAt xs 0 < 0x80 → characterAt xs 0 ≡ Scalar (peekAt xs 0) 1
 
+-- the character at an offset from which on there is text: its code point and its size, and what there is behind it
+pub record Standing (xs : List ℕ) (at c n : ℕ) : Type 0 where
+  pub some : 0 < n
+  pub within : at + n ≤ length xs
+  pub scalar : isScalar c ≡ true
+  pub codes : codesOf (drop at xs) ≡ c ∷ codesOf (drop (at + n) xs)
+  pub behind : WellFormed (drop (at + n) xs)
+
+abbrev pub StandsAt : List ℕ → ℕ → Character → Type 0
+StandsAt xs at (Scalar c n) = Standing xs at c n
+StandsAt xs at Nothing = ⊥
+StandsAt xs at IllFormed = ⊥
+
+-- before the end there is one
+abbrev pub CharacterStands : Type 0
+CharacterStands = (xs : List ℕ) (at : ℕ) → at < length xs → WellFormed (drop at xs) → StandsAt xs at (characterAt xs at)
+
 -- the bytes of code points, one after the other
 abbrev pub textOf : List ℕ → List ℕ
 textOf [] = []
@@ -99,6 +117,10 @@ AllScalar (c ∷ cs) = (isScalar c ≡ true) × AllScalar cs
 -- bytes are well-formed exactly where they are those of some characters
 abbrev pub TextIs : Type 0
 TextIs = (xs : List ℕ) → WellFormed xs ↔ ((cs : List ℕ) × AllScalar cs × (textOf cs ≡ xs))
+
+-- and those are its own code points
+abbrev pub CodesText : Type 0
+CodesText = (xs : List ℕ) → WellFormed xs → AllScalar (codesOf xs) × (textOf (codesOf xs) ≡ xs)
 
 -- the prefix that `prefixEnd` ends is well-formed, and no longer one is
 abbrev pub Longest : Type 0

@@ -5,8 +5,9 @@ use mathlib.Core.Path.{_≡_, refl, sym, ap, _∙_}
 use denote.Ref.{now}
 use lib.ListN.{length, getD, drop, drop-of-length-le, length-append}
 use lib.Seq.{sets}
+use Rattle.scan.proofs.Stores.{sets-join}
 use Rattle.escape.specs.Bytes.{escapedByte, escapedBytes}
-use Rattle.escape.proofs.Escapes.{next, none, sets-join}
+use Rattle.escape.proofs.Escapes.{next, none}
 use Rattle.escape.proofs.write_escaped.Statement.{statement}
 use Rattle.escape.proofs.write_escaped.Tie as tie
 

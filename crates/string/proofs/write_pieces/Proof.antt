@@ -9,13 +9,13 @@ use lib.ListN.{length, drop, length-append}
 use lib.Seq.{sets}
 use denote.Ref.{now}
 use borrow.Author.Needs.{needs}
+use Rattle.scan.proofs.Stores.{sets-join}
 use Rattle.utf8.proofs.Chars.{rest-of}
 use Rattle.tile.specs.declared.Form.{Form}
 use Rattle.tile.specs.declared.Tile.the-variants.{Piece}
 use Rattle.tile.specs.Tile.{tileOf}
 use Rattle.tile.specs.Laws.{Fair}
 use Rattle.string.specs.Tiles.{tilesOf, hasBad, pieceBytes, bytesOf}
-use Rattle.escape.proofs.Escapes.{sets-join}
 use Rattle.string.proofs.Contents as contents
 use Rattle.string.proofs.write_pieces.Statement.{statement}
 use Rattle.string.proofs.write_pieces.Tie as tie
