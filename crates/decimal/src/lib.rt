@@ -54,8 +54,7 @@ fn is_sign(c: usize) -> bool
 }
 
 // The place past a sign, where one stands.
-fn past_sign(s: &[u8], at: usize) -> usize
-    requires { ⌜ at ≤ length (now s) ⌝ }
+pub fn past_sign(s: &[u8], at: usize) -> usize
     ensures { λ r. ⌜ r ≡ pastSign (now (s .entry)) at ⌝ }
 {
     if is_sign(scan::peek(s, at)) {
@@ -86,7 +85,6 @@ fn is_exponent(s: &[u8], at: usize) -> bool
 
 // The place past an `e` and its sign, where it stands.
 fn past_exponent(s: &[u8], at: usize) -> usize
-    requires { ⌜ at ≤ length (now s) ⌝ }
     ensures { λ r. ⌜ r ≡ pastExponent (now (s .entry)) at ⌝ }
 {
     if is_exponent(s, at) {
@@ -340,7 +338,7 @@ fn scaled_by(negative: bool, w: u64, raised: usize, reduced: usize) -> Decimal
 }
 
 // Whether a minus stands at a place.
-fn is_minus(s: &[u8], at: usize) -> bool
+pub fn is_minus(s: &[u8], at: usize) -> bool
     ensures { λ r. ⌜ r ≡ isMinus (now (s .entry)) at ⌝ }
 {
     scan::peek(s, at) == b'-' as usize

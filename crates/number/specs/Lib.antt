@@ -1,2 +1,4 @@
 pub mod White
 pub mod Signed
+pub mod Integer
+pub mod Number

@@ -1,6 +1,7 @@
--- Integers by their sign and their magnitude.
-use Prim.Native.Nat.{ℕ, zero, suc}
-use mathlib.Core.Bool.{Bool, true, false}
+-- Integers by their sign and their magnitude, and which of them have 64 bits.
+use Prim.Native.Nat.{ℕ, zero, suc, _-_, _^_}
+use mathlib.Core.Bool.{Bool, true, false, cond}
+use lib.Dec.{leb}
 use lib.IntN.{ℤ, pos, negsuc}
 
 -- the integer of a sign and a magnitude; zero has no sign
@@ -8,3 +9,7 @@ abbrev pub signedOf : Bool → ℕ → ℤ
 signedOf true (suc n) = negsuc n
 signedOf true zero = pos 0
 signedOf false n = pos n
+
+-- "a signed 64-bit integer": from -2^63 to 2^63 - 1
+unfoldable pub isSigned : Bool → ℕ → Bool
+isSigned neg n = leb n (cond neg (2 ^ 63) (2 ^ 63 - 1))

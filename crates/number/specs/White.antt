@@ -7,10 +7,6 @@ use Rattle.scan.specs.Byte.{isWithin, lowered}
 use Rattle.utf8.specs.Text.{codesOf}
 use Rattle.utf8.specs.Laws.{textOf}
 
--- "duration and number text 256"
-abbrev pub longest : ℕ
-longest = 256
-
 -- "Unicode White_Space"
 unfoldable pub isWhite : ℕ → Bool
 isWhite c =

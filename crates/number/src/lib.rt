@@ -1,10 +1,15 @@
-// Numbers: a text without its white space and in lower case, and integers as floats.
+// Numbers: decimal, hexadecimal or octal, in a text of at most 256 bytes, white space aside and in any case of its letters.
+use decimal::Decimal;
+use decimal::Notation;
+use decimal::Number;
+use utf8::Admission;
 use utf8::ByteOffset;
 use utf8::Character;
 use utf8::Encoding;
+use utf8::Refusal;
 ghost use mathlib.Core.Bool.{true};
 ghost use mathlib.Core.Path.{_≡_};
-ghost use Prim.Native.Nat.{_+_, _^_, _≤_};
+ghost use Prim.Native.Nat.{_+_, _≤_};
 ghost use lib.IntN.{pos};
 ghost use lib.Ieee as Ieee;
 ghost use lib.Ieee.{binary64};
@@ -13,11 +18,32 @@ ghost use lib.Seq.{sets};
 ghost use Rattle.scan.specs.Byte.{isWithin};
 ghost use Rattle.utf8.specs.Code.{isScalar};
 ghost use Rattle.utf8.specs.Refusals.{Taken};
-ghost use Rattle.number.specs.White.{isWhite, keptBytes, plainText, longest};
-ghost use Rattle.number.specs.Signed.{signedOf};
+ghost use Rattle.number.specs.White.{isWhite, keptBytes, plainText};
+ghost use Rattle.decimal.specs.Value.{longest};
+ghost use Rattle.utf8.specs.Answers.{atStart};
+ghost use Rattle.number.specs.declared.Parsing.the-variants.{Refused};
+ghost use Rattle.number.specs.Signed.{signedOf, isSigned};
+ghost use Rattle.number.specs.Integer.{isDigits, integerOf, toldOf};
+ghost use Rattle.number.specs.Number.{isZeroAt, hasDecimalSign, isOctal, isInteger, integerRead, markedRead, decimalRead, numberOf, parsingOf};
 
-// The most bytes of a number's text.
-const LONGEST: usize = 256;
+// Document 01's refusals of a number: it is outside the exact range, is none, or is no signed 64-bit integer.
+pub const OUTSIDE_EXACT: usize = 53;
+
+pub const NOT_A_NUMBER: usize = 60;
+
+pub const NOT_SIGNED: usize = 61;
+
+// A number, or why there is none.
+pub enum Parsing {
+    Value(Number),
+    Refused(Refusal),
+}
+
+// An integer by its own sign and its magnitude, if it is one.
+pub enum Integer {
+    Whole(bool, u64),
+    NotInteger,
+}
 
 const TAB: u32 = 0x9;
 
@@ -92,7 +118,7 @@ fn put_kept(code: u32, out: &mut [u8], at: usize) -> usize
 }
 
 // Writes a text without its white space and in lower case at the front of a buffer, and answers how many bytes that is.
-fn keep(text: &[u8], out: &mut [u8; LONGEST]) -> usize
+fn keep(text: &[u8], out: &mut [u8; decimal::LONGEST]) -> usize
     requires { ⌜ Taken longest (now text) ⌝ }
     ensures { λ r. ⌜ r ≡ length (plainText (now (text .entry))) ⌝ }
     ensures { λ _. ⌜ now (out .exit) ≡ sets (now (out .entry)) 0 (plainText (now (text .entry))) ⌝ }
@@ -119,11 +145,169 @@ fn whole(n: u64) -> f64
 
 // An integer with a sign, rounded once; zero has none.
 fn signed(negative: bool, n: u64) -> f64
-    requires { ⌜ n ≤ 2 ^ 63 ⌝ }
     ensures { λ r. ⌜ r ≡ Ieee.ofInt binary64 (signedOf negative n) ⌝ }
 {
     if n == 0 {
         return 0.0;
     }
     if negative { -whole(n) } else { whole(n) }
+}
+
+// The greatest magnitude of a signed 64-bit integer, by its sign.
+const MOST_POSITIVE: u64 = 0x7fff_ffff_ffff_ffff;
+
+const MOST_NEGATIVE: u64 = 0x8000_0000_0000_0000;
+
+// Whether a magnitude is that of a signed 64-bit integer.
+fn is_signed(negative: bool, n: u64) -> bool
+    ensures { λ r. ⌜ r ≡ isSigned negative n ⌝ }
+{
+    if negative {
+        return n <= MOST_NEGATIVE;
+    }
+    n <= MOST_POSITIVE
+}
+
+// Whether all bytes are digits of a radix.
+fn is_digits(radix: usize, s: &[u8]) -> bool
+    ensures { λ r. ⌜ r ≡ isDigits radix (now (s .entry)) ⌝ }
+{
+    let mut i = 0;
+    while i < s.len() {
+        if !scan::is_digit_in(radix, s[i] as usize) {
+            return false;
+        }
+        i += 1;
+    }
+    true
+}
+
+// The integer of a notation that a text is: digits behind an own sign.
+fn read_integer(notation: Notation, s: &[u8]) -> Integer
+    ensures { λ r. ⌜ r ≡ toldOf (integerOf notation (now (s .entry))) ⌝ }
+{
+    let from = decimal::past_sign(s, 0);
+    let digits = &s[from..];
+    if digits.len() == 0 {
+        return Integer::NotInteger;
+    }
+    if !is_digits(decimal::radix(notation), digits) {
+        return Integer::NotInteger;
+    }
+    Integer::Whole(
+        decimal::is_minus(s, 0),
+        decimal::digits_value(0, notation, digits),
+    )
+}
+
+// Whether a 0 stands at a place.
+fn is_zero_at(t: &[u8], at: usize) -> bool
+    ensures { λ r. ⌜ r ≡ isZeroAt (now (t .entry)) at ⌝ }
+{
+    scan::peek(t, at) == b'0' as usize
+}
+
+// Whether a text has a point, an 8 or a 9.
+fn has_decimal_sign(t: &[u8]) -> bool
+    ensures { λ r. ⌜ r ≡ hasDecimalSign (now (t .entry)) ⌝ }
+{
+    scan::contains(t, b'.') || (scan::contains(t, b'8') || scan::contains(t, b'9'))
+}
+
+// Whether a text is octal: a 0 leads it, behind a sign, and is not all, and there is nothing decimal in it.
+fn is_octal(t: &[u8]) -> bool
+    ensures { λ r. ⌜ r ≡ isOctal (now (t .entry)) ⌝ }
+{
+    let from = decimal::past_sign(t, 0);
+    if !is_zero_at(t, from) {
+        return false;
+    }
+    if has_decimal_sign(t) {
+        return false;
+    }
+    from + 1 != t.len()
+}
+
+// Whether a text is read as an integer.
+fn is_integer(t: &[u8]) -> bool
+    ensures { λ r. ⌜ r ≡ isInteger (now (t .entry)) ⌝ }
+{
+    scan::contains(t, b'x') || is_octal(t)
+}
+
+// A refusal that names no place.
+fn refused(number: usize) -> Parsing
+    ensures { λ r. ⌜ r ≡ Refused (atStart number) ⌝ }
+{
+    Parsing::Refused(utf8::at_start(number))
+}
+
+// The integer that follows the mark of its notation, behind an outer minus or none.
+fn integer_number(notation: Notation, outer: bool, s: &[u8]) -> Parsing
+    ensures { λ r. ⌜ r ≡ integerRead notation outer (now (s .entry)) ⌝ }
+{
+    let i = read_integer(notation, s);
+    let Integer::Whole(own, n) = i else {
+        return refused(NOT_A_NUMBER);
+    };
+    let negative = own != outer;
+    if !is_signed(own, n) {
+        return refused(NOT_SIGNED);
+    }
+    if !is_signed(negative, n) {
+        return refused(NOT_SIGNED);
+    }
+    let value = signed(negative, n);
+    Parsing::Value(Number { value, notation })
+}
+
+// The integer that a text is, behind its sign and the mark of its notation, `0x` or `0`.
+fn marked(t: &[u8]) -> Parsing
+    ensures { λ r. ⌜ r ≡ markedRead (now (t .entry)) ⌝ }
+{
+    let from = decimal::past_sign(t, 0);
+    if !is_zero_at(t, from) {
+        return refused(NOT_A_NUMBER);
+    }
+    let behind = from + 1;
+    let outer = decimal::is_minus(t, 0);
+    if scan::peek(t, behind) == b'x' as usize {
+        return integer_number(Notation::Hex, outer, &t[behind + 1..]);
+    }
+    integer_number(Notation::Octal, outer, &t[behind..])
+}
+
+// The number that a decimal is.
+fn decimal_number(d: Decimal) -> Parsing
+    ensures { λ r. ⌜ r ≡ decimalRead d ⌝ }
+{
+    match d {
+        Decimal::NotDecimal => refused(NOT_A_NUMBER),
+        Decimal::Named(n) => Parsing::Value(n),
+        Decimal::Exact(n) => Parsing::Value(n),
+        Decimal::Outside(_) => refused(OUTSIDE_EXACT),
+    }
+}
+
+// The number that a text is, without white space and in lower case.
+fn read_plain(t: &[u8]) -> Parsing
+    ensures { λ r. ⌜ r ≡ numberOf (now (t .entry)) ⌝ }
+{
+    if is_integer(t) {
+        return marked(t);
+    }
+    decimal_number(decimal::read_decimal(t))
+}
+
+// Reads a number.
+pub fn parse_str_radix(s: &[u8]) -> Parsing
+    ensures { λ r. ⌜ r ≡ parsingOf (now (s .entry)) ⌝ }
+{
+    let a = utf8::admit(s, decimal::LONGEST);
+    if let Admission::Refused(r) = a {
+        return Parsing::Refused(r);
+    }
+    let mut buf = [0u8; decimal::LONGEST];
+    let n = keep(s, &mut buf);
+    read_plain(&buf[..n])
 }

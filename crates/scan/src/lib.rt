@@ -2,7 +2,7 @@
 ghost use mathlib.Core.Path.{_≡_};
 ghost use Rattle.scan.specs.Byte.{peekAt, isWithin, isSpace, isAlpha, isDigit, isHexDigit, digitOf, isDigitIn, lowered, isAlphaNumeric, isWord, isLine, isIn};
 ghost use Rattle.scan.specs.Run.{runEnd};
-ghost use Rattle.scan.specs.Text.{sameText};
+ghost use Rattle.scan.specs.Text.{sameText, has};
 
 // What stands past the last byte: no byte, and in no class.
 pub const END: usize = 256;
@@ -171,4 +171,18 @@ pub fn is_text(text: &[u8], word: &[u8]) -> bool
         i += 1;
     }
     true
+}
+
+// Whether a list has the byte.
+pub fn contains(s: &[u8], c: u8) -> bool
+    ensures { λ r. ⌜ r ≡ has c (now (s .entry)) ⌝ }
+{
+    let mut i = 0;
+    while i < s.len() {
+        if s[i] == c {
+            return true;
+        }
+        i += 1;
+    }
+    false
 }

@@ -13,7 +13,6 @@ ghost use mathlib.Core.Path.{_≡_};
 ghost use Prim.Native.Nat.{_+_, _<_, _≤_};
 ghost use lib.ListN.{length};
 ghost use lib.Seq.{sets};
-ghost use Rattle.scan.specs.Text.{has};
 ghost use Rattle.utf8.specs.Text.{WellFormed};
 ghost use Rattle.tile.specs.Tile.{isAllowed};
 ghost use Rattle.string.specs.Tiles.{tilesOf, hasBad, givesByte, pieceBytes, bytesOf};
@@ -54,20 +53,6 @@ const LAST_ASCII: u32 = 0x7f;
 // The bytes of the two signs.
 const SIGNS: usize = 2;
 
-// Whether a list has the byte.
-fn contains(s: &[u8], c: u8) -> bool
-    ensures { λ r. ⌜ r ≡ has c (now (s .entry)) ⌝ }
-{
-    let mut i = 0;
-    while i < s.len() {
-        if s[i] == c {
-            return true;
-        }
-        i += 1;
-    }
-    false
-}
-
 // Whether a byte is a quote sign.
 fn is_quote(c: u8) -> bool
     ensures { λ r. ⌜ r ≡ isQuote c ⌝ }
@@ -91,14 +76,14 @@ fn is_enclosed(literal: &[u8]) -> bool
 fn has_newline(sign: u8, inner: &[u8]) -> bool
     ensures { λ r. ⌜ r ≡ hasNewline sign (now (inner .entry)) ⌝ }
 {
-    sign != BACKQUOTE && contains(inner, LINE_FEED)
+    sign != BACKQUOTE && scan::contains(inner, LINE_FEED)
 }
 
 // Whether there is an escape.
 fn has_escape(sign: u8, inner: &[u8]) -> bool
     ensures { λ r. ⌜ r ≡ hasEscape sign (now (inner .entry)) ⌝ }
 {
-    sign != BACKQUOTE && contains(inner, BACKSLASH)
+    sign != BACKQUOTE && scan::contains(inner, BACKSLASH)
 }
 
 // Whether a tile gives one byte, and not a character.
@@ -163,7 +148,7 @@ fn extent_of(literal: &[u8], reading: Reading) -> Extent
     if has_escape(sign, inner) {
         return measure(inner, sign, reading);
     }
-    if contains(inner, sign) {
+    if scan::contains(inner, sign) {
         return Extent::Bad;
     }
     Extent::Inner(inner.len())

@@ -7,8 +7,8 @@ use mathlib.Core.Bool.{Bool, true, false, cond, _&&_}
 use mathlib.Core.List.{List, [], _∷_, _++_, map}
 use mathlib.Core.Path.{_≡_, refl, sym, ap, _∙_}
 use lib.Dec.{eqb, leb, ltb}
-use lib.ListN.{length, getD, take, drop, length-append, length-map, List·getD-append}
-use lib.Seq.{take-at, drop-at, getD-at, getD-append-add, take-append-le, sets, sets-eq}
+use lib.ListN.{length, getD, take, length-append, length-map, List·getD-append}
+use lib.Seq.{take-at, drop-at, getD-at, getD-append-add, take-append-le}
 use borrow.Author.Tests.{eq-eqb, ne-eqb, le-ltb, leb-true, ltb-true}
 use Rattle.scan.specs.Byte.{lowered}
 use Rattle.scan.specs.Text.{sameText}
@@ -113,7 +113,3 @@ table-finds xs = searched ∙ by-bytes Keyword Nothing (λ ys. kindIn words (map
         either (λ k. k ≡ kindIn words (map lowered xs)) (ltb widestWord (length xs))
         (λ e. sym (long-none words (map lowered xs) short (omega (arith, ltb-true widestWord (length xs) e, length-map xs lowered))))
         (λ e. rw (← counted) (found-is words (map lowered xs) short))
-
--- the front of a list into which a text was written
-pub written-front : (d vs : List ℕ) → length vs ≤ length d → take (length vs) (sets d 0 vs) ≡ vs
-written-front d vs h = rw (sets-eq vs d 0 (omega arith)) (take-at vs (drop (0 + length vs) d) (length vs) refl)

@@ -12,12 +12,12 @@ is-exponent-requires : tie.Need-is-exponent-requires
 is-exponent-requires c κs = search needs
 
 add-past-sign : tie.Need-add-past-sign
-add-past-sign c = search needs
-
-past-sign-requires : tie.Need-past-sign-requires
-past-sign-requires c κs =
+add-past-sign c =
     let a = c .before .before .before .args in
     omega (arith, exponent-inside (now (a .s)) (a .at) (sym (c .before .is-exponent .ensures) ∙ c .if1 .taken))
+
+past-sign-requires : tie.Need-past-sign-requires
+past-sign-requires c κs = search needs
 
 returns : tie.Need-returns
 returns c = rw (← c .before .before .is-exponent .ensures, c .before .if1 .taken) (c .past-sign .ensures ∙ rw add-one)

@@ -1,5 +1,10 @@
--- Each way out knows whether a sign stands there.
+-- Each way out knows whether a sign stands there; where it does, there is a byte.
 use native.Mathlib.Numerals.{add-one}
+use native.Mathlib.Omega.{arith}
+use mathlib.Core.Path.{sym, ap, _∙_}
+use denote.Ref.{now}
+use Rattle.decimal.specs.Grammar.{isSign}
+use Rattle.decimal.proofs.Places.{sign-inside}
 use borrow.Author.Needs.{needs}
 use Rattle.decimal.proofs.past_sign.Statement.{statement}
 use Rattle.decimal.proofs.past_sign.Tie as tie
@@ -11,7 +16,9 @@ is-sign-requires : tie.Need-is-sign-requires
 is-sign-requires c κs = search needs
 
 add-result : tie.Need-add-result
-add-result c = search needs
+add-result c =
+    let a = c .before .before .before .before .args in
+    omega (arith, sign-inside (now (a .s)) (a .at) (ap isSign (sym (c .before .before .peek .ensures)) ∙ sym (c .before .is-sign .ensures) ∙ c .if1 .taken))
 
 returns : tie.Need-returns
 returns c = rw (← c .before .before .peek .ensures, ← c .before .is-sign .ensures, c .if1 .taken, add-one)

@@ -6,7 +6,7 @@ use lib.IntN.{pos}
 use lib.Ieee.{binary64, ofInt, ofBits, round, neg}
 use borrow.Author.Needs.{needs}
 use Rattle.number.specs.Signed.{signedOf}
-use Rattle.number.proofs.Signs.{neg-round}
+use Rattle.decimal.proofs.Signs.{neg-round}
 use Rattle.number.proofs.signed.Statement.{statement}
 use Rattle.number.proofs.signed.Tie as tie
 

@@ -10,7 +10,7 @@ use lib.ListN.{length, take, replicate, length-map}
 use lib.Seq.{sets, length-sets, length-take-le}
 use Rattle.scan.specs.Byte.{lowered}
 use Rattle.token.specs.WordRows.{widestWord, keywordIn}
-use Rattle.token.proofs.Lookup.{written-front}
+use Rattle.scan.proofs.Stores.{written-front}
 use Rattle.token.proofs.keyword_in.Statement.{statement}
 use Rattle.token.proofs.keyword_in.Tie as tie
 

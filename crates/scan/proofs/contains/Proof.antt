@@ -1,4 +1,4 @@
--- The invariant: the byte stands from i on exactly where it stands in the whole.
+-- `scan::contains` meets its contract. The invariant: the byte stands from i on exactly where it stands in the whole.
 use Prim.Native.Nat.{_+_, _-_, _≤_}
 use native.Mathlib.Numerals.{add-one}
 use native.Mathlib.Omega.{arith}
@@ -9,9 +9,9 @@ use lib.ListN.{length, getD, drop, drop-of-length-le}
 use lib.Seq.{drop-cons}
 use denote.Ref.{now}
 use borrow.Author.Tests.{eq-eqb, ne-eqb}
 use Rattle.scan.specs.Text.{has}
-use Rattle.string.proofs.contains.Statement.{statement}
-use Rattle.string.proofs.contains.Tie as tie
+use Rattle.scan.proofs.contains.Statement.{statement}
+use Rattle.scan.proofs.contains.Tie as tie
 
 abbrev Inv-loop : tie.InvT-loop
 Inv-loop s c i₀ i = (i ≤ length s) × (has c s ≡ has c (drop i s))

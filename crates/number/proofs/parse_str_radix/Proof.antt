@@ -1,0 +1,100 @@
+-- What is refused is refused first; then the text is kept at the front of the buffer, and the number is read there.
+use Prim.Native.Nat.{ℕ, _≤_}
+use native.Mathlib.Omega.{arith}
+use mathlib.Core.List.{List}
+use mathlib.Core.Path.{_≡_, sym, ap, ap₂, _∙_}
+use lib.ListN.{length, take, replicate}
+use lib.Seq.{sets, length-sets}
+use denote.Ref.{now}
+use Rattle.scan.proofs.Stores.{written-front}
+use Rattle.utf8.specs.declared.Admission.{Admission}
+use Rattle.utf8.specs.Answers.{admitted}
+use Rattle.utf8.specs.Refusals.{Taken}
+use Rattle.utf8.proofs.Given.{admitted-text}
+use Rattle.decimal.specs.Value.{longest}
+use Rattle.number.specs.White.{plainText}
+use Rattle.number.specs.Number.{numberOf, parsingBy, parsingOf}
+use Rattle.number.proofs.Kept.{plain-few}
+use borrow.Author.Needs.{needs}
+use Rattle.number.proofs.parse_str_radix.Statement.{statement}
+use Rattle.number.proofs.parse_str_radix.Tie as tie
+
+admit-requires : tie.Need-admit-requires
+admit-requires c κs = search needs
+
+enum-known-a : tie.Need-enum-known-a
+enum-known-a c = search needs
+
+by-admission : (xs : List ℕ) (a : Admission) → admitted longest xs ≡ a → parsingBy a (plainText xs) ≡ parsingOf xs
+unfolding parsingOf
+by-admission xs a e = ap (λ (b : Admission). parsingBy b (plainText xs)) (sym e)
+
+returns : tie.Need-returns
+returns c = let x = now (c .before .before .before .before .before .args .s) in by-admission x _ (sym (c .before .before .before .admit .ensures) ∙ c .before .a .given .1)
+
+enum-told : tie.Need-enum-told
+enum-told c = search needs
+
+module _ (c : tie.After-enum-told) where
+  abbrev text : List ℕ
+  text = now (c .before .before .before .before .args .s)
+
+  taken : Taken longest text
+  taken = admitted-text longest text _ (sym (c .before .before .admit .ensures) ∙ c .enum-told .given .1)
+
+keep-requires : tie.Need-keep-requires
+keep-requires c κs = taken (c .before)
+
+-- what is kept stands at the front of the buffer
+module _ (c : tie.After-keep) where
+  abbrev kept : List ℕ
+  kept = plainText (text (c .before .before))
+
+  abbrev buffer : List ℕ
+  buffer = c .keep .last .1 .0
+
+  counted : c .keep .result ≡ length kept
+  counted = c .keep .ensures .0
+
+  buffer-is : buffer ≡ sets (replicate longest 0) 0 kept
+  buffer-is = c .keep .ensures .1
+
+  buffer-long : length buffer ≡ longest
+  buffer-long = ap length buffer-is ∙ length-sets (replicate longest 0) 0 kept
+
+  fits : length kept ≤ longest
+  fits = let t = taken (c .before .before) in omega (arith, plain-few (text (c .before .before)) (t .1), t .0)
+
+  front : take (c .keep .result) buffer ≡ kept
+  front = ap₂ (λ (n : ℕ) (ys : List ℕ). take n ys) counted buffer-is ∙ written-front (replicate longest 0) kept (omega (arith, fits))
+
+array-share-prefix-buf : tie.Need-array-share-prefix-buf
+array-share-prefix-buf c = omega (arith, counted c, fits c, buffer-long c)
+
+slice-aggregate-read-plain : tie.Need-slice-aggregate-read-plain
+slice-aggregate-read-plain c = let k = c .before in counted k ∙ ap length (sym (front k))
+
+read-plain-requires : tie.Need-read-plain-requires
+read-plain-requires c κs = search needs
+
+returns-2 : tie.Need-returns-2
+returns-2 c =
+    let k = c .before .before in
+    let t = k .before .before in
+    c .read-plain .ensures
+    ∙ ap numberOf (front k)
+    ∙ by-admission (text t) _ (sym (t .before .before .admit .ensures) ∙ t .enum-told .given .1)
+
+pub parse-str-radix-spec : {M : Type 1} → statement M
+parse-str-radix-spec =
+    tie.close
+    (tie.spec
+    admit-requires
+    enum-known-a
+    returns
+    enum-told
+    keep-requires
+    array-share-prefix-buf
+    slice-aggregate-read-plain
+    read-plain-requires
+    returns-2)

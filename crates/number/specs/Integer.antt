@@ -1,0 +1,34 @@
+-- An integer of a notation: "What follows may bear its own sign", and then come digits, one at least.
+use Prim.Native.Nat.{ℕ, min}
+use mathlib.Core.Bool.{Bool, true, cond, _&&_}
+use mathlib.Core.List.{List, [], _∷_}
+use lib.Dec.{ltb}
+use lib.ListN.{length, drop}
+use Rattle.scan.specs.Byte.{isDigitIn}
+use Rattle.decimal.specs.declared.Notation.{Notation}
+use Rattle.decimal.specs.Grammar.{pastSign, isMinus}
+use Rattle.decimal.specs.Value.{radixOf, valueIn, mostTold}
+use Rattle.number.specs.declared.Integer.{Integer}
+use Rattle.number.specs.declared.Integer.the-variants.{Whole, NotInteger}
+
+unfoldable pub isDigits : ℕ → List ℕ → Bool
+isDigits radix [] = true
+isDigits radix (c ∷ cs) = isDigitIn radix c && isDigits radix cs
+
+-- behind the own sign
+abbrev pub digitsOf : List ℕ → List ℕ
+digitsOf ys = drop (pastSign ys 0) ys
+
+unfoldable pub isWhole : Notation → List ℕ → Bool
+isWhole n ys = ltb 0 (length (digitsOf ys)) && isDigits (radixOf n) (digitsOf ys)
+
+abbrev pub magnitudeOf : Notation → List ℕ → ℕ
+magnitudeOf n ys = valueIn n (digitsOf ys)
+
+unfoldable pub integerOf : Notation → List ℕ → Integer
+integerOf n ys = cond (isWhole n ys) (Whole (isMinus ys 0) (magnitudeOf n ys)) NotInteger
+
+-- the reader tells a magnitude apart so far as a 64-bit integer has it
+abbrev pub toldOf : Integer → Integer
+toldOf (Whole own v) = Whole own (min mostTold v)
+toldOf NotInteger = NotInteger

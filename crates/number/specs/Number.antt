@@ -1,0 +1,101 @@
+-- What a number's text is read as: document 01, "Numbers".
+use Prim.Native.Nat.{ℕ, suc}
+use Prim.Native.Char.{code}
+use mathlib.Core.Bool.{Bool, cond, _&&_, _||_, not}
+use mathlib.Core.List.{List}
+use lib.Dec.{eqb}
+use lib.Ieee.{unlike, binary64, ofInt}
+use lib.ListN.{length, drop}
+use Rattle.scan.specs.Byte.{peekAt}
+use Rattle.scan.specs.Text.{has}
+use Rattle.utf8.specs.declared.Refusal.{Refusal}
+use Rattle.utf8.specs.declared.Admission.{Admission}
+use Rattle.utf8.specs.declared.Admission.the-variants as admission
+use Rattle.utf8.specs.Answers.{atStart, admitted}
+use Rattle.decimal.specs.declared.Notation.{Notation}
+use Rattle.decimal.specs.declared.Notation.the-variants.{Hex, Octal}
+use Rattle.decimal.specs.declared.Number.{Number}
+use Rattle.decimal.specs.declared.Decimal.{Decimal}
+use Rattle.decimal.specs.declared.Decimal.the-variants.{NotDecimal, Named, Exact, Outside}
+use Rattle.decimal.specs.Grammar.{pastSign, isMinus}
+use Rattle.decimal.specs.Value.{longest, decimalOf}
+use Rattle.number.specs.declared.Parsing.{Parsing}
+use Rattle.number.specs.declared.Parsing.the-variants.{Value, Refused}
+use Rattle.number.specs.White.{plainText}
+use Rattle.number.specs.Signed.{signedOf, isSigned}
+use Rattle.number.specs.declared.Integer.{Integer}
+use Rattle.number.specs.declared.Integer.the-variants.{Whole, NotInteger}
+use Rattle.number.specs.Integer.{integerOf}
+
+-- 53 "decimal outside the exact range", 60 "not a number text", 61 "hex or octal outside a signed 64-bit integer"
+abbrev pub outsideExact : Refusal
+outsideExact = atStart 53
+
+abbrev pub notNumber : Refusal
+notNumber = atStart 60
+
+abbrev pub notSigned : Refusal
+notSigned = atStart 61
+
+-- "a leading 0 after an optional sign
+abbrev pub isZeroAt : List ℕ → ℕ → Bool
+isZeroAt t at = eqb (peekAt t at) (code "0")
+
+abbrev pub leadsZero : List ℕ → Bool
+leadsZero t = isZeroAt t (pastSign t 0)
+
+abbrev pub behindZero : List ℕ → ℕ
+behindZero t = suc (pastSign t 0)
+
+-- with no `.`, 8 or 9,
+unfoldable pub hasDecimalSign : List ℕ → Bool
+hasDecimalSign t = has (code ".") t || (has (code "8") t || has (code "9") t)
+
+-- except `0`, `+0`, `-0`"
+unfoldable pub isOctal : List ℕ → Bool
+isOctal t = leadsZero t && (not (hasDecimalSign t) && not (eqb (behindZero t) (length t)))
+
+-- "An `x`, or" that
+unfoldable pub isInteger : List ℕ → Bool
+isInteger t = has (code "x") t || isOctal t
+
+-- "Signed 64-bit before an outer minus .., then rounded once to f64. .. Negating the least integer is 61"
+abbrev pub integerNumber : Notation → Bool → ℕ → Number
+integerNumber n negative v = record { value = ofInt binary64 (signedOf negative v); notation = n }
+
+abbrev pub integerBy : Notation → Bool → Integer → Parsing
+integerBy n outer (Whole own v) =
+    let negative = unlike own outer in
+    cond (isSigned own v && isSigned negative v) (Value (integerNumber n negative v)) (Refused notSigned)
+integerBy n outer NotInteger = Refused notNumber
+
+abbrev pub integerRead : Notation → Bool → List ℕ → Parsing
+integerRead n outer ys = integerBy n outer (integerOf n ys)
+
+-- "means hex after `0x`, else octal after `0`"; "An x in a text without that leading 0 .. here 60"
+abbrev pub isHexMark : List ℕ → Bool
+isHexMark t = eqb (peekAt t (behindZero t)) (code "x")
+
+unfoldable pub markedRead : List ℕ → Parsing
+markedRead t =
+    cond (leadsZero t)
+    (cond (isHexMark t) (integerRead Hex (isMinus t 0) (drop (suc (behindZero t)) t)) (integerRead Octal (isMinus t 0) (drop (behindZero t) t)))
+    (Refused notNumber)
+
+abbrev pub decimalRead : Decimal → Parsing
+decimalRead NotDecimal = Refused notNumber
+decimalRead (Named n) = Value n
+decimalRead (Exact n) = Value n
+decimalRead (Outside negative) = Refused outsideExact
+
+-- the number that a text is, without white space and in lower case
+unfoldable pub numberOf : List ℕ → Parsing
+numberOf t = cond (isInteger t) (markedRead t) (decimalRead (decimalOf t))
+
+-- "Order: 1, 2, the reading"
+abbrev pub parsingBy : Admission → List ℕ → Parsing
+parsingBy (admission.Admitted n) t = numberOf t
+parsingBy (admission.Refused r) t = Refused r
+
+unfoldable pub parsingOf : List ℕ → Parsing
+parsingOf xs = parsingBy (admitted longest xs) (plainText xs)
