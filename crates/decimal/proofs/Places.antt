@@ -26,7 +26,7 @@ no-sign : isSign end ≡ false
 unfolding isSign
 no-sign = refl
 
-no-exponent : eqb (lowered end) 101 ≡ false
+pub no-exponent : eqb (lowered end) 101 ≡ false
 unfolding lowered isWithin
 no-exponent = refl
 
