@@ -4,31 +4,23 @@ use Prim.Native.Nat.{ℕ, _<_, _≤_}
 use Prim.Native.Char.{code}
 use native.Mathlib.Decide.{decLt}
 use native.Mathlib.Omega.{arith}
-use mathlib.Core.Bool.{Bool, true}
+use mathlib.Core.Bool.{true}
 use mathlib.Core.List.{List, [], _∷_, _++_, map}
 use mathlib.Core.Logic.{_↔_, _⊎_, inl, inr}
 use mathlib.Core.Path.{_≡_, ap, _∙_}
-use lib.Dec.{ltb}
 use lib.ListN.{length, drop, length-drop}
-use borrow.Author.Tests.{lt-ltb, ltb-true}
 use Rattle.scan.specs.Ascii.{ascii}
 use Rattle.scan.specs.declared.Class.the-variants.{Digit}
 use Rattle.scan.specs.Byte.{peekAt, isIn, lowered}
 use Rattle.scan.proofs.Classes.{below-not, end-in-none}
 use Rattle.scan.proofs.Runs.{run-stopped}
 use Rattle.scan.proofs.Same.{same-is-equal}
-use Rattle.scan.proofs.Tests.{Tests, affirmed, tests-or, tests-and, tests-eq}
+use Rattle.scan.proofs.Tests.{Tests, affirmed, tests-or, tests-and, itself, tests-eq, tests-lt}
 use Rattle.decimal.specs.Grammar.{isMinus, wholeFrom, wholeTo, fractionFrom, fractionTo, exponentTo, partsOf, hasDigits, isExponentWhole, isNumeral, isNamed, isInfinite, isNan, between, fractionOf, exponentOf, isLowered}
 use Rattle.decimal.specs.Spelling.{Mantissa, NumeralOf, NameOf, InfinityOf, NumeralSpelled, NamesSpelled, SpelledOnce, PartsSpelled, SignSpelled}
 use Rattle.decimal.proofs.Places.{exponent-within}
 use Rattle.decimal.proofs.Cuts.{between-some, sign-cut, sign-told, sign-found}
 use Rattle.decimal.proofs.Pieces.{mantissa-begins, power-begins, mantissa-cut, mantissa-found, power-cut, power-found}
-
-itself : (b : Bool) → Tests b (b ≡ true)
-itself b = ((λ e. e), λ e. e)
-
-tests-lt : (a b : ℕ) → Tests (ltb a b) (a < b)
-tests-lt a b = (ltb-true a b, lt-ltb a b)
 
 -- the parts of a numeral are at its places
 parts-cut : (s a b t d xs : List ℕ) → NumeralOf s a b t d xs
