@@ -5,14 +5,10 @@ use native.Mathlib.Decide.{ℕ-discrete}
 use native.Mathlib.Omega.{arith}
 use mathlib.Core.Bool.{Bool, false}
 use mathlib.Core.Path.{_≡_}
-use lib.Dec.{leb}
-use borrow.Author.Tests.{le-leb, leb-true, eq-eqb, ne-eqb}
-use Rattle.scan.proofs.Tests.{Tests, affirmed, decided, tests-and}
+use borrow.Author.Tests.{eq-eqb, ne-eqb}
+use Rattle.scan.proofs.Tests.{Tests, affirmed, decided, tests-and, tests-le}
 use Rattle.decimal.specs.Laws.{InRange}
 use Rattle.decimal.specs.Value.{mostTold, longest, largest, steps, isExact, scaledBy}
-
-tests-le : (a b : ℕ) → Tests (leb a b) (a ≤ b)
-tests-le a b = (leb-true a b, le-leb a b)
 
 pub tests-exact : (w up down : ℕ) → Tests (isExact w up down) (InRange w up down)
 unfolding isExact

@@ -13,7 +13,7 @@ use lib.Ieee.Scale.{round-same}
 use lib.ListN.{length}
 use borrow.Author.Tests.{lt-ltb, le-ltb, eq-eqb, ne-eqb}
 use Rattle.scan.proofs.Choice.{exactly}
-use Rattle.scan.proofs.Tests.{Tests, affirmed, decided}
+use Rattle.scan.proofs.Tests.{Tests, affirmed, decided, itself}
 use Rattle.decimal.specs.declared.Number.{Number}
 use Rattle.decimal.specs.declared.Decimal.{Decimal}
 use Rattle.decimal.specs.declared.Decimal.the-variants.{NotDecimal, Named, Exact, Outside}
@@ -66,9 +66,6 @@ rowOf (Named n) = named (n .value)
 rowOf (Exact n) = exact
 rowOf (Outside s) = outside
 rowOf NotDecimal = none
-
-itself : (b : Bool) → Tests b (b ≡ true)
-itself b = ((λ e. e), λ e. e)
 
 module _ (xs : List ℕ) where
   abbrev Accepted : Type 0

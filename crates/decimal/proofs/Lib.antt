@@ -5,6 +5,9 @@ pub mod Values
 pub mod Signs
 pub mod Places
 pub mod Zeros
+pub mod Cuts
+pub mod Pieces
+pub mod Spelling
 pub mod Caps
 pub mod Characters
 pub mod Exactness

@@ -1,32 +1,23 @@
 -- The places of a text's parts lie within it: past a sign or a point that stands there is still within, and so is where a run ends.
 use Prim.Native.Nat.{ℕ, suc, _≤_, _<_}
-use native.Mathlib.Decide.{decLt}
 use native.Mathlib.Omega.{arith}
-use mathlib.Core.Bool.{Bool, true, false, true≢false}
+use mathlib.Core.Bool.{true, false}
 use mathlib.Core.List.{List}
-use mathlib.Core.Path.{_≡_, refl, sym, ap, _∙_}
+use mathlib.Core.Path.{_≡_, refl}
 use lib.Dec.{eqb}
-use lib.ListN.{length, List·getD-eq-default}
+use lib.ListN.{length}
 use Rattle.scan.specs.declared.Class.the-variants.{Digit}
 use Rattle.scan.specs.Byte.{end, peekAt, isWithin, isIn, lowered}
 use Rattle.scan.specs.Run.{runEnd}
 use Rattle.scan.proofs.Choice.{either}
-use Rattle.scan.proofs.Runs.{run-within}
+use Rattle.scan.proofs.Runs.{inside, run-within}
 use Rattle.decimal.specs.Grammar.{isSign, pastSign, pastPoint, isExponent, wholeFrom, wholeTo, fractionFrom, fractionTo, exponentFrom, exponentTo}
-
--- what a test finds that does not find the end is within
-inside : (p : ℕ → Bool) → p end ≡ false → (xs : List ℕ) (at : ℕ) → p (peekAt xs at) ≡ true → at < length xs
-inside p z xs at e = go (decLt at (length xs))
-  where
-    go : Dec (at < length xs) → at < length xs
-    go (yes l) = l
-    go (no l) = absurd (true≢false (sym e ∙ ap p (List·getD-eq-default xs end {n = at} (omega arith)) ∙ z))
 
 no-sign : isSign end ≡ false
 unfolding isSign
 no-sign = refl
 
-no-exponent : eqb (lowered end) 101 ≡ false
+pub no-exponent : eqb (lowered end) 101 ≡ false
 unfolding lowered isWithin
 no-exponent = refl
 

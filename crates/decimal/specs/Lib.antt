@@ -1,4 +1,5 @@
 pub mod Grammar
+pub mod Spelling
 pub mod Value
 pub mod Scaled
 pub mod Laws

@@ -1,11 +1,11 @@
 -- Tests of a condition: what a test says of it, and how the tests of several conditions make one.
-use Prim.Native.Nat.{ℕ}
+use Prim.Native.Nat.{ℕ, _<_, _≤_}
 use mathlib.Core.Bool.{Bool, true, false, _&&_, _||_, not, true≢false}
 use mathlib.Core.List.{List, [], _∷_}
 use mathlib.Core.Logic.{_⊎_, inl, inr}
 use mathlib.Core.Path.{_≡_, refl, sym, _∙_}
-use lib.Dec.{eqb}
-use borrow.Author.Tests.{eq-eqb, eqb-true}
+use lib.Dec.{eqb, leb, ltb}
+use borrow.Author.Tests.{eq-eqb, eqb-true, le-leb, leb-true, lt-ltb, ltb-true}
 use Rattle.scan.specs.Text.{has, Stands}
 
 -- a test, and the condition that it is one of
@@ -41,8 +41,18 @@ pub tests-not : {a : Bool} {C : Type 0} → Tests a C → Tests (not a) (C → �
 tests-not {a = true} s = ((λ e. absurd (true≢false (sym e))), λ n. absurd (n (s .0 refl)))
 tests-not {a = false} s = ((λ e c. true≢false (sym (s .1 c))), λ n. refl)
 
+-- what a test says of itself, and the tests of numbers
+pub itself : (b : Bool) → Tests b (b ≡ true)
+itself b = ((λ e. e), λ e. e)
+
 pub tests-eq : (a b : ℕ) → Tests (eqb a b) (a ≡ b)
 tests-eq a b = (eqb-true a b, eq-eqb a b)
+
+pub tests-le : (a b : ℕ) → Tests (leb a b) (a ≤ b)
+tests-le a b = (leb-true a b, le-leb a b)
+
+pub tests-lt : (a b : ℕ) → Tests (ltb a b) (a < b)
+tests-lt a b = (ltb-true a b, lt-ltb a b)
 
 pub tests-has : (c : ℕ) (ys : List ℕ) → Tests (has c ys) (Stands c ys)
 unfolding has
