@@ -8,6 +8,7 @@ use std::ops::Range;
 
 pub mod escapes;
 pub mod literals;
+pub mod numbers;
 pub mod words;
 
 /// The bytes on both sides of each end of a range of RFC 3629's table, and a letter.
