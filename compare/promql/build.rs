@@ -9,7 +9,7 @@ use std::path::{Path, PathBuf};
 const DOCUMENTS: &str = "../../shared/docs";
 
 /// The folders of the Rust's sources, and the files of each.
-const FOLDERS: [(&str, &[&str]); 2] = [("parser", &["lex", "token"]), ("util", &["string"])];
+const FOLDERS: [(&str, &[&str]); 2] = [("parser", &["lex", "token"]), ("util", &["number", "string"])];
 
 /// The names of the kinds, in order from the number of their line on. The numbers are those of document 01, section Kinds;
 /// those of the Rust's crate come from its grammar, which is not among the documents. The names that bound the operators

@@ -22,6 +22,7 @@ extern "C" {
         text: *mut u8,
         room: usize,
     ) -> u64;
+    fn simmerpath_parse_str_radix(text: *const u8, len: usize, bits: *mut u64) -> u64;
 }
 
 /// How many guards stand on each side of a list.
@@ -204,6 +205,18 @@ pub fn unquote_string<'a>(
         answer,
         written: [text, out.contents()],
         untouched: literal.is_untouched() && out.is_guarded(),
+    }
+}
+
+/// The number of a number text's notation; the bits of its value are written to the first cell of `bits`.
+pub fn parse_str_radix(text: &mut Lent<u8>, bits: &mut Lent<u64>) -> Outcome<u64> {
+    bits.restore();
+    // Safety: the pointer and the length are those of one list, and `bits` has a first cell, or a guard in its place.
+    let answer = unsafe { simmerpath_parse_str_radix(text.start(), text.len(), bits.start()) };
+    Outcome {
+        answer,
+        written: bits.contents()[0],
+        untouched: text.is_untouched() && bits.is_guarded(),
     }
 }
 

@@ -11,6 +11,8 @@ mod ffi;
 mod input;
 mod literal;
 #[cfg(feature = "promql")]
+mod number;
+#[cfg(feature = "promql")]
 mod string;
 #[cfg(feature = "promql")]
 mod token;
@@ -26,6 +28,8 @@ const OPERATIONS: &[fn(u64, usize) -> u64] = &[
     token::run,
     #[cfg(feature = "promql")]
     string::run,
+    #[cfg(feature = "promql")]
+    number::run,
     #[cfg(feature = "go")]
     documented::run,
 ];

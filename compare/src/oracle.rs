@@ -6,6 +6,8 @@ use std::fmt::{self, Display, Formatter};
 pub mod go;
 pub mod literal;
 #[cfg(feature = "promql")]
+pub mod number;
+#[cfg(feature = "promql")]
 pub mod string;
 #[cfg(feature = "promql")]
 pub mod token;
@@ -13,6 +15,8 @@ pub mod utf8;
 
 /// A text has at most this many bytes.
 pub const MOST_BYTES: usize = 65_535;
+/// A number text has at most this many bytes.
+pub const MOST_NUMBER_BYTES: usize = 256;
 
 /// The number of the refusal of a text that is too long.
 pub const TOO_LONG: u8 = 1;

@@ -8,6 +8,7 @@ use std::ops::Range;
 
 pub mod escapes;
 pub mod literals;
+pub mod numbers;
 pub mod words;
 
 /// The bytes on both sides of each end of a range of RFC 3629's table, and a letter.
@@ -39,6 +40,13 @@ const EDGES: [[char; 4]; 4] = [
     ['\u{800}', '\u{d7ff}', '\u{e000}', '\u{ffff}'],
     ['\u{10000}', '\u{3ffff}', '\u{100000}', '\u{10ffff}'],
 ];
+
+/// Every text of at most two bytes.
+fn short() -> impl Iterator<Item = Vec<u8>> {
+    let one = (0..=u8::MAX).map(|byte| vec![byte]);
+    let two = (0..=u16::MAX).map(|pair| pair.to_be_bytes().to_vec());
+    iter::once(Vec::new()).chain(one).chain(two)
+}
 
 /// Every text of at most four telling bytes.
 pub fn exhaustive() -> impl Iterator<Item = Vec<u8>> {

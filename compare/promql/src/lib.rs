@@ -19,7 +19,7 @@ use parser::token::{self, TokenType};
 use std::cell::Cell;
 use std::panic::{self, UnwindSafe};
 use std::sync::Once;
-use util::string;
+use util::{number, string};
 
 /// The kind of a word of the table.
 pub fn keyword(word: &str) -> Option<u16> {
@@ -75,6 +75,11 @@ pub fn unquote(literal: &str) -> Unquoted {
         Some(Err(_)) => Unquoted::Bad,
         None => Unquoted::Panicked,
     }
+}
+
+/// The value of a number text, or what is said of a bad one; none where the Rust panics.
+pub fn number(text: &str) -> Option<Result<f64, String>> {
+    quietly(|| number::parse_str_radix(text))
 }
 
 thread_local! {

@@ -65,6 +65,14 @@ pub fn admitted(bytes: &[u8]) -> Result<&str, Answer> {
     }
 }
 
+/// The text of these bytes, or its refusal, where it may have at most so many.
+pub fn admitted_within(bytes: &[u8], most: usize) -> Result<&str, Answer> {
+    if bytes.len() > most {
+        return Err(Answer::refused(TOO_LONG));
+    }
+    admitted(bytes)
+}
+
 /// The longest well-formed prefix of a text.
 fn prefix(bytes: &[u8]) -> &str {
     match str::from_utf8(bytes) {

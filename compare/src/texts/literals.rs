@@ -1,6 +1,6 @@
 //! String literals, and texts that are nearly such.
 
-use super::{character, cut_characters, of_length, replaced, sequences, table_ends};
+use super::{character, cut_characters, of_length, replaced, sequences, short, table_ends};
 use crate::oracle::MOST_BYTES;
 use crate::random::Random;
 use std::iter;
@@ -99,6 +99,7 @@ pub fn fixed() -> impl Iterator<Item = Vec<u8>> {
     let not_utf8 = table_ends().into_iter().chain(cut_characters());
     let texts = pieces.chain(behind_backslash()).chain(not_utf8);
     short()
+        .chain(framed())
         .chain(texts.flat_map(between_signs))
         .chain(byte_escapes())
         .chain(code_escapes())
@@ -111,13 +112,10 @@ fn behind_backslash() -> impl Iterator<Item = Vec<u8>> {
     (0..=u8::MAX).flat_map(move |byte| digits.map(|digits| [b"\\", &[byte][..], digits].concat()))
 }
 
-/// Every text of at most two bytes, and every first and last byte with one between them.
-fn short() -> impl Iterator<Item = Vec<u8>> {
-    let one = (0..=u8::MAX).map(|byte| vec![byte]);
+/// Every first and last byte with one between them.
+fn framed() -> impl Iterator<Item = Vec<u8>> {
     let pairs = (0..=u16::MAX).map(u16::to_be_bytes);
-    let framed = pairs.clone().map(|[first, last]| vec![first, b'a', last]);
-    let two = pairs.map(|pair| pair.to_vec());
-    iter::once(Vec::new()).chain(one).chain(two).chain(framed)
+    pairs.map(|[first, last]| vec![first, b'a', last])
 }
 
 /// Every two bytes behind `\x`, and every two ASCII characters behind each digit.

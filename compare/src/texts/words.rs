@@ -1,6 +1,6 @@
 //! The words of a table, and texts that are nearly such words.
 
-use super::{replaced, well_formed};
+use super::{replaced, short, well_formed};
 use crate::oracle::MOST_BYTES;
 use crate::random::Random;
 use std::iter;
@@ -57,8 +57,6 @@ pub fn cased(word: &str) -> [Vec<u8>; 3] {
 /// Every text of at most two bytes; the words in each case, and with a letter removed, changed and put in at each place;
 /// two words with each piece between them; long texts.
 pub fn fixed<'a>(words: &'a [&str]) -> impl Iterator<Item = Vec<u8>> + 'a {
-    let one = (0..=255).map(|byte| vec![byte]);
-    let two = (0..=u16::MAX).map(|bytes| bytes.to_be_bytes().to_vec());
     let known = words.iter().flat_map(|word| cased(word));
     let near = known.clone().flat_map(|word| near(&word));
     let pairs = words
@@ -68,8 +66,7 @@ pub fn fixed<'a>(words: &'a [&str]) -> impl Iterator<Item = Vec<u8>> + 'a {
         let pieces = iter::once(&b""[..]).chain(PIECES);
         pieces.map(move |piece| [first.as_bytes(), piece, last.as_bytes()].concat())
     });
-    let short = iter::once(Vec::new()).chain(one).chain(two);
-    short
+    short()
         .chain(known)
         .chain(near)
         .chain(glued)

@@ -1,6 +1,7 @@
 //! Writes the replay program's recorded inputs, `record inputs`, and the answers of the Rust and of Go, `record answers`.
 //! A record is `OP HEX` or `OP HEX ROOM`. Both lists are the same in every run.
 
+mod number;
 mod string;
 mod token;
 mod utf8;
@@ -20,6 +21,7 @@ fn answer(line: &str) -> String {
         "escape" => Some(string::escape(&input, room)),
         "unquote" => Some(string::unquote(&input, room)),
         "unquotedoc" => Some(string::unquotedoc(&input, room)),
+        "number" => Some(number::number(&input)),
         _ => None,
     });
     answer.unwrap_or_else(|| "bad record".to_string())
@@ -53,7 +55,13 @@ fn main() -> ExitCode {
             return ExitCode::from(2);
         }
     };
-    let lines = [utf8::inputs(), token::inputs(), string::inputs()].concat();
+    let lines = [
+        utf8::inputs(),
+        token::inputs(),
+        string::inputs(),
+        number::inputs(),
+    ]
+    .concat();
     for line in lines {
         println!("{}", written(&line));
     }
