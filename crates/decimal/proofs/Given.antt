@@ -3,7 +3,7 @@
 use Prim.Native.Nat.{ℕ, _^_}
 use native.Mathlib.Decide.{decLe, ℕ-discrete}
 use native.Mathlib.Omega.{arith}
-use mathlib.Core.Bool.{Bool, true}
+use mathlib.Core.Bool.{Bool, true, false, true≢false}
 use mathlib.Core.List.{List}
 use mathlib.Core.Logic.{_⊎_, inl, inr}
 use mathlib.Core.Path.{_≡_, refl, sym, ap, _∙_}
@@ -23,6 +23,7 @@ use Rattle.decimal.specs.Laws.{numerator, denominator, NearestValue, Sho
 use Rattle.decimal.proofs.Values.{ten-pos}
 use Rattle.decimal.proofs.Caps.{tests-exact}
 use Rattle.decimal.proofs.Characters.{by-characters}
+use Rattle.decimal.proofs.Spelling.{spelled-once}
 use Rattle.decimal.proofs.Exactness.{numerator-is, zero-is, is-zero, scaled, one-scale}
 
 round-nothing : (s : Bool) (d : ℕ) → round binary64 s 0 (10 ^ d) ≡ fin s 0 (pos 0)
@@ -76,7 +77,7 @@ module _ (xs : List ℕ) where
 
   abbrev Holds : Row → Type 0
   Holds infinite = Short xs × Infinite xs
-  Holds number-less = Short xs × (Infinite xs → ⊥) × Nan xs
+  Holds number-less = Short xs × Nan xs
   Holds exact = Short xs × Numeral xs × Accepted
   Holds outside = Short xs × Numeral xs × (Accepted → ⊥)
   Holds none = Short xs × Spelled → ⊥
@@ -95,11 +96,19 @@ module _ (xs : List ℕ) where
   back outside = refl
   back none = refl
 
+  -- what is spelled in one way is not spelled in another
+  no-infinite : Nan xs ⊎ Numeral xs → isInfinite xs ≡ false
+  no-infinite (inl a) = affirmed (itself (isInfinite xs)) (λ i. true≢false (sym a ∙ spelled-once xs .0 i))
+  no-infinite (inr n) = affirmed (itself (isInfinite xs)) (λ i. true≢false (sym n ∙ spelled-once xs .1 i))
+
+  no-nan : Numeral xs → isNan xs ≡ false
+  no-nan n = affirmed (itself (isNan xs)) (λ a. true≢false (sym n ∙ spelled-once xs .2 a))
+
   -- what a numeral is read as
   numeral : Short xs → Numeral xs → decimalOf xs ≡ scaledBy (isMinus xs 0) (significand xs) (raised xs) (reduced xs)
   unfolding decimalIn
   numeral h n =
-      rw (← by-characters xs, le-ltb longest (length xs) h, affirmed (itself (isInfinite xs)) (n .0), affirmed (itself (isNan xs)) (n .1), n .2)
+      rw (← by-characters xs, le-ltb longest (length xs) h, no-infinite (inr n), no-nan n, n)
 
   nothing : Zero xs → scaledBy (isMinus xs 0) (significand xs) (raised xs) (reduced xs) ≡ Exact (plain (fin (isMinus xs 0) 0 (pos 0)))
   unfolding scaledBy
@@ -124,12 +133,12 @@ module _ (xs : List ℕ) where
   refused (yes h) n =
       let i : Infinite xs → ⊥ = λ i. n (h, inl i) in
       let a : Nan xs → ⊥ = λ a. n (h, inr (inl a)) in
-      rw (← by-characters xs, le-ltb longest (length xs) h, affirmed (itself (isInfinite xs)) i, affirmed (itself (isNan xs)) a, affirmed (itself (isNumeral xs)) (λ m. n (h, inr (inr (i, a, m)))))
+      rw (← by-characters xs, le-ltb longest (length xs) h, affirmed (itself (isInfinite xs)) i, affirmed (itself (isNan xs)) a, affirmed (itself (isNumeral xs)) (λ m. n (h, inr (inr m))))
 
   gives : (w : Row) → Holds w → decimalOf xs ≡ given w
   unfolding decimalIn
   gives infinite h = rw (← by-characters xs, le-ltb longest (length xs) (h .0), h .1)
-  gives number-less h = rw (← by-characters xs, le-ltb longest (length xs) (h .0), affirmed (itself (isInfinite xs)) (h .1), h .2)
+  gives number-less h = rw (← by-characters xs, le-ltb longest (length xs) (h .0), no-infinite (inl (h .1)), h .1)
   gives exact h = numeral (h .0) (h .1) ∙ accepted (ℕ-discrete (numerator xs) 0) (h .2)
   gives outside h = numeral (h .0) (h .1) ∙ beyond (h .2)
   gives none h = refused (decLe (length xs) longest) h
@@ -137,13 +146,13 @@ module _ (xs : List ℕ) where
   some : Dec (Short xs) → Dec (Infinite xs) → Dec (Nan xs) → Dec (isNumeral xs ≡ true) → Dec (Zero xs) → (w : Row) × Holds w
   some (no l) i a m z = (none, λ s. l (s .0))
   some (yes l) (yes i) a m z = (infinite, (l, i))
-  some (yes l) (no i) (yes a) m z = (number-less, (l, i, a))
-  some (yes l) (no i) (no a) (yes m) (yes z) = (exact, (l, (i, a, m), inl z))
+  some (yes l) (no i) (yes a) m z = (number-less, (l, a))
+  some (yes l) (no i) (no a) (yes m) (yes z) = (exact, (l, m, inl z))
   some (yes l) (no i) (no a) (yes m) (no z) = range (decided (tests-range xs z))
     where
       range : Dec (ExactRange xs) → (w : Row) × Holds w
-      range (yes r) = (exact, (l, (i, a, m), inr r))
-      range (no r) = (outside, (l, (i, a, m), out))
+      range (yes r) = (exact, (l, m, inr r))
+      range (no r) = (outside, (l, m, out))
         where
           out : Accepted → ⊥
           out (inl e) = z e
@@ -153,7 +162,7 @@ module _ (xs : List ℕ) where
       spelled : Spelled → ⊥
       spelled (inl e) = i e
       spelled (inr (inl e)) = a e
-      spelled (inr (inr e)) = m (e .2)
+      spelled (inr (inr e)) = m e
 
   row : (w : Row) × Holds w
   row =

@@ -30,7 +30,7 @@ NearestValue =
     (xs : List ℕ) (n : Number) → decimalOf xs ≡ Exact n →
     n ≡ plain (round binary64 (isMinus xs 0) (numerator xs) (denominator xs))
 
--- "duration and number text 256"
+-- "duration and number text 256"; and what the grammar has, which `specs/Spelling` spells out
 abbrev pub Short : List ℕ → Type 0
 Short xs = length xs ≤ longest
 
@@ -41,7 +41,7 @@ abbrev pub Nan : List ℕ → Type 0
 Nan xs = isNan xs ≡ true
 
 abbrev pub Numeral : List ℕ → Type 0
-Numeral xs = (¬ (Infinite xs)) × (¬ (Nan xs)) × (isNumeral xs ≡ true)
+Numeral xs = isNumeral xs ≡ true
 
 abbrev pub Zero : List ℕ → Type 0
 Zero xs = numerator xs ≡ 0
@@ -69,7 +69,7 @@ DecimalGiven =
     let d = decimalOf xs in
     let nearest = plain (round binary64 (isMinus xs 0) (numerator xs) (denominator xs)) in
     (d ≡ Named (plain (inf (isMinus xs 0))) ↔ Short xs × Infinite xs)
-    × (d ≡ Named (plain nan) ↔ Short xs × (¬ (Infinite xs)) × Nan xs)
+    × (d ≡ Named (plain nan) ↔ Short xs × Nan xs)
     × (d ≡ Exact nearest ↔ Short xs × Numeral xs × (Zero xs ⊎ ExactRange xs))
     × (d ≡ Outside (isMinus xs 0) ↔ Short xs × Numeral xs × (¬ (Zero xs ⊎ ExactRange xs)))
     × (d ≡ NotDecimal ↔ (¬ (Short xs × (Infinite xs ⊎ (Nan xs ⊎ Numeral xs)))))
