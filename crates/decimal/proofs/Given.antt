@@ -5,7 +5,7 @@ use native.Mathlib.Decide.{decLe, ℕ-discrete}
 use native.Mathlib.Omega.{arith}
 use mathlib.Core.Bool.{Bool, true, false, true≢false}
 use mathlib.Core.List.{List}
-use mathlib.Core.Logic.{_⊎_, inl, inr}
+use mathlib.Core.Logic.{_⊎_, inl, inr, ⊎-elim}
 use mathlib.Core.Path.{_≡_, refl, sym, ap, _∙_}
 use lib.IntN.{pos}
 use lib.Ieee.{Float, nan, inf, fin, binary64, round, size, units, odd}
@@ -174,6 +174,17 @@ module _ (xs : List ℕ) where
 pub decimal-given : DecimalGiven
 decimal-given xs =
     ((each xs infinite, gives xs infinite), (each xs number-less, gives xs number-less), (each xs exact, gives xs exact), (each xs outside, gives xs outside), (each xs none, gives xs none))
+
+pub decided-exact : (xs : List ℕ) → Dec (Zero xs ⊎ ExactRange xs)
+decided-exact xs = go (ℕ-discrete (numerator xs) 0)
+  where
+    range : (z : Zero xs → ⊥) → Dec (ExactRange xs) → Dec (Zero xs ⊎ ExactRange xs)
+    range z (yes r) = yes (inr r)
+    range z (no r) = no (⊎-elim z r)
+
+    go : Dec (Zero xs) → Dec (Zero xs ⊎ ExactRange xs)
+    go (yes z) = yes (inl z)
+    go (no z) = range z (decided (tests-range xs z))
 
 pub zero-kept : ZeroKept
 zero-kept xs h n z = numeral xs h n ∙ nothing xs z

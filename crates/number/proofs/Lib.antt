@@ -1,2 +1,4 @@
 pub mod Kept
 pub mod Marks
+pub mod Given
+pub mod Unique

@@ -76,11 +76,14 @@ integerRead n outer ys = integerBy n outer (integerOf n ys)
 abbrev pub isHexMark : List ℕ → Bool
 isHexMark t = eqb (peekAt t (behindZero t)) (code "x")
 
+unfoldable pub notationOf : List ℕ → Notation
+notationOf t = cond (isHexMark t) Hex Octal
+
+unfoldable pub followsMark : List ℕ → List ℕ
+followsMark t = drop (cond (isHexMark t) (suc (behindZero t)) (behindZero t)) t
+
 unfoldable pub markedRead : List ℕ → Parsing
-markedRead t =
-    cond (leadsZero t)
-    (cond (isHexMark t) (integerRead Hex (isMinus t 0) (drop (suc (behindZero t)) t)) (integerRead Octal (isMinus t 0) (drop (behindZero t) t)))
-    (Refused notNumber)
+markedRead t = cond (leadsZero t) (integerRead (notationOf t) (isMinus t 0) (followsMark t)) (Refused notNumber)
 
 abbrev pub decimalRead : Decimal → Parsing
 decimalRead NotDecimal = Refused notNumber

@@ -16,7 +16,7 @@ use Rattle.utf8.proofs.Chars.{rest-of}
 use Rattle.decimal.specs.declared.Notation.the-variants.{Hex, Octal}
 use Rattle.decimal.specs.Grammar.{isMinus}
 use Rattle.number.specs.declared.Parsing.the-variants.{Refused}
-use Rattle.number.specs.Number.{notNumber, isZeroAt, leadsZero, behindZero, isHexMark, integerRead, markedRead}
+use Rattle.number.specs.Number.{notNumber, isZeroAt, leadsZero, behindZero, isHexMark, notationOf, followsMark, integerRead, markedRead}
 use Rattle.number.proofs.Marks.{zero-inside}
 use borrow.Author.Needs.{needs}
 use Rattle.number.proofs.marked.Statement.{statement}
@@ -37,11 +37,11 @@ module _ (t : List ℕ) where
   unmarked e = rw e
 
   hex : leadsZero t ≡ true → isHexMark t ≡ true → integerRead Hex (isMinus t 0) (drop (suc (behindZero t)) t) ≡ markedRead t
-  unfolding markedRead
+  unfolding markedRead notationOf followsMark
   hex e f = rw (e, f)
 
   octal : leadsZero t ≡ true → isHexMark t ≡ false → integerRead Octal (isMinus t 0) (drop (behindZero t) t) ≡ markedRead t
-  unfolding markedRead
+  unfolding markedRead notationOf followsMark
   octal e f = rw (e, f)
 
 module _ (c : tie.After-is-zero-at) where

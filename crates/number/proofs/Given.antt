@@ -1,0 +1,221 @@
+-- When each answer is given: of any text one of the seven rows holds, which gives its own answer, and no two rows give the same
+-- (`exactly`). The conditions are read off the tests, and those of a decimal off its own theorem (`decimal-given`).
+use Prim.Native.Nat.{ℕ, _-_, _^_, _≤_}
+use Prim.Native.Char.{code}
+use native.Mathlib.Decide.{decLt, ℕ-discrete}
+use native.Mathlib.Omega.{arith}
+use mathlib.Core.Bool.{Bool, true, false, cond, _&&_, true≢false}
+use mathlib.Core.List.{List, [], _∷_}
+use mathlib.Core.Logic.{_⊎_, inl, inr, ⊎-elim}
+use mathlib.Core.Path.{_≡_, refl, sym, ap, _∙_}
+use lib.Dec.{eqb, ltb}
+use lib.ListN.{length}
+use Rattle.scan.specs.Byte.{peekAt, isDigitIn}
+use Rattle.scan.proofs.Choice.{either, and-left, and-right, exactly}
+use Rattle.scan.proofs.Tests.{Tests, affirmed, decided, itself, tests-or, tests-and, tests-not, tests-eq, tests-lt, tests-le, tests-has}
+use Rattle.utf8.specs.Text.{prefixEnd, WellFormed, isWellFormed, codesOf}
+use Rattle.utf8.specs.Answers.{placeAt, tooLong, notUtf8}
+use Rattle.utf8.specs.Refusals.{TooLong, NotUtf8, Taken}
+use Rattle.utf8.proofs.Given.{given-exactly}
+use Rattle.decimal.specs.declared.Notation.{Notation}
+use Rattle.decimal.specs.declared.Notation.the-variants as notation
+use Rattle.decimal.specs.declared.Decimal.{Decimal}
+use Rattle.decimal.specs.Grammar.{pastSign, isMinus, isNumeral, isInfinite, isNan}
+use Rattle.decimal.specs.Value.{radixOf, isExact, scaledBy, significand, raised, reduced, longest, decimalIn, decimalOf}
+use Rattle.decimal.specs.Laws.{Infinite, Nan, Numeral}
+use Rattle.decimal.proofs.Given.{decimal-given, decided-exact}
+use Rattle.number.specs.declared.Integer.the-variants as integer
+use Rattle.number.specs.declared.Parsing.{Parsing}
+use Rattle.number.specs.declared.Parsing.the-variants.{Value, Refused}
+use Rattle.number.specs.White.{plainText}
+use Rattle.number.specs.Signed.{isSigned}
+use Rattle.number.specs.Integer.{isDigits, digitsOf, isWhole, integerOf}
+use Rattle.number.specs.Number.{outsideExact, notNumber, notSigned, leadsZero, behindZero, hasDecimalSign, isOctal, isInteger, isHexMark, notationOf, followsMark, integerNumber, integerBy, markedRead, decimalRead, numberOf, parsingOf}
+use Rattle.number.specs.Refusals.{Octal, Marked, AllDigits, Whole, magnitude, own, negative, InSigned, Spelled, InExact, Accepted, numberIn, OutsideExact, NotNumber, NotSigned, ParsingGiven}
+use Rattle.number.proofs.Kept.{plain-few}
+
+-- the conditions and their tests
+tests-digits : (radix : ℕ) (ds : List ℕ) → Tests (isDigits radix ds) (AllDigits radix ds)
+unfolding isDigits
+tests-digits radix [] = ((λ e. tt), λ a. refl)
+tests-digits radix (d ∷ ds) = tests-and (itself (isDigitIn radix d)) (tests-digits radix ds)
+
+module _ (t : List ℕ) where
+  tests-octal : Tests (isOctal t) (Octal t)
+  unfolding isOctal hasDecimalSign
+  tests-octal =
+      let s = tests-not (tests-or (tests-has (code ".") t) (tests-or (tests-has (code "8") t) (tests-has (code "9") t))) in
+      let r = tests-and (tests-eq (peekAt t (pastSign t 0)) (code "0")) (tests-and s (tests-not (tests-eq (behindZero t) (length t)))) in
+      ((λ e. let o = r .0 e in (o .0, o .1 .0, o .1 .1)), λ o. r .1 (o .0, (o .1, o .2)))
+
+  tests-marked : Tests (isInteger t) (Marked t)
+  unfolding isInteger
+  tests-marked = tests-or (tests-has (code "x") t) tests-octal
+
+  tests-whole : Tests (leadsZero t && isWhole (notationOf t) (followsMark t)) (Whole t)
+  unfolding isWhole
+  tests-whole =
+      let ds = digitsOf (followsMark t) in
+      tests-and (tests-eq (peekAt t (pastSign t 0)) (code "0")) (tests-and (tests-lt 0 (length ds)) (tests-digits (radixOf (notationOf t)) ds))
+
+  tests-signed : Tests (isSigned (own t) (magnitude t) && isSigned (negative t) (magnitude t)) (InSigned t)
+  unfolding isSigned
+  tests-signed = tests-and (tests-le (magnitude t) (cond (own t) (2 ^ 63) (2 ^ 63 - 1))) (tests-le (magnitude t) (cond (negative t) (2 ^ 63) (2 ^ 63 - 1)))
+
+  -- what a marked text gives
+  unmarked : (Whole t → ⊥) → markedRead t ≡ Refused notNumber
+  unfolding markedRead integerOf
+  unmarked n = go (leadsZero t) (isWhole (notationOf t) (followsMark t)) (affirmed tests-whole n)
+    where
+      go : (z w : Bool) → z && w ≡ false → cond z (integerBy (notationOf t) (isMinus t 0) (cond w (integer.Whole (own t) (magnitude t)) integer.NotInteger)) (Refused notNumber) ≡ Refused notNumber
+      go true true e = absurd (true≢false e)
+      go true false e = refl
+      go false w e = refl
+
+  marked : (Whole t) → markedRead t ≡ integerBy (notationOf t) (isMinus t 0) (integer.Whole (own t) (magnitude t))
+  unfolding markedRead integerOf
+  marked w =
+      let e = tests-whole .1 w in
+      rw (and-left (leadsZero t) (isWhole (notationOf t) (followsMark t)) e, and-right (leadsZero t) (isWhole (notationOf t) (followsMark t)) e)
+
+  signed : Whole t → InSigned t → markedRead t ≡ Value (integerNumber (notationOf t) (negative t) (magnitude t))
+  signed w i = marked w ∙ rw (tests-signed .1 i)
+
+  unsigned : Whole t → (InSigned t → ⊥) → markedRead t ≡ Refused notSigned
+  unsigned w n = marked w ∙ rw (affirmed tests-signed n)
+
+  -- what a decimal gives
+  module _ (h : length t ≤ longest) where
+    undecimal : (Spelled t → ⊥) → decimalRead (decimalOf t) ≡ Refused notNumber
+    undecimal n = ap decimalRead (decimal-given t .4 .1 (λ s. n (s .1)))
+
+    beyond : Numeral t → (InExact t → ⊥) → decimalRead (decimalOf t) ≡ Refused outsideExact
+    beyond m n = ap decimalRead (decimal-given t .3 .1 (h, m, n))
+
+    same : (d : Decimal) → decimalOf t ≡ d → decimalRead d ≡ Value (numberIn d) → decimalRead (decimalOf t) ≡ Value (numberIn (decimalOf t))
+    same d e r = ap decimalRead e ∙ r ∙ ap (λ (d : Decimal). Value (numberIn d)) (sym e)
+
+    accepted : Accepted t → decimalRead (decimalOf t) ≡ Value (numberIn (decimalOf t))
+    accepted (inl i) = same _ (decimal-given t .0 .1 (h, i)) refl
+    accepted (inr (inl a)) = same _ (decimal-given t .1 .1 (h, a)) refl
+    accepted (inr (inr n)) = same _ (decimal-given t .2 .1 (h, n .0, n .1)) refl
+
+  plain-notation : numberIn (decimalOf t) .notation ≡ notation.Decimal
+  unfolding decimalOf decimalIn scaledBy
+  plain-notation =
+      let P : Decimal → Type 0 = λ d. numberIn d .notation ≡ notation.Decimal in
+      let xs = codesOf t in
+      either P (isWellFormed t)
+      (λ e. either P (ltb longest (length xs)) (λ e. refl)
+      (λ e. either P (isInfinite xs) (λ e. refl)
+      (λ e. either P (isNan xs) (λ e. refl)
+      (λ e. either P (isNumeral xs)
+      (λ e. either P (eqb (significand xs) 0) (λ e. refl)
+      (λ e. either P (isExact (significand xs) (raised xs) (reduced xs)) (λ e. refl) (λ e. refl)))
+      (λ e. refl)))))
+      (λ e. refl)
+
+data Row : Type 0 where
+  long : Row
+  broken : Row
+  none : Row
+  oversized : Row
+  outside : Row
+  integral : Row
+  decimal : Row
+
+abbrev byNotation : Notation → Row
+byNotation notation.Decimal = decimal
+byNotation notation.Hex = integral
+byNotation notation.Octal = integral
+
+abbrev rowOf : Parsing → Row
+rowOf (Value n) = byNotation (n .notation)
+rowOf (Refused r) =
+    cond (eqb (r .number) 1) long
+    (cond (eqb (r .number) 2) broken
+    (cond (eqb (r .number) 60) none
+    (cond (eqb (r .number) 61) oversized outside)))
+
+module _ (xs : List ℕ) where
+  abbrev t : List ℕ
+  t = plainText xs
+
+  abbrev Holds : Row → Type 0
+  Holds long = TooLong longest xs
+  Holds broken = (TooLong longest xs → ⊥) × NotUtf8 xs
+  Holds none = Taken longest xs × NotNumber t
+  Holds oversized = Taken longest xs × NotSigned t
+  Holds outside = Taken longest xs × OutsideExact t
+  Holds integral = Taken longest xs × (Marked t × Whole t × InSigned t)
+  Holds decimal = Taken longest xs × ((Marked t → ⊥) × Accepted t)
+
+  abbrev given : Row → Parsing
+  given long = Refused tooLong
+  given broken = Refused (notUtf8 (placeAt xs (prefixEnd xs)))
+  given none = Refused notNumber
+  given oversized = Refused notSigned
+  given outside = Refused outsideExact
+  given integral = Value (integerNumber (notationOf t) (negative t) (magnitude t))
+  given decimal = Value (numberIn (decimalOf t))
+
+  back : (w : Row) → rowOf (given w) ≡ w
+  back long = refl
+  back broken = refl
+  back none = refl
+  back oversized = refl
+  back outside = refl
+  back integral = unfold notationOf in either (λ n. byNotation n ≡ integral) (isHexMark t) (λ e. refl) (λ e. refl)
+  back decimal = ap byNotation (plain-notation t)
+
+  short : Taken longest xs → length t ≤ longest
+  short k = omega (arith, plain-few xs (k .1), k .0)
+
+  integer-read : Taken longest xs → Marked t → parsingOf xs ≡ markedRead t
+  unfolding parsingOf numberOf
+  integer-read k m = rw (given-exactly longest xs .2 .1 k, tests-marked t .1 m)
+
+  decimal-read : Taken longest xs → (Marked t → ⊥) → parsingOf xs ≡ decimalRead (decimalOf t)
+  unfolding parsingOf numberOf
+  decimal-read k m = rw (given-exactly longest xs .2 .1 k, affirmed (tests-marked t) m)
+
+  gives : (w : Row) → Holds w → parsingOf xs ≡ given w
+  unfolding parsingOf
+  gives long h = rw (given-exactly longest xs .0 .1 h)
+  gives broken h = rw (given-exactly longest xs .1 .1 h)
+  gives none (k, inl n) = integer-read k (n .0) ∙ unmarked t (n .1)
+  gives none (k, inr n) = decimal-read k (n .0) ∙ undecimal t (short k) (n .1)
+  gives oversized h = integer-read (h .0) (h .1 .0) ∙ unsigned t (h .1 .1) (h .1 .2)
+  gives outside h = decimal-read (h .0) (h .1 .0) ∙ beyond t (short (h .0)) (h .1 .1) (h .1 .2)
+  gives integral h = integer-read (h .0) (h .1 .0) ∙ signed t (h .1 .1) (h .1 .2)
+  gives decimal h = decimal-read (h .0) (h .1 .0) ∙ accepted t (short (h .0)) (h .1 .1)
+
+  -- which row holds of a text that is taken
+  marked-row : Taken longest xs → Marked t → Dec (Whole t) → Dec (InSigned t) → (w : Row) × Holds w
+  marked-row k m (no w) i = (none, (k, inl (m, w)))
+  marked-row k m (yes w) (no i) = (oversized, (k, (m, w, i)))
+  marked-row k m (yes w) (yes i) = (integral, (k, (m, w, i)))
+
+  decimal-row : Taken longest xs → (Marked t → ⊥) → Dec (Infinite t) → Dec (Nan t) → Dec (Numeral t) → Dec (InExact t) → (w : Row) × Holds w
+  decimal-row k m (yes i) a n e = (decimal, (k, (m, inl i)))
+  decimal-row k m (no i) (yes a) n e = (decimal, (k, (m, inr (inl a))))
+  decimal-row k m (no i) (no a) (yes n) (yes e) = (decimal, (k, (m, inr (inr (n, e)))))
+  decimal-row k m (no i) (no a) (yes n) (no e) = (outside, (k, (m, n, e)))
+  decimal-row k m (no i) (no a) (no n) e = (none, (k, inr (m, ⊎-elim i (⊎-elim a n))))
+
+  row : Dec (TooLong longest xs) → Dec (WellFormed xs) → Dec (Marked t) → (w : Row) × Holds w
+  row (yes l) w m = (long, l)
+  row (no l) (no w) m = (broken, (l, w))
+  row (no l) (yes w) (yes m) = marked-row (l, w) m (decided (tests-whole t)) (decided (tests-signed t))
+  row (no l) (yes w) (no m) =
+      decimal-row (l, w) m (decided (itself (isInfinite t))) (decided (itself (isNan t))) (decided (itself (isNumeral t))) (decided-exact t)
+
+  some : (w : Row) × Holds w
+  some = row (decLt longest (length xs)) (ℕ-discrete (prefixEnd xs) (length xs)) (decided (tests-marked t))
+
+  each : (w : Row) → parsingOf xs ≡ given w → Holds w
+  each = exactly rowOf given back Holds (some .0) (some .1) (gives (some .0) (some .1))
+
+pub parsing-given : ParsingGiven
+parsing-given xs =
+    ((each xs long, gives xs long), (each xs broken, gives xs broken), (each xs none, gives xs none), (each xs oversized, gives xs oversized), (each xs outside, gives xs outside), (each xs integral, gives xs integral), (each xs decimal, gives xs decimal))
