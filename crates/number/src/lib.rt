@@ -19,7 +19,7 @@ ghost use Rattle.scan.specs.Byte.{isWithin};
 ghost use Rattle.utf8.specs.Code.{isScalar};
 ghost use Rattle.utf8.specs.Refusals.{Taken};
 ghost use Rattle.number.specs.White.{isWhite, keptBytes, plainText};
-ghost use Rattle.decimal.specs.Value.{longest};
+ghost use Rattle.decimal.specs.Value.{longest, decimalOf};
 ghost use Rattle.utf8.specs.Answers.{atStart};
 ghost use Rattle.number.specs.declared.Parsing.the-variants.{Refused};
 ghost use Rattle.number.specs.Signed.{signedOf, isSigned};
@@ -277,16 +277,21 @@ fn marked(t: &[u8]) -> Parsing
     integer_number(Notation::Octal, outer, &t[behind..])
 }
 
-// The number that a decimal is.
-fn decimal_number(d: Decimal) -> Parsing
-    ensures { λ r. ⌜ r ≡ decimalRead d ⌝ }
+// The number that a text is as a decimal.
+fn decimal_number(t: &[u8]) -> Parsing
+    ensures { λ r. ⌜ r ≡ decimalRead (decimalOf (now (t .entry))) ⌝ }
 {
-    match d {
-        Decimal::NotDecimal => refused(NOT_A_NUMBER),
-        Decimal::Named(n) => Parsing::Value(n),
-        Decimal::Exact(n) => Parsing::Value(n),
-        Decimal::Outside(_) => refused(OUTSIDE_EXACT),
+    let d = decimal::read_decimal(t);
+    if let Decimal::Named(n) = d {
+        return Parsing::Value(n);
     }
+    if let Decimal::Outside(_) = d {
+        return refused(OUTSIDE_EXACT);
+    }
+    let Decimal::Exact(n) = d else {
+        return refused(NOT_A_NUMBER);
+    };
+    Parsing::Value(n)
 }
 
 // The number that a text is, without white space and in lower case.
@@ -296,7 +301,7 @@ fn read_plain(t: &[u8]) -> Parsing
     if is_integer(t) {
         return marked(t);
     }
-    decimal_number(decimal::read_decimal(t))
+    decimal_number(t)
 }
 
 // Reads a number.

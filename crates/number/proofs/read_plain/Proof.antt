@@ -1,6 +1,5 @@
 -- Each way out knows whether it is an integer.
-use mathlib.Core.Path.{ap, _∙_}
-use Rattle.number.specs.Number.{decimalRead, numberOf}
+use Rattle.number.specs.Number.{numberOf}
 use borrow.Author.Needs.{needs}
 use Rattle.number.proofs.read_plain.Statement.{statement}
 use Rattle.number.proofs.read_plain.Tie as tie
@@ -15,23 +14,14 @@ returns : tie.Need-returns
 unfolding numberOf
 returns c = rw (← c .before .before .is-integer .ensures, c .before .if1 .taken) (c .marked .ensures)
 
-read-decimal-requires : tie.Need-read-decimal-requires
-read-decimal-requires c κs = search needs
-
 decimal-number-requires : tie.Need-decimal-number-requires
 decimal-number-requires c κs = search needs
 
 returns-2 : tie.Need-returns-2
 unfolding numberOf
-returns-2 c = rw (← c .before .before .before .is-integer .ensures, c .before .before .if1 .left) (c .decimal-number .ensures ∙ ap decimalRead (c .before .read-decimal .ensures))
+returns-2 c = rw (← c .before .before .is-integer .ensures, c .before .if1 .left) (c .decimal-number .ensures)
 
 pub read-plain-spec : {M : Type 1} → statement M
 read-plain-spec =
     tie.close
-    (tie.spec
-    is-integer-requires
-    marked-requires
-    returns
-    read-decimal-requires
-    decimal-number-requires
-    returns-2)
+    (tie.spec is-integer-requires marked-requires returns decimal-number-requires returns-2)
