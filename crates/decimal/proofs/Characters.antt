@@ -1,10 +1,10 @@
 -- A decimal is a text of characters, and can be read by its bytes: what the grammar takes is ASCII throughout, place by place, and a name
 -- is, in any case of its letters; so what is not ASCII is no decimal, and utf8's `by-bytes` says the rest.
-use Prim.Native.Nat.{ℕ, suc, _+_, _<_}
+use Prim.Native.Nat.{ℕ, suc, _<_}
 use Prim.Native.Char.{code}
 use native.Mathlib.Decide.{decLt, ℕ-discrete}
 use native.Mathlib.Omega.{arith}
-use mathlib.Core.Bool.{Bool, true, false, cond, _&&_, _||_, true≢false}
+use mathlib.Core.Bool.{Bool, true, false, cond, _&&_, true≢false}
 use mathlib.Core.List.{List, [], _∷_}
 use mathlib.Core.Path.{_≡_, refl, sym, _∙_}
 use lib.Dec.{eqb, ltb}
@@ -19,9 +19,11 @@ use Rattle.scan.proofs.Classes.{within-bounds, lowered-above}
 use Rattle.scan.proofs.Runs.{run-passes}
 use Rattle.utf8.specs.Laws.{isAscii}
 use Rattle.utf8.proofs.Ascii.{by-bytes, lowered-other}
+use Rattle.sign.proofs.Places.{sign-ascii}
 use Rattle.decimal.specs.declared.Decimal.{Decimal}
 use Rattle.decimal.specs.declared.Decimal.the-variants.{NotDecimal}
-use Rattle.decimal.specs.Grammar.{isSign, pastSign, pastPoint, isExponent, pastExponent, wholeFrom, wholeTo, fractionFrom, fractionTo, exponentFrom, exponentTo, partsOf, hasDigits, isExponentWhole, isNumeral, isNamed, isInfinite, isNan}
+use Rattle.sign.specs.Sign.{isSign, pastSign}
+use Rattle.decimal.specs.Grammar.{pastPoint, isExponent, pastExponent, wholeFrom, wholeTo, fractionFrom, fractionTo, exponentFrom, exponentTo, partsOf, hasDigits, isExponentWhole, isNumeral, isNamed, isInfinite, isNan}
 use Rattle.decimal.specs.Value.{longest, decimalIn, decimalOf}
 use Rattle.decimal.specs.Laws.{ByCharacters}
 
@@ -32,14 +34,6 @@ AsciiTo xs n = (i : ℕ) → i < n → peekAt xs i < 0x80
 to-end : (xs : List ℕ) → AsciiTo xs (length xs) → isAscii xs ≡ true
 to-end [] a = refl
 to-end (x ∷ xs) a = rw (lt-ltb x 0x80 (a 0 (omega arith))) (to-end xs (λ i l. a (suc i) (omega arith)))
-
-sign-ascii : (c : ℕ) → isSign c ≡ true → c < 0x80
-unfolding isSign
-sign-ascii c e = go (eqb c (code "+")) refl e
-  where
-    go : (b : Bool) → eqb c (code "+") ≡ b → b || eqb c (code "-") ≡ true → c < 0x80
-    go true f t = omega (arith, eqb-true c (code "+") f)
-    go false f t = omega (arith, eqb-true c (code "-") t)
 
 exponent-ascii : (c : ℕ) → eqb (lowered c) (code "e") ≡ true → c < 0x80
 exponent-ascii c e = go (decLt c 0x80)

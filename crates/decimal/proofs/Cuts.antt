@@ -19,7 +19,8 @@ use Rattle.scan.specs.Run.{runLength, runEnd}
 use Rattle.scan.proofs.Choice.{either}
 use Rattle.scan.proofs.Runs.{inside, run-within}
 use Rattle.scan.proofs.Tests.{tests-or, tests-eq}
-use Rattle.decimal.specs.Grammar.{isSign, pastSign, isMinus, between}
+use Rattle.sign.specs.Sign.{isSign, pastSign, isMinus}
+use Rattle.decimal.specs.Grammar.{between}
 use Rattle.decimal.specs.Spelling.{Sign, Digits, SomeDigits}
 
 -- the signs come before the point

@@ -17,7 +17,8 @@ use Rattle.scan.proofs.Tests.{Tests, affirmed, decided, itself}
 use Rattle.decimal.specs.declared.Number.{Number}
 use Rattle.decimal.specs.declared.Decimal.{Decimal}
 use Rattle.decimal.specs.declared.Decimal.the-variants.{NotDecimal, Named, Exact, Outside}
-use Rattle.decimal.specs.Grammar.{isMinus, isNumeral, isInfinite, isNan}
+use Rattle.sign.specs.Sign.{isMinus}
+use Rattle.decimal.specs.Grammar.{isNumeral, isInfinite, isNan}
 use Rattle.decimal.specs.Value.{significand, raised, reduced, isExact, nearest, scaledBy, plain, longest, decimalIn, decimalOf}
 use Rattle.decimal.specs.Laws.{numerator, denominator, NearestValue, Short, Infinite, Nan, Numeral, Zero, ExactRange, DecimalGiven, ZeroKept}
 use Rattle.decimal.proofs.Values.{ten-pos}

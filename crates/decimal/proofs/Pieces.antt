@@ -17,7 +17,8 @@ use Rattle.scan.specs.Byte.{peekAt, isWithin, isIn, lowered}
 use Rattle.scan.proofs.Choice.{either}
 use Rattle.scan.proofs.Classes.{within-bounds, above-not, end-in-none}
 use Rattle.scan.proofs.Runs.{run-stopped, run-stops}
-use Rattle.decimal.specs.Grammar.{pastSign, isMinus, pastPoint, isExponent, pastExponent, between}
+use Rattle.sign.specs.Sign.{pastSign, isMinus}
+use Rattle.decimal.specs.Grammar.{pastPoint, isExponent, pastExponent, between}
 use Rattle.decimal.specs.Spelling.{Digits, SomeDigits, Mantissa, Power}
 use Rattle.decimal.proofs.Places.{no-exponent}
 use Rattle.decimal.proofs.Cuts.{digitsTo, Stand, split, between-some, between-none, there, found, next, digits-cut, digits-found, some-found, sign-cut, sign-told, sign-found}

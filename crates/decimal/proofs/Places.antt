@@ -11,26 +11,17 @@ use Rattle.scan.specs.Byte.{end, peekAt, isWithin, isIn, lowered}
 use Rattle.scan.specs.Run.{runEnd}
 use Rattle.scan.proofs.Choice.{either}
 use Rattle.scan.proofs.Runs.{inside, run-within}
-use Rattle.decimal.specs.Grammar.{isSign, pastSign, pastPoint, isExponent, wholeFrom, wholeTo, fractionFrom, fractionTo, exponentFrom, exponentTo}
-
-no-sign : isSign end ≡ false
-unfolding isSign
-no-sign = refl
+use Rattle.sign.proofs.Places.{sign-within}
+use Rattle.decimal.specs.Grammar.{pastPoint, isExponent, wholeFrom, wholeTo, fractionFrom, fractionTo, exponentFrom, exponentTo}
 
 pub no-exponent : eqb (lowered end) 101 ≡ false
 unfolding lowered isWithin
 no-exponent = refl
 
-pub sign-inside : (xs : List ℕ) (at : ℕ) → isSign (peekAt xs at) ≡ true → at < length xs
-sign-inside xs at e = inside isSign no-sign xs at e
-
 pub exponent-inside : (xs : List ℕ) (at : ℕ) → isExponent xs at ≡ true → at < length xs
 exponent-inside xs at e = inside (λ c. eqb (lowered c) 101) no-exponent xs at e
 
 module _ (xs : List ℕ) (at : ℕ) (h : at ≤ length xs) where
-  pub sign-within : pastSign xs at ≤ length xs
-  sign-within = either (λ n. n ≤ length xs) (isSign (peekAt xs at)) (sign-inside xs at) (λ e. h)
-
   pub point-within : pastPoint xs at ≤ length xs
   point-within = either (λ n. n ≤ length xs) (eqb (peekAt xs at) 46) (λ e. inside (λ c. eqb c 46) refl xs at e) (λ e. h)
 

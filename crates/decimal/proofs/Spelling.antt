@@ -16,7 +16,8 @@ use Rattle.scan.proofs.Classes.{below-not, end-in-none}
 use Rattle.scan.proofs.Runs.{run-stopped}
 use Rattle.scan.proofs.Same.{same-is-equal}
 use Rattle.scan.proofs.Tests.{Tests, affirmed, tests-or, tests-and, itself, tests-eq, tests-lt}
-use Rattle.decimal.specs.Grammar.{isMinus, wholeFrom, wholeTo, fractionFrom, fractionTo, exponentTo, partsOf, hasDigits, isExponentWhole, isNumeral, isNamed, isInfinite, isNan, between, fractionOf, exponentOf, isLowered}
+use Rattle.sign.specs.Sign.{isMinus}
+use Rattle.decimal.specs.Grammar.{wholeFrom, wholeTo, fractionFrom, fractionTo, exponentTo, partsOf, hasDigits, isExponentWhole, isNumeral, isNamed, isInfinite, isNan, between, fractionOf, exponentOf, isLowered}
 use Rattle.decimal.specs.Spelling.{Mantissa, NumeralOf, NameOf, InfinityOf, NumeralSpelled, NamesSpelled, SpelledOnce, PartsSpelled, SignSpelled}
 use Rattle.decimal.proofs.Places.{exponent-within}
 use Rattle.decimal.proofs.Cuts.{between-some, sign-cut, sign-told, sign-found}

@@ -1,22 +1,12 @@
 -- Any two answers that the promise of a public function allows are equal: both equal the definition.
 use mathlib.Core.Path.{sym, _∙_}
 use Rattle.scan.proofs.One.{OneAnswer}
-use Rattle.decimal.proofs.past_sign.Kinds as past-sign
-use Rattle.decimal.proofs.past_sign.Reads as past-sign-reads
-use Rattle.decimal.proofs.is_minus.Kinds as is-minus
-use Rattle.decimal.proofs.is_minus.Reads as is-minus-reads
 use Rattle.decimal.proofs.radix.Kinds as radix
 use Rattle.decimal.proofs.radix.Reads as radix-reads
 use Rattle.decimal.proofs.digits_value.Kinds as digits-value
 use Rattle.decimal.proofs.digits_value.Reads as digits-value-reads
 use Rattle.decimal.proofs.read_decimal.Kinds as read-decimal
 use Rattle.decimal.proofs.read_decimal.Reads as read-decimal-reads
-
-pub same-past-sign : OneAnswer past-sign.ps past-sign.r past-sign-reads.Post
-same-past-sign κs a x y e f p q = p ∙ sym q
-
-pub same-is-minus : OneAnswer is-minus.ps is-minus.r is-minus-reads.Post
-same-is-minus κs a x y e f p q = p ∙ sym q
 
 pub same-radix : OneAnswer radix.ps radix.r radix-reads.Post
 same-radix κs a x y e f p q = p ∙ sym q

@@ -11,17 +11,8 @@ use Rattle.scan.specs.declared.Class.the-variants.{Digit}
 use Rattle.scan.specs.Byte.{peekAt, lowered, isIn}
 use Rattle.scan.specs.Run.{runEnd}
 use Rattle.scan.specs.Text.{sameText}
+use Rattle.sign.specs.Sign.{pastSign, isMinus}
 use Rattle.decimal.specs.declared.Parts.{Parts}
-
--- past a sign, where one stands
-unfoldable pub isSign : ℕ → Bool
-isSign c = eqb c (code "+") || eqb c (code "-")
-
-abbrev pub pastSign : List ℕ → ℕ → ℕ
-pastSign xs at = cond (isSign (peekAt xs at)) (suc at) at
-
-abbrev pub isMinus : List ℕ → ℕ → Bool
-isMinus xs at = eqb (peekAt xs at) (code "-")
 
 -- past a point, where one stands
 abbrev pub pastPoint : List ℕ → ℕ → ℕ

@@ -9,7 +9,8 @@ use lib.Ieee.{nan, inf, fin, binary64, round}
 use lib.ListN.{length}
 use Rattle.decimal.specs.declared.Number.{Number}
 use Rattle.decimal.specs.declared.Decimal.the-variants.{NotDecimal, Named, Exact, Outside}
-use Rattle.decimal.specs.Grammar.{isMinus, isNumeral, isInfinite, isNan, fractionOf, digitsOf, exponentOf, isLowered}
+use Rattle.sign.specs.Sign.{isMinus}
+use Rattle.decimal.specs.Grammar.{isNumeral, isInfinite, isNan, fractionOf, digitsOf, exponentOf, isLowered}
 use Rattle.decimal.specs.Value.{valueOf, largest, steps, plain, longest, decimalIn, decimalOf}
 
 -- what is said of a decimal's characters can be read off its bytes

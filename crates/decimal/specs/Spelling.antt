@@ -10,7 +10,8 @@ use lib.ListN.{length}
 use Rattle.scan.specs.Ascii.{ascii}
 use Rattle.scan.specs.declared.Class.the-variants.{Digit}
 use Rattle.scan.specs.Byte.{lowered, isIn}
-use Rattle.decimal.specs.Grammar.{isMinus, isNumeral, isInfinite, isNan, fractionOf, digitsOf, exponentOf, isLowered}
+use Rattle.sign.specs.Sign.{isMinus}
+use Rattle.decimal.specs.Grammar.{isNumeral, isInfinite, isNan, fractionOf, digitsOf, exponentOf, isLowered}
 
 -- [+-]?
 abbrev pub Sign : List ℕ → Type 0

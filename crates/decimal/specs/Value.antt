@@ -14,7 +14,8 @@ use Rattle.decimal.specs.declared.Notation.the-variants as notation
 use Rattle.decimal.specs.declared.Number.{Number}
 use Rattle.decimal.specs.declared.Decimal.{Decimal}
 use Rattle.decimal.specs.declared.Decimal.the-variants.{NotDecimal, Named, Exact, Outside}
-use Rattle.decimal.specs.Grammar.{isMinus, isNumeral, isInfinite, isNan, fractionOf, digitsOf, exponentOf, isLowered}
+use Rattle.sign.specs.Sign.{isMinus}
+use Rattle.decimal.specs.Grammar.{isNumeral, isInfinite, isNan, fractionOf, digitsOf, exponentOf, isLowered}
 
 -- how many digits a notation has
 abbrev pub radixOf : Notation → ℕ

@@ -10,8 +10,9 @@ ghost use lib.ListN.{length};
 ghost use Rattle.scan.specs.Ascii.{ascii};
 ghost use Rattle.scan.specs.Byte.{lowered};
 ghost use Rattle.scan.specs.Text.{sameText};
+ghost use Rattle.sign.specs.Sign.{isMinus};
 ghost use Rattle.decimal.specs.declared.Decimal.the-variants.{Named};
-ghost use Rattle.decimal.specs.Grammar.{isSign, pastSign, pastPoint, isExponent, isMinus, pastExponent, between, partsOf, hasDigits, isExponentWhole, isNumeral};
+ghost use Rattle.decimal.specs.Grammar.{pastPoint, isExponent, pastExponent, between, partsOf, hasDigits, isExponentWhole, isNumeral};
 ghost use Rattle.decimal.specs.Value.{radixOf, valueFrom, valueOf, mostTold, trailing, trimmed, largest, steps, longest, isExact, nearest, plain, scaledBy, numeralRead, decimalOf};
 ghost use Rattle.decimal.specs.Scaled.{tenTo};
 
@@ -46,24 +47,6 @@ pub struct Parts {
     pub exponent_to: usize,
 }
 
-// A sign.
-fn is_sign(c: usize) -> bool
-    ensures { λ r. ⌜ r ≡ isSign c ⌝ }
-{
-    c == b'+' as usize || c == b'-' as usize
-}
-
-// The place past a sign, where one stands.
-pub fn past_sign(s: &[u8], at: usize) -> usize
-    ensures { λ r. ⌜ r ≡ pastSign (now (s .entry)) at ⌝ }
-{
-    if is_sign(scan::peek(s, at)) {
-        at + 1
-    } else {
-        at
-    }
-}
-
 // The place past a point, where one stands.
 fn past_point(s: &[u8], at: usize) -> usize
     requires { ⌜ at ≤ length (now s) ⌝ }
@@ -88,7 +71,7 @@ fn past_exponent(s: &[u8], at: usize) -> usize
     ensures { λ r. ⌜ r ≡ pastExponent (now (s .entry)) at ⌝ }
 {
     if is_exponent(s, at) {
-        return past_sign(s, at + 1);
+        return sign::past_sign(s, at + 1);
     }
     at
 }
@@ -97,7 +80,7 @@ fn past_exponent(s: &[u8], at: usize) -> usize
 fn parts_of(s: &[u8]) -> Parts
     ensures { λ r. ⌜ r ≡ partsOf (now (s .entry)) ⌝ }
 {
-    let whole_from = past_sign(s, 0);
+    let whole_from = sign::past_sign(s, 0);
     let whole_to = scan::run_end(Class::Digit, s, whole_from);
     let fraction_from = past_point(s, whole_to);
     let fraction_to = scan::run_end(Class::Digit, s, fraction_from);
@@ -337,19 +320,12 @@ fn scaled_by(negative: bool, w: u64, raised: usize, reduced: usize) -> Decimal
     })
 }
 
-// Whether a minus stands at a place.
-pub fn is_minus(s: &[u8], at: usize) -> bool
-    ensures { λ r. ⌜ r ≡ isMinus (now (s .entry)) at ⌝ }
-{
-    scan::peek(s, at) == b'-' as usize
-}
-
 // Whether a negative exponent begins at a place.
 fn is_lowered(s: &[u8], at: usize) -> bool
     requires { ⌜ at ≤ longest ⌝ }
     ensures { λ r. ⌜ r ≡ isExponent (now (s .entry)) at && isMinus (now (s .entry)) (suc at) ⌝ }
 {
-    is_exponent(s, at) && is_minus(s, at + 1)
+    is_exponent(s, at) && sign::is_minus(s, at + 1)
 }
 
 // How many zeros the digits of a text end with.
@@ -381,7 +357,7 @@ fn numeral(s: &[u8], p: Parts) -> Decimal
     let zeros = trailing_zeros(s, p.whole_from, p.whole_to, p.fraction_from, p.fraction_to);
     let e = exponent(s, p.exponent_from, p.exponent_to);
     let behind = p.fraction_to - p.fraction_from;
-    let negative = is_minus(s, 0);
+    let negative = sign::is_minus(s, 0);
     if is_lowered(s, p.fraction_to) {
         return scaled_by(negative, w, zeros, behind + e);
     }
@@ -429,10 +405,10 @@ pub fn read_decimal(s: &[u8]) -> Decimal
     if LONGEST < s.len() {
         return Decimal::NotDecimal;
     }
-    let from = past_sign(s, 0);
+    let from = sign::past_sign(s, 0);
     let word = &s[from..];
     if is_infinite(word) {
-        return named(infinite(is_minus(s, 0)));
+        return named(infinite(sign::is_minus(s, 0)));
     }
     if is_named(word, b"nan") {
         return named(not_a_number());

@@ -20,7 +20,8 @@ use Rattle.utf8.proofs.Given.{given-exactly}
 use Rattle.decimal.specs.declared.Notation.{Notation}
 use Rattle.decimal.specs.declared.Notation.the-variants as notation
 use Rattle.decimal.specs.declared.Decimal.{Decimal}
-use Rattle.decimal.specs.Grammar.{pastSign, isMinus, isNumeral, isInfinite, isNan}
+use Rattle.sign.specs.Sign.{pastSign, isMinus}
+use Rattle.decimal.specs.Grammar.{isNumeral, isInfinite, isNan}
 use Rattle.decimal.specs.Value.{radixOf, isExact, scaledBy, significand, raised, reduced, longest, decimalIn, decimalOf}
 use Rattle.decimal.specs.Laws.{Infinite, Nan, Numeral}
 use Rattle.decimal.proofs.Given.{decimal-given, decided-exact}

@@ -6,7 +6,7 @@ use lib.Dec.{ltb}
 use lib.ListN.{length, drop}
 use Rattle.scan.specs.Byte.{isDigitIn}
 use Rattle.decimal.specs.declared.Notation.{Notation}
-use Rattle.decimal.specs.Grammar.{pastSign, isMinus}
+use Rattle.sign.specs.Sign.{pastSign, isMinus}
 use Rattle.decimal.specs.Value.{radixOf, valueIn, mostTold}
 use Rattle.number.specs.declared.Integer.{Integer}
 use Rattle.number.specs.declared.Integer.the-variants.{Whole, NotInteger}

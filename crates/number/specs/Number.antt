@@ -17,7 +17,7 @@ use Rattle.decimal.specs.declared.Notation.the-variants.{Hex, Octal}
 use Rattle.decimal.specs.declared.Number.{Number}
 use Rattle.decimal.specs.declared.Decimal.{Decimal}
 use Rattle.decimal.specs.declared.Decimal.the-variants.{NotDecimal, Named, Exact, Outside}
-use Rattle.decimal.specs.Grammar.{pastSign, isMinus}
+use Rattle.sign.specs.Sign.{pastSign, isMinus}
 use Rattle.decimal.specs.Value.{longest, decimalOf}
 use Rattle.number.specs.declared.Parsing.{Parsing}
 use Rattle.number.specs.declared.Parsing.the-variants.{Value, Refused}

@@ -16,7 +16,7 @@ use Rattle.utf8.specs.Refusals.{TooLong, NotUtf8, Taken}
 use Rattle.decimal.specs.declared.Number.{Number}
 use Rattle.decimal.specs.declared.Decimal.{Decimal}
 use Rattle.decimal.specs.declared.Decimal.the-variants.{NotDecimal, Named, Exact, Outside}
-use Rattle.decimal.specs.Grammar.{pastSign, isMinus}
+use Rattle.sign.specs.Sign.{pastSign, isMinus}
 use Rattle.decimal.specs.Value.{radixOf, plain, longest, decimalOf}
 use Rattle.decimal.specs.Laws.{Infinite, Nan, Numeral, Zero, ExactRange}
 use Rattle.number.specs.declared.Parsing.the-variants.{Value, Refused}

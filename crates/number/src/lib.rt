@@ -186,7 +186,7 @@ fn is_digits(radix: usize, s: &[u8]) -> bool
 fn read_integer(notation: Notation, s: &[u8]) -> Integer
     ensures { λ r. ⌜ r ≡ toldOf (integerOf notation (now (s .entry))) ⌝ }
 {
-    let from = decimal::past_sign(s, 0);
+    let from = sign::past_sign(s, 0);
     let digits = &s[from..];
     if digits.len() == 0 {
         return Integer::NotInteger;
@@ -195,7 +195,7 @@ fn read_integer(notation: Notation, s: &[u8]) -> Integer
         return Integer::NotInteger;
     }
     Integer::Whole(
-        decimal::is_minus(s, 0),
+        sign::is_minus(s, 0),
         decimal::digits_value(0, notation, digits),
     )
 }
@@ -218,7 +218,7 @@ fn has_decimal_sign(t: &[u8]) -> bool
 fn is_octal(t: &[u8]) -> bool
     ensures { λ r. ⌜ r ≡ isOctal (now (t .entry)) ⌝ }
 {
-    let from = decimal::past_sign(t, 0);
+    let from = sign::past_sign(t, 0);
     if !is_zero_at(t, from) {
         return false;
     }
@@ -265,12 +265,12 @@ fn integer_number(notation: Notation, outer: bool, s: &[u8]) -> Parsing
 fn marked(t: &[u8]) -> Parsing
     ensures { λ r. ⌜ r ≡ markedRead (now (t .entry)) ⌝ }
 {
-    let from = decimal::past_sign(t, 0);
+    let from = sign::past_sign(t, 0);
     if !is_zero_at(t, from) {
         return refused(NOT_A_NUMBER);
     }
     let behind = from + 1;
-    let outer = decimal::is_minus(t, 0);
+    let outer = sign::is_minus(t, 0);
     if scan::peek(t, behind) == b'x' as usize {
         return integer_number(Notation::Hex, outer, &t[behind + 1..]);
     }

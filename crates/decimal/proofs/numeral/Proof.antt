@@ -12,7 +12,8 @@ use Rattle.scan.specs.Byte.{peekAt}
 use Rattle.scan.proofs.Choice.{either}
 use Rattle.decimal.specs.declared.Decimal.{Decimal}
 use Rattle.decimal.specs.declared.Parts.{Parts}
-use Rattle.decimal.specs.Grammar.{between, isMinus, isExponent, partsOf, wholeTo, fractionFrom, fractionTo, fractionOf, isLowered}
+use Rattle.sign.specs.Sign.{isMinus}
+use Rattle.decimal.specs.Grammar.{between, isExponent, partsOf, wholeTo, fractionFrom, fractionTo, fractionOf, isLowered}
 use Rattle.decimal.specs.Value.{valueOf, trailing, trimmed, mostTold, longest, scaledBy, numeralRead}
 use Rattle.decimal.proofs.Places.{whole-within, fraction-within, exponent-within}
 use Rattle.decimal.proofs.Zeros.{trailing-few, between-long}

@@ -13,9 +13,10 @@ use Rattle.scan.specs.Byte.{lowered}
 use Rattle.scan.specs.Text.{sameText}
 use Rattle.utf8.proofs.Chars.{rest-of}
 use Rattle.decimal.specs.declared.Decimal.the-variants.{NotDecimal, Named}
-use Rattle.decimal.specs.Grammar.{isMinus, wholeFrom, isNumeral, isInfinite, isNan}
+use Rattle.sign.specs.Sign.{isMinus}
+use Rattle.decimal.specs.Grammar.{wholeFrom, isNumeral, isInfinite, isNan}
 use Rattle.decimal.specs.Value.{longest, plain, numeralRead, decimalIn, decimalOf}
-use Rattle.decimal.proofs.Places.{sign-within}
+use Rattle.sign.proofs.Places.{sign-within}
 use Rattle.decimal.proofs.Characters.{by-characters}
 use borrow.Author.Needs.{needs}
 use Rattle.decimal.proofs.read_decimal.Statement.{statement}

@@ -14,7 +14,7 @@ use Rattle.scan.specs.Byte.{peekAt}
 use Rattle.scan.proofs.Runs.{peek-inside}
 use Rattle.utf8.proofs.Chars.{rest-of}
 use Rattle.decimal.specs.declared.Notation.the-variants.{Hex, Octal}
-use Rattle.decimal.specs.Grammar.{isMinus}
+use Rattle.sign.specs.Sign.{isMinus}
 use Rattle.number.specs.declared.Parsing.the-variants.{Refused}
 use Rattle.number.specs.Number.{notNumber, isZeroAt, leadsZero, behindZero, isHexMark, notationOf, followsMark, integerRead, markedRead}
 use Rattle.number.proofs.Marks.{zero-inside}

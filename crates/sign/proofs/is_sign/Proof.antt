@@ -1,9 +1,9 @@
 -- Each way out knows what the tests said.
 use borrow.Author.Tests.{eq-eqb, ne-eqb}
-use Rattle.decimal.specs.Grammar.{isSign}
+use Rattle.sign.specs.Sign.{isSign}
 use borrow.Author.Needs.{needs}
-use Rattle.decimal.proofs.is_sign.Statement.{statement}
-use Rattle.decimal.proofs.is_sign.Tie as tie
+use Rattle.sign.proofs.is_sign.Statement.{statement}
+use Rattle.sign.proofs.is_sign.Tie as tie
 
 cast-if1 : tie.Need-cast-if1
 cast-if1 c = search needs

@@ -1,7 +1,7 @@
 -- The test is that of the definition.
 use borrow.Author.Needs.{needs}
-use Rattle.decimal.proofs.is_minus.Statement.{statement}
-use Rattle.decimal.proofs.is_minus.Tie as tie
+use Rattle.sign.proofs.is_minus.Statement.{statement}
+use Rattle.sign.proofs.is_minus.Tie as tie
 
 peek-requires : tie.Need-peek-requires
 peek-requires c κs = search needs

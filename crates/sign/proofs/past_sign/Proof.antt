@@ -3,11 +3,11 @@ use native.Mathlib.Numerals.{add-one}
 use native.Mathlib.Omega.{arith}
 use mathlib.Core.Path.{sym, ap, _∙_}
 use denote.Ref.{now}
-use Rattle.decimal.specs.Grammar.{isSign}
-use Rattle.decimal.proofs.Places.{sign-inside}
+use Rattle.sign.specs.Sign.{isSign}
+use Rattle.sign.proofs.Places.{sign-inside}
 use borrow.Author.Needs.{needs}
-use Rattle.decimal.proofs.past_sign.Statement.{statement}
-use Rattle.decimal.proofs.past_sign.Tie as tie
+use Rattle.sign.proofs.past_sign.Statement.{statement}
+use Rattle.sign.proofs.past_sign.Tie as tie
 
 peek-requires : tie.Need-peek-requires
 peek-requires c κs = search needs
