@@ -43,6 +43,12 @@ trailing-join (x ∷ xs) ys = rw (zeros-join (x ∷ xs) ys) (go (isZeros (x ∷ 
     go false true ih = ih
     go false false ih = ih
 
+pub trailing-first : (xs ys : List ℕ) → isZeros ys ≡ true → trailing (xs ++ ys) ≡ length ys + trailing xs
+trailing-first xs ys e = trailing-join xs ys ∙ rw e
+
+pub trailing-last : (xs ys : List ℕ) → isZeros ys ≡ false → trailing (xs ++ ys) ≡ trailing ys
+trailing-last xs ys e = trailing-join xs ys ∙ rw e
+
 -- the last digit, and those before it
 module _ (xs : List ℕ) (from at : ℕ) (l : from < at) (h : at ≤ length xs) where
   last : between xs from at ≡ between xs from (at - 1) ++ (getD xs (at - 1) 0 ∷ [])
@@ -84,14 +90,12 @@ all-is ys t = go (isZeros ys) refl
 -- two runs without them
 pub trimmed-first : (xs ys : List ℕ) → isZeros ys ≡ true → trimmed (xs ++ ys) ≡ trimmed xs
 trimmed-first xs ys e =
-    let t : trailing (xs ++ ys) ≡ length ys + trailing xs = trailing-join xs ys ∙ rw e in
-    let k : length (xs ++ ys) - trailing (xs ++ ys) ≡ length xs - trailing xs = omega (arith, t, length-append xs ys) in
+    let k : length (xs ++ ys) - trailing (xs ++ ys) ≡ length xs - trailing xs = omega (arith, trailing-first xs ys e, length-append xs ys) in
     rw k (take-append-le (length xs - trailing xs) xs ys (omega arith))
 
 pub trimmed-both : (xs ys : List ℕ) → isZeros ys ≡ false → trimmed (xs ++ ys) ≡ xs ++ trimmed ys
 trimmed-both xs ys e =
-    let t : trailing (xs ++ ys) ≡ trailing ys = trailing-join xs ys ∙ rw e in
-    let k : length (xs ++ ys) - trailing (xs ++ ys) ≡ length xs + (length ys - trailing ys) = omega (arith, t, length-append xs ys, trailing-few ys) in
+    let k : length (xs ++ ys) - trailing (xs ++ ys) ≡ length xs + (length ys - trailing ys) = omega (arith, trailing-last xs ys e, length-append xs ys, trailing-few ys) in
     rw k (take-append-add xs ys (length ys - trailing ys))
 
 -- what stands between two offsets without them

@@ -3,7 +3,7 @@ use scan::Class;
 ghost use mathlib.Core.Bool.{false, _&&_, _||_};
 ghost use mathlib.Core.Path.{_≡_};
 ghost use Prim.Native.Nat.{suc, _+_, _≤_, min};
-ghost use mathlib.Core.List.{_++_, map};
+ghost use mathlib.Core.List.{map};
 ghost use lib.IntN.{pos};
 ghost use lib.Ieee.{fin, inf, nan};
 ghost use lib.ListN.{length};
@@ -12,8 +12,8 @@ ghost use Rattle.scan.specs.Byte.{lowered};
 ghost use Rattle.scan.specs.Text.{sameText};
 ghost use Rattle.sign.specs.Sign.{isMinus};
 ghost use Rattle.decimal.specs.declared.Decimal.the-variants.{Named};
-ghost use Rattle.decimal.specs.Grammar.{pastPoint, isExponent, pastExponent, between, partsOf, hasDigits, isExponentWhole, isNumeral};
-ghost use Rattle.decimal.specs.Value.{radixOf, valueFrom, valueOf, mostTold, trailing, trimmed, largest, steps, longest, isExact, nearest, plain, scaledBy, numeralRead, decimalOf};
+ghost use Rattle.decimal.specs.Grammar.{pastPoint, isExponent, pastExponent, between, partsOf, hasDigits, isExponentWhole, isNumeral, digitsOf, exponentOf};
+ghost use Rattle.decimal.specs.Value.{radixOf, valueFrom, valueOf, mostTold, trailing, significand, largest, steps, longest, isExact, nearest, plain, scaledBy, numeralRead, decimalOf};
 ghost use Rattle.decimal.specs.Scaled.{tenTo};
 
 // How a number was written.
@@ -174,6 +174,14 @@ pub fn digits_value(start: u64, notation: Notation, digits: &[u8]) -> u64
     capped(value)
 }
 
+// What the decimal digits between two offsets amount to behind those that amount to `start`, or the most that is told apart.
+fn value_between(s: &[u8], from: usize, to: usize, start: u64) -> u64
+    requires { ⌜ (from ≤ to) × (to ≤ length (now s)) ⌝ }
+    ensures { λ r. ⌜ r ≡ min mostTold (valueFrom 10 start (between (now (s .entry)) from to)) ⌝ }
+{
+    digits_value(start, Notation::Decimal, &s[from..to])
+}
+
 // How many zeros the digits between two offsets end with.
 fn zeros_before(s: &[u8], from: usize, to: usize) -> usize
     requires { ⌜ (from ≤ to) × (to ≤ length (now s)) ⌝ }
@@ -193,31 +201,6 @@ fn zeros_before(s: &[u8], from: usize, to: usize) -> usize
 const LARGEST: u64 = 0x20_0000_0000_0000;
 
 const STEPS: usize = 22;
-
-// What the digits of a text amount to without the zeros that they end with, or the most that is told apart.
-fn significand(
-    s: &[u8],
-    whole_from: usize,
-    whole_to: usize,
-    fraction_from: usize,
-    fraction_to: usize,
-) -> u64
-    requires { ⌜ («whole_from» ≤ «whole_to») × («whole_to» ≤ length (now s)) ⌝ }
-    requires { ⌜ («fraction_from» ≤ «fraction_to») × («fraction_to» ≤ length (now s)) ⌝ }
-    ensures { λ r. ⌜ r ≡ min mostTold (valueOf (trimmed (between (now (s .entry)) «whole_from» «whole_to» ++ between (now (s .entry)) «fraction_from» «fraction_to»))) ⌝ }
-{
-    let zeros = zeros_before(s, fraction_from, fraction_to);
-    if zeros == fraction_to - fraction_from {
-        let more = zeros_before(s, whole_from, whole_to);
-        return digits_value(0, Notation::Decimal, &s[whole_from..whole_to - more]);
-    }
-    let whole = digits_value(0, Notation::Decimal, &s[whole_from..whole_to]);
-    digits_value(
-        whole,
-        Notation::Decimal,
-        &s[fraction_from..fraction_to - zeros],
-    )
-}
 
 // 10 ^ 0 to 10 ^ 22, each of which an `f64` holds exactly.
 const POWERS: [f64; 23] = [
@@ -275,14 +258,6 @@ fn nearest(negative: bool, w: u64, raised: usize, reduced: usize) -> f64
     if negative { -r } else { r }
 }
 
-// What an exponent amounts to, or the most that is told apart.
-fn exponent(s: &[u8], from: usize, to: usize) -> usize
-    requires { ⌜ (from ≤ to) × (to ≤ length (now s)) ⌝ }
-    ensures { λ r. ⌜ r ≡ min mostTold (valueOf (between (now (s .entry)) from to)) ⌝ }
-{
-    digits_value(0, Notation::Decimal, &s[from..to]) as usize
-}
-
 // A zero, which keeps its sign.
 fn zero(negative: bool) -> f64
     ensures { λ r. ⌜ r ≡ fin negative 0 (pos 0) ⌝ }
@@ -329,23 +304,36 @@ fn is_lowered(s: &[u8], at: usize) -> bool
 }
 
 // How many zeros the digits of a text end with.
-fn trailing_zeros(
-    s: &[u8],
-    whole_from: usize,
-    whole_to: usize,
-    fraction_from: usize,
-    fraction_to: usize,
-) -> usize
-    requires { ⌜ («whole_from» ≤ «whole_to») × («whole_to» ≤ length (now s)) × (length (now s) ≤ longest) ⌝ }
-    requires { ⌜ («fraction_from» ≤ «fraction_to») × («fraction_to» ≤ length (now s)) ⌝ }
-    ensures { λ r. ⌜ r ≡ trailing (between (now (s .entry)) «whole_from» «whole_to» ++ between (now (s .entry)) «fraction_from» «fraction_to») ⌝ }
+fn trailing_zeros(s: &[u8], p: Parts) -> usize
+    requires { ⌜ (p ≡ partsOf (now s)) × (length (now s) ≤ longest) ⌝ }
+    ensures { λ r. ⌜ r ≡ trailing (digitsOf (now (s .entry))) ⌝ }
 {
-    let zeros = zeros_before(s, fraction_from, fraction_to);
-    if zeros == fraction_to - fraction_from {
-        let more = zeros_before(s, whole_from, whole_to);
-        return zeros + more;
+    let zeros = zeros_before(s, p.fraction_from, p.fraction_to);
+    if zeros == p.fraction_to - p.fraction_from {
+        return zeros + zeros_before(s, p.whole_from, p.whole_to);
     }
     zeros
+}
+
+// What the digits of a text amount to without the zeros that they end with, or the most that is told apart.
+fn significand(s: &[u8], p: Parts, zeros: usize) -> u64
+    requires { ⌜ (p ≡ partsOf (now s)) × (zeros ≡ trailing (digitsOf (now s))) ⌝ }
+    ensures { λ r. ⌜ r ≡ min mostTold (significand (now (s .entry))) ⌝ }
+{
+    let behind = p.fraction_to - p.fraction_from;
+    if behind <= zeros {
+        return value_between(s, p.whole_from, p.whole_to - (zeros - behind), 0);
+    }
+    let whole = value_between(s, p.whole_from, p.whole_to, 0);
+    value_between(s, p.fraction_from, p.fraction_to - zeros, whole)
+}
+
+// What the exponent of a text amounts to, or the most that is told apart.
+fn exponent(s: &[u8], p: Parts) -> usize
+    requires { ⌜ p ≡ partsOf (now s) ⌝ }
+    ensures { λ r. ⌜ r ≡ min mostTold (valueOf (exponentOf (now (s .entry)))) ⌝ }
+{
+    value_between(s, p.exponent_from, p.exponent_to, 0) as usize
 }
 
 // The value of a numeral, by where its parts lie.
@@ -353,9 +341,9 @@ fn numeral(s: &[u8], p: Parts) -> Decimal
     requires { ⌜ (p ≡ partsOf (now s)) × (length (now s) ≤ longest) ⌝ }
     ensures { λ r. ⌜ r ≡ numeralRead (now (s .entry)) ⌝ }
 {
-    let w = significand(s, p.whole_from, p.whole_to, p.fraction_from, p.fraction_to);
-    let zeros = trailing_zeros(s, p.whole_from, p.whole_to, p.fraction_from, p.fraction_to);
-    let e = exponent(s, p.exponent_from, p.exponent_to);
+    let zeros = trailing_zeros(s, p);
+    let w = significand(s, p, zeros);
+    let e = exponent(s, p);
     let behind = p.fraction_to - p.fraction_from;
     let negative = sign::is_minus(s, 0);
     if is_lowered(s, p.fraction_to) {

@@ -1,143 +1,123 @@
--- Where the digits behind the point are all zeros those before it are read without the zeros that they end with; else all of those before it,
--- and those behind it without the zeros at their end.
-use Prim.Native.Nat.{ℕ, _-_, _≤_, min}
+-- As many zeros as there are digits behind the point, or more: these are all zeros, and those before it are read without theirs. Fewer: all digits before the point are read, and those behind it without theirs.
+use Prim.Native.Nat.{ℕ, _+_, _-_, _<_, _≤_, min}
 use native.Mathlib.Omega.{arith}
 use mathlib.Core.Bool.{Bool, true, false}
 use mathlib.Core.List.{List, _++_}
 use mathlib.Core.Path.{_≡_, refl, sym, ap, ap₂, _∙_}
 use lib.ListN.{length}
 use denote.Ref.{now}
+use Rattle.decimal.specs.declared.Parts.{Parts}
 use Rattle.decimal.specs.Grammar.{between}
-use Rattle.decimal.specs.Value.{valueFrom, isZeros, trailing, mostTold}
+use Rattle.decimal.specs.Value.{valueFrom, valueOf, isZeros, trailing, trimmed, mostTold}
 use Rattle.decimal.proofs.Runs.{capped-on, value-join}
-use Rattle.decimal.proofs.Zeros.{trailing-few, all-is, all-zeros, trimmed-first, trimmed-both, between-long, trimmed-between}
-use borrow.Author.Needs.{needs}
+use Rattle.decimal.proofs.Places.{Ordered, ordered, wholeIn, fractionIn, behindIn, whole-long, fraction-long, digits-are}
+use Rattle.decimal.proofs.Zeros.{trailing-few, not-all, trailing-first, trailing-last, trimmed-first, trimmed-both, trimmed-between}
 use Rattle.decimal.proofs.significand.Statement.{statement}
 use Rattle.decimal.proofs.significand.Tie as tie
 
-zeros-before-requires : tie.Need-zeros-before-requires
-zeros-before-requires c κs = search needs
+module _ (c : tie.Start) where
+  abbrev xs : List ℕ
+  xs = now (c .args .s)
 
-sub-if1 : tie.Need-sub-if1
-sub-if1 c = search needs
+  abbrev p : Parts
+  p = c .args .p
 
-zeros-before-requires-2 : tie.Need-zeros-before-requires-2
-zeros-before-requires-2 c κs = search needs
+  abbrev zeros : ℕ
+  zeros = c .args .zeros
 
--- the digits of the two parts
-module _ (c : tie.After-zeros-before) where
-  abbrev a : tie.Start
-  a = c .before .before
+  in-order : Ordered xs p
+  in-order = ordered xs p (c .pre .0)
 
   abbrev whole : List ℕ
-  whole = between (now (a .args .s)) (a .args .whole-from) (a .args .whole-to)
+  whole = wholeIn xs p
 
   abbrev fraction : List ℕ
-  fraction = between (now (a .args .s)) (a .args .fraction-from) (a .args .fraction-to)
+  fraction = fractionIn xs p
 
-  long : length fraction ≡ a .args .fraction-to - a .args .fraction-from
-  long = between-long (now (a .args .s)) (a .args .fraction-from) (a .args .fraction-to) (a .pre .1 .0) (a .pre .1 .1)
+  long : length fraction ≡ behindIn xs p
+  long = fraction-long xs p (c .pre .0)
 
-  whole-long : length whole ≡ a .args .whole-to - a .args .whole-from
-  whole-long = between-long (now (a .args .s)) (a .args .whole-from) (a .args .whole-to) (a .pre .0 .0) (a .pre .0 .1)
+  whole-few : trailing whole ≤ p .«whole_to» - p .«whole_from»
+  whole-few = omega (arith, trailing-few whole, whole-long xs p (c .pre .0))
 
-few : (c : tie.After-zeros-before2) → let d = c .before .before in c .zeros-before2 .result ≤ a d .args .whole-to - a d .args .whole-from
-few c = let d = c .before .before in omega (arith, c .zeros-before2 .ensures, trailing-few (whole d), whole-long d)
+  counted : zeros ≡ trailing (whole ++ fraction)
+  counted = c .pre .1 ∙ ap trailing (sym (digits-are xs p (c .pre .0)))
 
-sub-digits-value : tie.Need-sub-digits-value
-sub-digits-value c = omega (arith, few c)
+  -- as many zeros as there are digits behind the point, or fewer
+  first : behindIn xs p ≤ zeros → (isZeros fraction ≡ true) × (zeros ≡ behindIn xs p + trailing whole)
+  first h = go (isZeros fraction) refl
+    where
+      go : (b : Bool) → isZeros fraction ≡ b → (isZeros fraction ≡ true) × (zeros ≡ behindIn xs p + trailing whole)
+      go true e = (e, omega (arith, counted, trailing-first whole fraction e, long))
+      go false e = let f : ⊥ = omega (arith, counted, trailing-last whole fraction e, long, not-all fraction e) in absurd f
 
-sub-digits-value-2 : tie.Need-sub-digits-value-2
-sub-digits-value-2 c = omega (arith, few c, a (c .before .before) .pre .0 .0)
+  second : zeros < behindIn xs p → (isZeros fraction ≡ false) × (zeros ≡ trailing fraction)
+  second h = go (isZeros fraction) refl
+    where
+      go : (b : Bool) → isZeros fraction ≡ b → (isZeros fraction ≡ false) × (zeros ≡ trailing fraction)
+      go true e = let f : ⊥ = omega (arith, counted, trailing-first whole fraction e, long) in absurd f
+      go false e = (e, omega (arith, counted, trailing-last whole fraction e))
 
-part-digits-value-start : tie.Need-part-digits-value-start
-part-digits-value-start c = omega (arith, few c, a (c .before .before) .pre .0 .0)
+sub-behind : tie.Need-sub-behind
+sub-behind c = in-order (c .before .before) .fraction
 
-part-digits-value-end : tie.Need-part-digits-value-end
-part-digits-value-end c = search needs
+sub-value-between : tie.Need-sub-value-between
+sub-value-between c = let s = c .before .before .before .before in omega (arith, first s (c .before .if1 .taken) .1, in-order s .whole, whole-few s)
 
-digits-value-requires : tie.Need-digits-value-requires
-digits-value-requires c κs = search needs
+value-between-requires : tie.Need-value-between-requires
+value-between-requires c κs =
+    let s = c .before .before .before .before in
+    let o = in-order s in
+    (omega (arith, first s (c .before .if1 .taken) .1, o .whole, whole-few s), omega (arith, o .whole-in))
 
 returns : tie.Need-returns
 returns c =
-    let b = c .before .before in
-    let d = b .before .before in
-    let xs = now (a d .args .s) in
-    let z = all-is (fraction d) (sym (d .zeros-before .ensures) ∙ b .before .if1 .taken ∙ sym (long d)) in
-    let t = trimmed-between xs (a d .args .whole-from) (a d .args .whole-to) (a d .pre .0 .0) (a d .pre .0 .1) in
-    c .digits-value .ensures
-    ∙ rw (trimmed-first (whole d) (fraction d) z, t, ← b .zeros-before2 .ensures)
+    let s = c .before .before .before .before .before in
+    let o = in-order s in
+    let f = first s (c .before .before .if1 .taken) in
+    let k : zeros s - behindIn (xs s) (p s) ≡ trailing (whole s) = omega (arith, f .1) in
+    c .value-between .ensures
+    ∙ ap (λ (n : ℕ). min mostTold (valueOf (between (xs s) (p s .«whole_from») (p s .«whole_to» - n)))) k
+    ∙ ap (λ (ys : List ℕ). min mostTold (valueOf ys)) (sym (ap trimmed (sym (digits-are (xs s) (p s) (s .pre .0))) ∙ trimmed-first (whole s) (fraction s) (f .0) ∙ trimmed-between (xs s) (p s .«whole_from») (p s .«whole_to») (o .whole) (o .whole-in)))
 
-sub-digits-value-3 : tie.Need-sub-digits-value-3
-sub-digits-value-3 c = search needs
+value-between-requires-2 : tie.Need-value-between-requires-2
+value-between-requires-2 c κs = let o = in-order (c .before .before .before) in (o .whole, o .whole-in)
 
-part-digits-value-start-2 : tie.Need-part-digits-value-start-2
-part-digits-value-start-2 c = search needs
+fraction-few : (c : tie.After-value-between2) → let s = c .before .before .before .before in zeros s ≤ behindIn (xs s) (p s)
+fraction-few c = let s = c .before .before .before .before in omega (arith, second s (c .before .if1 .left) .1, trailing-few (fraction s), long s)
 
-part-digits-value-end-2 : tie.Need-part-digits-value-end-2
-part-digits-value-end-2 c = search needs
+sub-value-between-2 : tie.Need-sub-value-between-2
+sub-value-between-2 c = omega (arith, fraction-few (c .before))
 
-digits-value-requires-2 : tie.Need-digits-value-requires-2
-digits-value-requires-2 c κs = search needs
-
-some : (c : tie.Else1) → isZeros (fraction (c .before)) ≡ false
-some c = go (isZeros (fraction (c .before))) refl
-  where
-    go : (b : Bool) → isZeros (fraction (c .before)) ≡ b → isZeros (fraction (c .before)) ≡ false
-    go true e = absurd (c .if1 .left (c .before .zeros-before .ensures ∙ all-zeros (fraction (c .before)) e ∙ long (c .before)))
-    go false e = e
-
-fraction-few : (c : tie.After-zeros-before) → c .zeros-before .result ≤ a c .args .fraction-to - a c .args .fraction-from
-fraction-few c = omega (arith, c .zeros-before .ensures, trailing-few (fraction c), long c)
-
-sub-digits-value-4 : tie.Need-sub-digits-value-4
-sub-digits-value-4 c = omega (arith, fraction-few (c .before .before .before))
-
-sub-digits-value-5 : tie.Need-sub-digits-value-5
-sub-digits-value-5 c = let d = c .before .before .before in omega (arith, fraction-few d, a d .pre .1 .0)
-
-part-digits-value-start-3 : tie.Need-part-digits-value-start-3
-part-digits-value-start-3 c = let d = c .before .before .before in omega (arith, fraction-few d, a d .pre .1 .0)
-
-part-digits-value-end-3 : tie.Need-part-digits-value-end-3
-part-digits-value-end-3 c = search needs
-
-digits-value-requires-3 : tie.Need-digits-value-requires-3
-digits-value-requires-3 c κs = search needs
+value-between-requires-3 : tie.Need-value-between-requires-3
+value-between-requires-3 c κs =
+    let e = c .before in
+    let o = in-order (e .before .before .before .before) in
+    (omega (arith, fraction-few e, o .fraction), omega (arith, o .fraction-in))
 
 returns-2 : tie.Need-returns-2
 returns-2 c =
-    let b = c .before .before in
-    let d = b .before .before .before in
-    let xs = now (a d .args .s) in
-    let t = trimmed-between xs (a d .args .fraction-from) (a d .args .fraction-to) (a d .pre .1 .0) (a d .pre .1 .1) in
-    let rest = between xs (a d .args .fraction-from) (a d .args .fraction-to - trailing (fraction d)) in
-    c .digits-value3 .ensures
-    ∙ ap₂ (λ (v n : ℕ). min mostTold (valueFrom 10 v (between xs (a d .args .fraction-from) (a d .args .fraction-to - n)))) (b .digits-value2 .ensures) (d .zeros-before .ensures)
-    ∙ capped-on 10 (omega arith) mostTold (valueFrom 10 0 (whole d)) rest
-    ∙ sym (ap (min mostTold) (ap (valueFrom 10 0) (trimmed-both (whole d) (fraction d) (some (b .before .before)) ∙ ap (λ (ys : List ℕ). whole d ++ ys) t) ∙ value-join 10 0 (whole d) rest))
+    let e = c .before .before .before in
+    let s = e .before .before .before in
+    let o = in-order s in
+    let g = second s (e .if1 .left) in
+    let rest = between (xs s) (p s .«fraction_from») (p s .«fraction_to» - trailing (fraction s)) in
+    c .value-between3 .ensures
+    ∙ ap₂ (λ (v n : ℕ). min mostTold (valueFrom 10 v (between (xs s) (p s .«fraction_from») (p s .«fraction_to» - n)))) (c .before .before .value-between2 .ensures) (g .1)
+    ∙ capped-on 10 (omega arith) mostTold (valueOf (whole s)) rest
+    ∙ ap (min mostTold) (sym (value-join 10 0 (whole s) rest))
+    ∙ ap (λ (ys : List ℕ). min mostTold (valueOf ys))
+    (sym (ap trimmed (sym (digits-are (xs s) (p s) (s .pre .0))) ∙ trimmed-both (whole s) (fraction s) (g .0) ∙ ap (λ (ys : List ℕ). whole s ++ ys) (trimmed-between (xs s) (p s .«fraction_from») (p s .«fraction_to») (o .fraction) (o .fraction-in))))
 
 pub significand-spec : {M : Type 1} → statement M
 significand-spec =
     tie.close
     (tie.spec
-    zeros-before-requires
-    sub-if1
-    zeros-before-requires-2
-    sub-digits-value
-    sub-digits-value-2
-    part-digits-value-start
-    part-digits-value-end
-    digits-value-requires
+    sub-behind
+    sub-value-between
+    value-between-requires
     returns
-    sub-digits-value-3
-    part-digits-value-start-2
-    part-digits-value-end-2
-    digits-value-requires-2
-    sub-digits-value-4
-    sub-digits-value-5
-    part-digits-value-start-3
-    part-digits-value-end-3
-    digits-value-requires-3
+    value-between-requires-2
+    sub-value-between-2
+    value-between-requires-3
     returns-2)
