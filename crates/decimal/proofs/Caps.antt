@@ -8,11 +8,11 @@ use mathlib.Core.Path.{_≡_}
 use borrow.Author.Tests.{eq-eqb, ne-eqb}
 use Rattle.scan.proofs.Tests.{Tests, affirmed, decided, tests-and, tests-le}
 use Rattle.decimal.specs.Laws.{InRange}
-use Rattle.decimal.specs.Value.{mostTold, longest, largest, steps, isExact, scaledBy}
+use Rattle.decimal.specs.Value.{mostTold, longest, mostExact, mostExponent, isExact, scaledBy}
 
 pub tests-exact : (w up down : ℕ) → Tests (isExact w up down) (InRange w up down)
 unfolding isExact
-tests-exact w up down = tests-and (tests-le w largest) (tests-and (tests-le up (down + steps)) (tests-le down (up + steps)))
+tests-exact w up down = tests-and (tests-le w mostExact) (tests-and (tests-le up (down + mostExponent)) (tests-le down (up + mostExponent)))
 
 outside : (neg : Bool) (w up down v a b : ℕ) → (w ≡ 0 → ⊥) → (v ≡ 0 → ⊥) → isExact w up down ≡ false → isExact v a b ≡ false → scaledBy neg w up down ≡ scaledBy neg v a b
 unfolding scaledBy

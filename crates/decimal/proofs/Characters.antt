@@ -9,7 +9,7 @@ use mathlib.Core.List.{List, [], _∷_}
 use mathlib.Core.Path.{_≡_, refl, sym, _∙_}
 use lib.Dec.{eqb, ltb}
 use lib.ListN.{length, drop}
-use borrow.Author.Tests.{lt-ltb, eqb-true}
+use borrow.Author.Tests.{lt-ltb, le-ltb, eqb-true}
 use Rattle.scan.specs.Ascii.{ascii}
 use Rattle.scan.specs.declared.Class.the-variants.{Digit}
 use Rattle.scan.specs.Byte.{peekAt, isIn, lowered}
@@ -23,7 +23,7 @@ use Rattle.sign.proofs.Places.{sign-ascii}
 use Rattle.decimal.specs.declared.Decimal.{Decimal}
 use Rattle.decimal.specs.declared.Decimal.the-variants.{NotDecimal}
 use Rattle.sign.specs.Sign.{isSign, pastSign}
-use Rattle.decimal.specs.Grammar.{pastPoint, isExponent, pastExponent, wholeFrom, wholeTo, fractionFrom, fractionTo, exponentFrom, exponentTo, partsOf, hasDigits, isExponentWhole, isNumeral, isNamed, isInfinite, isNan}
+use Rattle.decimal.specs.Grammar.{pastPoint, isExponent, pastExponent, wholeFrom, wholeTo, fractionFrom, fractionTo, exponentFrom, exponentTo, partsOf, hasDigits, exponentHasDigits, isNumeral, isNamed, isInfinite, isNan}
 use Rattle.decimal.specs.Value.{longest, decimalIn, decimalOf}
 use Rattle.decimal.specs.Laws.{ByCharacters}
 
@@ -84,7 +84,7 @@ module _ (xs : List ℕ) where
   unfolding isNumeral
   whole-ends e =
       let p = partsOf xs in
-      eqb-true (exponentTo xs) (length xs) (and-right (isExponentWhole xs p) (eqb (exponentTo xs) (length xs)) (and-right (hasDigits p) (isExponentWhole xs p && eqb (exponentTo xs) (length xs)) e))
+      eqb-true (exponentTo xs) (length xs) (and-right (exponentHasDigits xs p) (eqb (exponentTo xs) (length xs)) (and-right (hasDigits p) (exponentHasDigits xs p && eqb (exponentTo xs) (length xs)) e))
 
   module _ (h : isAscii xs ≡ false) where
     no-numeral : isNumeral xs ≡ false
@@ -109,12 +109,8 @@ unnamed name xs a h = lowered-other (drop (wholeFrom xs) xs) name (behind xs h) 
 other-none : (xs : List ℕ) → isAscii xs ≡ false → decimalIn xs ≡ NotDecimal
 unfolding decimalIn isInfinite isNan
 other-none xs h =
-    rw (unnamed (ascii "inf") xs refl h, unnamed (ascii "infinity") xs refl h, unnamed (ascii "nan") xs refl h, no-numeral xs h) (go (ltb longest (length xs)))
-  where
-    go : (b : Bool) → cond b NotDecimal NotDecimal ≡ NotDecimal
-    go true = refl
-    go false = refl
+    rw (unnamed (ascii "inf") xs refl h, unnamed (ascii "infinity") xs refl h, unnamed (ascii "nan") xs refl h, no-numeral xs h)
 
 pub by-characters : ByCharacters
 unfolding decimalOf
-by-characters xs = by-bytes Decimal NotDecimal decimalIn other-none xs
+by-characters xs h = rw (le-ltb longest (length xs) h) (by-bytes Decimal NotDecimal decimalIn other-none xs)

@@ -6,6 +6,7 @@ use native.Mathlib.Nat.{mul-assoc, mul-right-comm, mul-one, zero-mul, mul-mod-le
 use native.Mathlib.Omega.{arith}
 use mathlib.Core.Bool.{Bool, true, false, cond, _&&_, true≢false}
 use mathlib.Core.List.{List, [], _∷_, _++_}
+use mathlib.Core.Logic.{_↔_}
 use mathlib.Core.Path.{_≡_, refl, sym, ap, ap₂, _∙_}
 use lib.Dec.{eqb}
 use lib.ListN.{length, take, drop}
@@ -17,9 +18,9 @@ use Rattle.scan.specs.Byte.{peekAt, digitOf, isIn}
 use Rattle.scan.specs.Run.{runEnd}
 use Rattle.scan.proofs.Classes.{within-bounds}
 use Rattle.scan.proofs.Runs.{run-passes}
-use Rattle.decimal.specs.Grammar.{between, wholeFrom, wholeTo, fractionFrom, fractionOf, digitsOf, exponentOf, isLowered}
+use Rattle.decimal.specs.Grammar.{between, wholeFrom, wholeTo, fractionFrom, fractionOf, digitsOf, exponentOf, isNegativeExponent}
 use Rattle.decimal.specs.Value.{valueFrom, valueOf, isZeros, trailing, trimmed, significand, raised, reduced}
-use Rattle.decimal.specs.Laws.{numerator, denominator, Scaled, InRange, OneScale}
+use Rattle.decimal.specs.Laws.{numerator, denominator, Scaled, SomeScale, OneScale, InRange, ExactRange}
 use Rattle.decimal.proofs.Values.{ten-pos}
 use Rattle.decimal.proofs.Zeros.{trailing-few, all-zeros}
 
@@ -115,7 +116,7 @@ digits-below xs = below-join (between xs (wholeFrom xs) (wholeTo xs)) (fractionO
 -- the value is w times ten to the power of the zeros and the exponent
 pub numerator-is : (xs : List ℕ) → numerator xs ≡ significand xs * 10 ^ raised xs
 numerator-is xs =
-    let e = cond (isLowered xs) 0 (valueOf (exponentOf xs)) in
+    let e = cond (isNegativeExponent xs) 0 (valueOf (exponentOf xs)) in
     ap (λ (n : ℕ). n * 10 ^ e) (split 0 (digitsOf xs))
     ∙ mul-assoc (significand xs) (10 ^ trailing (digitsOf xs)) (10 ^ e)
     ∙ ap (λ (n : ℕ). significand xs * n) (sym (pow-add 10 (trailing (digitsOf xs)) e))
@@ -128,7 +129,7 @@ is-zero xs e = numerator-is xs ∙ ap (λ (n : ℕ). n * 10 ^ raised xs) e ∙ z
 
 pub scaled : (xs : List ℕ) → (significand xs ≡ 0 → ⊥) → Scaled xs (significand xs) (raised xs) (reduced xs)
 scaled xs n =
-    record { value = ap (λ (m : ℕ). m * denominator xs) (sym (numerator-is xs)); whole = λ e. go (isZeros (digitsOf xs)) refl e }
+    record { value = ap (λ (m : ℕ). m * denominator xs) (sym (numerator-is xs)); not-by-ten = λ e. go (isZeros (digitsOf xs)) refl e }
   where
     go : (b : Bool) → isZeros (digitsOf xs) ≡ b → significand xs % 10 ≡ 0 → ⊥
     go true z e = n (all-trimmed 0 (digitsOf xs) z)
@@ -155,10 +156,18 @@ module _ (xs : List ℕ) (w u d v a b : ℕ) (p : Scaled xs w u d) (q : Scaled x
       apart : (w u b : ℕ) → w * 10 ^ (u + b) * denominator xs ≡ w * 10 ^ u * denominator xs * 10 ^ b
       apart w u b = ap (λ (n : ℕ). w * n * denominator xs) (pow-add 10 u b) ∙ ap (λ (n : ℕ). n * denominator xs) (sym (mul-assoc w (10 ^ u) (10 ^ b))) ∙ mul-right-comm (w * 10 ^ u) (10 ^ b) (denominator xs)
 
-  pub same-range : InRange w u d → InRange v a b
-  same-range i =
-      let r = one-power (u + b) (a + d) w v (p .whole) (q .whole) crossed in
-      (omega (arith, r .0, i .0), (omega (arith, r .1, i .1 .0), omega (arith, r .1, i .1 .1)))
+  pub one : (w ≡ v) × (u + b ≡ a + d)
+  one = one-power (u + b) (a + d) w v (p .not-by-ten) (q .not-by-ten) crossed
+
+  same-range : InRange w u d → InRange v a b
+  same-range i = (omega (arith, one .0, i .0), (omega (arith, one .1, i .1 .0), omega (arith, one .1, i .1 .1)))
 
 pub one-scale : OneScale
-one-scale xs w u d p = ((λ i. (w, u, d, p, i)), λ r. same-range xs (r .0) (r .1) (r .2) w u d (r .3) p (r .4))
+one-scale = one
+
+pub some-scale : SomeScale
+some-scale xs n = (significand xs, raised xs, reduced xs, scaled xs (λ e. n (is-zero xs e)))
+
+-- so a value is within the range by any w and E of it or by none
+pub any-scale : (xs : List ℕ) (w u d : ℕ) → Scaled xs w u d → InRange w u d ↔ ExactRange xs
+any-scale xs w u d p = ((λ i. (w, u, d, p, i)), λ r. same-range xs (r .0) (r .1) (r .2) w u d (r .3) p (r .4))

@@ -20,12 +20,12 @@ use Rattle.decimal.specs.declared.Decimal.the-variants.{NotDecimal, Name
 use Rattle.sign.specs.Sign.{isMinus}
 use Rattle.decimal.specs.Grammar.{isNumeral, isInfinite, isNan}
 use Rattle.decimal.specs.Value.{significand, raised, reduced, isExact, nearest, scaledBy, plain, longest, decimalIn, decimalOf}
-use Rattle.decimal.specs.Laws.{numerator, denominator, NearestValue, Short, Infinite, Nan, Numeral, Zero, ExactRange, DecimalGiven, ZeroKept}
+use Rattle.decimal.specs.Laws.{numerator, denominator, nearestOf, NearestValue, Short, Infinite, Nan, Numeral, Spelled, Zero, ExactRange, InExact, DecimalGiven, ZeroKept}
 use Rattle.decimal.proofs.Values.{ten-pos}
 use Rattle.decimal.proofs.Caps.{tests-exact}
 use Rattle.decimal.proofs.Characters.{by-characters}
 use Rattle.decimal.proofs.Spelling.{spelled-once}
-use Rattle.decimal.proofs.Exactness.{numerator-is, zero-is, is-zero, scaled, one-scale}
+use Rattle.decimal.proofs.Exactness.{numerator-is, zero-is, is-zero, scaled, any-scale}
 
 round-nothing : (s : Bool) (d : ℕ) → round binary64 s 0 (10 ^ d) ≡ fin s 0 (pos 0)
 round-nothing s d = round-same binary64 s 0 (10 ^ d) 0 1 (ten-pos d) (omega arith) (omega arith) ∙ one s
@@ -48,7 +48,7 @@ module _ (xs : List ℕ) where
   tests-range : (Zero xs → ⊥) → Tests (isExact (significand xs) (raised xs) (reduced xs)) (ExactRange xs)
   tests-range n =
       let t = tests-exact (significand xs) (raised xs) (reduced xs) in
-      let o = one-scale xs (significand xs) (raised xs) (reduced xs) (scaled xs (λ e. n (is-zero xs e))) in
+      let o = any-scale xs (significand xs) (raised xs) (reduced xs) (scaled xs (λ e. n (is-zero xs e))) in
       ((λ e. o .0 (t .0 e)), λ r. t .1 (o .1 r))
 
 data Row : Type 0 where
@@ -70,23 +70,17 @@ rowOf (Outside s) = outside
 rowOf NotDecimal = none
 
 module _ (xs : List ℕ) where
-  abbrev Accepted : Type 0
-  Accepted = Zero xs ⊎ ExactRange xs
-
-  abbrev Spelled : Type 0
-  Spelled = Infinite xs ⊎ (Nan xs ⊎ Numeral xs)
-
   abbrev Holds : Row → Type 0
   Holds infinite = Short xs × Infinite xs
   Holds number-less = Short xs × Nan xs
-  Holds exact = Short xs × Numeral xs × Accepted
-  Holds outside = Short xs × Numeral xs × (Accepted → ⊥)
-  Holds none = Short xs × Spelled → ⊥
+  Holds exact = Short xs × Numeral xs × InExact xs
+  Holds outside = Short xs × Numeral xs × (InExact xs → ⊥)
+  Holds none = Short xs × Spelled xs → ⊥
 
   abbrev given : Row → Decimal
   given infinite = Named (plain (inf (isMinus xs 0)))
   given number-less = Named (plain nan)
-  given exact = Exact (plain (value xs))
+  given exact = Exact (nearestOf xs)
   given outside = Outside (isMinus xs 0)
   given none = NotDecimal
 
@@ -109,37 +103,37 @@ module _ (xs : List ℕ) where
   numeral : Short xs → Numeral xs → decimalOf xs ≡ scaledBy (isMinus xs 0) (significand xs) (raised xs) (reduced xs)
   unfolding decimalIn
   numeral h n =
-      rw (← by-characters xs, le-ltb longest (length xs) h, no-infinite (inr n), no-nan n, n)
+      rw (← by-characters xs h, no-infinite (inr n), no-nan n, n)
 
   nothing : Zero xs → scaledBy (isMinus xs 0) (significand xs) (raised xs) (reduced xs) ≡ Exact (plain (fin (isMinus xs 0) 0 (pos 0)))
   unfolding scaledBy
   nothing z = rw (eq-eqb (significand xs) 0 (zero-is xs z))
 
-  within : (Zero xs → ⊥) → ExactRange xs → scaledBy (isMinus xs 0) (significand xs) (raised xs) (reduced xs) ≡ Exact (plain (value xs))
+  within : (Zero xs → ⊥) → ExactRange xs → scaledBy (isMinus xs 0) (significand xs) (raised xs) (reduced xs) ≡ Exact (nearestOf xs)
   unfolding scaledBy
   within n r = rw (ne-eqb (significand xs) 0 (λ e. n (is-zero xs e)), tests-range xs n .1 r, range-value xs)
 
-  beyond : (Accepted → ⊥) → scaledBy (isMinus xs 0) (significand xs) (raised xs) (reduced xs) ≡ Outside (isMinus xs 0)
+  beyond : (InExact xs → ⊥) → scaledBy (isMinus xs 0) (significand xs) (raised xs) (reduced xs) ≡ Outside (isMinus xs 0)
   unfolding scaledBy
   beyond n = rw (ne-eqb (significand xs) 0 (λ e. n (inl (is-zero xs e))), affirmed (tests-range xs (λ z. n (inl z))) (λ r. n (inr r)))
 
-  accepted : Dec (Zero xs) → Accepted → scaledBy (isMinus xs 0) (significand xs) (raised xs) (reduced xs) ≡ Exact (plain (value xs))
+  accepted : Dec (Zero xs) → InExact xs → scaledBy (isMinus xs 0) (significand xs) (raised xs) (reduced xs) ≡ Exact (nearestOf xs)
   accepted (yes z) a = nothing z ∙ ap (λ (x : Float). Exact (plain x)) (sym (zero-value xs z))
   accepted (no n) (inl z) = absurd (n z)
   accepted (no n) (inr r) = within n r
 
-  refused : Dec (Short xs) → (Short xs × Spelled → ⊥) → decimalOf xs ≡ NotDecimal
-  unfolding decimalIn
-  refused (no l) n = rw (← by-characters xs, lt-ltb longest (length xs) (omega arith))
+  refused : Dec (Short xs) → (Short xs × Spelled xs → ⊥) → decimalOf xs ≡ NotDecimal
+  unfolding decimalOf decimalIn
+  refused (no l) n = rw (lt-ltb longest (length xs) (omega arith))
   refused (yes h) n =
       let i : Infinite xs → ⊥ = λ i. n (h, inl i) in
       let a : Nan xs → ⊥ = λ a. n (h, inr (inl a)) in
-      rw (← by-characters xs, le-ltb longest (length xs) h, affirmed (itself (isInfinite xs)) i, affirmed (itself (isNan xs)) a, affirmed (itself (isNumeral xs)) (λ m. n (h, inr (inr m))))
+      rw (← by-characters xs h, affirmed (itself (isInfinite xs)) i, affirmed (itself (isNan xs)) a, affirmed (itself (isNumeral xs)) (λ m. n (h, inr (inr m))))
 
   gives : (w : Row) → Holds w → decimalOf xs ≡ given w
   unfolding decimalIn
-  gives infinite h = rw (← by-characters xs, le-ltb longest (length xs) (h .0), h .1)
-  gives number-less h = rw (← by-characters xs, le-ltb longest (length xs) (h .0), no-infinite (inl (h .1)), h .1)
+  gives infinite h = rw (← by-characters xs (h .0), h .1)
+  gives number-less h = rw (← by-characters xs (h .0), no-infinite (inl (h .1)), h .1)
   gives exact h = numeral (h .0) (h .1) ∙ accepted (ℕ-discrete (numerator xs) 0) (h .2)
   gives outside h = numeral (h .0) (h .1) ∙ beyond (h .2)
   gives none h = refused (decLe (length xs) longest) h
@@ -155,12 +149,12 @@ module _ (xs : List ℕ) where
       range (yes r) = (exact, (l, m, inr r))
       range (no r) = (outside, (l, m, out))
         where
-          out : Accepted → ⊥
+          out : InExact xs → ⊥
           out (inl e) = z e
           out (inr e) = r e
   some (yes l) (no i) (no a) (no m) z = (none, λ s. spelled (s .1))
     where
-      spelled : Spelled → ⊥
+      spelled : Spelled xs → ⊥
       spelled (inl e) = i e
       spelled (inr (inl e)) = a e
       spelled (inr (inr e)) = m e
@@ -176,14 +170,14 @@ pub decimal-given : DecimalGiven
 decimal-given xs =
     ((each xs infinite, gives xs infinite), (each xs number-less, gives xs number-less), (each xs exact, gives xs exact), (each xs outside, gives xs outside), (each xs none, gives xs none))
 
-pub decided-exact : (xs : List ℕ) → Dec (Zero xs ⊎ ExactRange xs)
+pub decided-exact : (xs : List ℕ) → Dec (InExact xs)
 decided-exact xs = go (ℕ-discrete (numerator xs) 0)
   where
-    range : (z : Zero xs → ⊥) → Dec (ExactRange xs) → Dec (Zero xs ⊎ ExactRange xs)
+    range : (z : Zero xs → ⊥) → Dec (ExactRange xs) → Dec (InExact xs)
     range z (yes r) = yes (inr r)
     range z (no r) = no (⊎-elim z r)
 
-    go : Dec (Zero xs) → Dec (Zero xs ⊎ ExactRange xs)
+    go : Dec (Zero xs) → Dec (InExact xs)
     go (yes z) = yes (inl z)
     go (no z) = range z (decided (tests-range xs z))
 
@@ -198,9 +192,9 @@ numberOf n (Outside s) = n
 numberOf n NotDecimal = n
 
 pub nearest-value : NearestValue
-nearest-value xs n e = ap (numberOf (plain (value xs))) (sym e ∙ gives xs (row xs .0) (row xs .1)) ∙ go (row xs .0)
+nearest-value xs n e = ap (numberOf (nearestOf xs)) (sym e ∙ gives xs (row xs .0) (row xs .1)) ∙ go (row xs .0)
   where
-    go : (w : Row) → numberOf (plain (value xs)) (given xs w) ≡ plain (value xs)
+    go : (w : Row) → numberOf (nearestOf xs) (given xs w) ≡ nearestOf xs
     go infinite = refl
     go number-less = refl
     go exact = refl

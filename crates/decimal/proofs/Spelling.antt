@@ -17,7 +17,7 @@ use Rattle.scan.proofs.Runs.{run-stopped}
 use Rattle.scan.proofs.Same.{same-is-equal}
 use Rattle.scan.proofs.Tests.{Tests, affirmed, tests-or, tests-and, itself, tests-eq, tests-lt}
 use Rattle.sign.specs.Sign.{isMinus}
-use Rattle.decimal.specs.Grammar.{wholeFrom, wholeTo, fractionFrom, fractionTo, exponentTo, partsOf, hasDigits, isExponentWhole, isNumeral, isNamed, isInfinite, isNan, between, fractionOf, exponentOf, isLowered}
+use Rattle.decimal.specs.Grammar.{wholeFrom, wholeTo, fractionFrom, fractionTo, exponentTo, partsOf, hasDigits, exponentHasDigits, isNumeral, isNamed, isInfinite, isNan, between, fractionOf, exponentOf, isNegativeExponent}
 use Rattle.decimal.specs.Spelling.{Mantissa, NumeralOf, NameOf, InfinityOf, NumeralSpelled, NamesSpelled, SpelledOnce, PartsSpelled, SignSpelled}
 use Rattle.decimal.proofs.Places.{exponent-within}
 use Rattle.decimal.proofs.Cuts.{between-some, sign-cut, sign-told, sign-found}
@@ -28,11 +28,11 @@ parts-cut : (s a b t d xs : List ℕ) → NumeralOf s a b t d xs
     → (isMinus xs 0 ≡ true ↔ s ≡ ascii "-")
     × (between xs (wholeFrom xs) (wholeTo xs) ≡ a)
     × (fractionOf xs ≡ b)
-    × (isExponentWhole xs (partsOf xs) ≡ true)
-    × (isLowered xs ≡ true ↔ t ≡ ascii "-")
+    × (exponentHasDigits xs (partsOf xs) ≡ true)
+    × (isNegativeExponent xs ≡ true ↔ t ≡ ascii "-")
     × (exponentOf xs ≡ d)
     × (exponentTo xs ≡ length xs)
-unfolding isExponentWhole
+unfolding exponentHasDigits
 parts-cut s a b t d xs (m, p, g, f, w, e) =
     let h : code "." ≤ peekAt (m ++ p) 0 = mantissa-begins a b m p f .0 in
     let (u, (v, r)) = mantissa-cut xs (wholeFrom xs) a b m p f (power-begins t d p w) (sign-cut xs 0 s (m ++ p) g h e) in
@@ -52,14 +52,14 @@ module _ (xs : List ℕ) where
   abbrev Spelled : Type 0
   Spelled = (s a b t d : List ℕ) × NumeralOf s a b t d xs
 
-  tests-numeral : Tests (isNumeral xs) (((wholeFrom xs < wholeTo xs) ⊎ (fractionFrom xs < fractionTo xs)) × ((isExponentWhole xs (partsOf xs) ≡ true) × (exponentTo xs ≡ length xs)))
+  tests-numeral : Tests (isNumeral xs) (((wholeFrom xs < wholeTo xs) ⊎ (fractionFrom xs < fractionTo xs)) × ((exponentHasDigits xs (partsOf xs) ≡ true) × (exponentTo xs ≡ length xs)))
   unfolding isNumeral hasDigits
   tests-numeral =
       tests-and (tests-or (tests-lt (wholeFrom xs) (wholeTo xs)) (tests-lt (fractionFrom xs) (fractionTo xs)))
-      (tests-and (itself (isExponentWhole xs (partsOf xs))) (tests-eq (exponentTo xs) (length xs)))
+      (tests-and (itself (exponentHasDigits xs (partsOf xs))) (tests-eq (exponentTo xs) (length xs)))
 
   spelled : isNumeral xs ≡ true → Spelled
-  unfolding isExponentWhole
+  unfolding exponentHasDigits
   spelled h =
       let (l, (w, k)) = tests-numeral .0 h in
       let (s, g, u) = sign-found xs 0 in

@@ -15,8 +15,8 @@ use lib.Ieee.Back.{round-whole}
 use lib.Ieee.Positive.{first-pos}
 use lib.Ieee.Bits.{cond-no}
 use lib.Pow.{pow-pos, pow-add}
-use Rattle.decimal.specs.Value.{largest}
-use Rattle.decimal.specs.Scaled.{tenTo}
+use Rattle.decimal.specs.Value.{mostExact}
+use Rattle.decimal.specs.Value.{tenTo}
 
 -- x / p is a / c and y / q is b / d: the fractions' products
 cross : (x y p q a b c d : ℕ) → x * c ≡ a * p → y * d ≡ b * q → x * y * (c * d) ≡ a * b * (p * q)
@@ -77,14 +77,14 @@ ten-pos e = subst (λ (n : ℕ). 0 < n) (ten-is e) (mul-pos (five e) (pow-pos e)
 one : 0 < 1
 one = zero-lt-suc 0
 
-whole : (w : ℕ) → w ≤ largest → HasValue (ofInt binary64 (pos w)) false w 1
+whole : (w : ℕ) → w ≤ mostExact → HasValue (ofInt binary64 (pos w)) false w 1
 unfolding ofInt
 whole w h = round-whole binary64 false w h
 
-pub times : (w e : ℕ) → w ≤ largest → mul binary64 (ofInt binary64 (pos w)) (tenTo e) ≡ round binary64 false (w * 10 ^ e) 1
+pub times : (w e : ℕ) → w ≤ mostExact → mul binary64 (ofInt binary64 (pos w)) (tenTo e) ≡ round binary64 false (w * 10 ^ e) 1
 times w e h = mul-values binary64 (ofInt binary64 (pos w)) (tenTo e) false false w 1 (10 ^ e) 1 one one (whole w h) (ten-value e)
 
-pub over : (w e : ℕ) → w ≤ largest → div binary64 (ofInt binary64 (pos w)) (tenTo e) ≡ round binary64 false w (10 ^ e)
+pub over : (w e : ℕ) → w ≤ mostExact → div binary64 (ofInt binary64 (pos w)) (tenTo e) ≡ round binary64 false w (10 ^ e)
 over w e h =
     div-values binary64 (ofInt binary64 (pos w)) (tenTo e) false false w 1 (10 ^ e) 1 one one (ten-pos e) (whole w h) (ten-value e)
     ∙ ap₂ (round binary64 false) (mul-one w) (mul-one (10 ^ e))

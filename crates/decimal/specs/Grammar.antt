@@ -18,7 +18,7 @@ use Rattle.decimal.specs.declared.Parts.{Parts}
 abbrev pub pastPoint : List ℕ → ℕ → ℕ
 pastPoint xs at = cond (eqb (peekAt xs at) (code ".")) (suc at) at
 
--- past an `e` and its sign, where it stands
+-- an `e` stands there, and the place past it and its sign where it does
 abbrev pub isExponent : List ℕ → ℕ → Bool
 isExponent xs at = eqb (lowered (peekAt xs at)) (code "e")
 
@@ -63,13 +63,13 @@ partsOf xs = record {
 unfoldable pub hasDigits : Parts → Bool
 hasDigits p = ltb (p .«whole_from») (p .«whole_to») || ltb (p .«fraction_from») (p .«fraction_to»)
 
--- digits in an exponent,
-unfoldable pub isExponentWhole : List ℕ → Parts → Bool
-isExponentWhole xs p = not (isExponent xs (p .«fraction_to»)) || ltb (p .«exponent_from») (p .«exponent_to»)
+-- digits in an exponent, where there is one,
+unfoldable pub exponentHasDigits : List ℕ → Parts → Bool
+exponentHasDigits xs p = not (isExponent xs (p .«fraction_to»)) || ltb (p .«exponent_from») (p .«exponent_to»)
 
 -- and nothing else
 unfoldable pub isNumeral : List ℕ → Bool
-isNumeral xs = let p = partsOf xs in hasDigits p && (isExponentWhole xs p && eqb (p .«exponent_to») (length xs))
+isNumeral xs = let p = partsOf xs in hasDigits p && (exponentHasDigits xs p && eqb (p .«exponent_to») (length xs))
 
 -- what follows the sign is a name
 abbrev pub isNamed : List ℕ → List ℕ → Bool
@@ -94,5 +94,6 @@ digitsOf xs = between xs (wholeFrom xs) (wholeTo xs) ++ fractionOf xs
 abbrev pub exponentOf : List ℕ → List ℕ
 exponentOf xs = between xs (exponentFrom xs) (exponentTo xs)
 
-abbrev pub isLowered : List ℕ → Bool
-isLowered xs = hasExponent xs && isMinus xs (suc (fractionTo xs))
+-- the exponent has a minus
+abbrev pub isNegativeExponent : List ℕ → Bool
+isNegativeExponent xs = hasExponent xs && isMinus xs (suc (fractionTo xs))

@@ -1,5 +1,4 @@
 pub mod Grammar
 pub mod Spelling
 pub mod Value
-pub mod Scaled
 pub mod Laws

@@ -11,7 +11,7 @@ use Rattle.scan.specs.Ascii.{ascii}
 use Rattle.scan.specs.declared.Class.the-variants.{Digit}
 use Rattle.scan.specs.Byte.{lowered, isIn}
 use Rattle.sign.specs.Sign.{isMinus}
-use Rattle.decimal.specs.Grammar.{isNumeral, isInfinite, isNan, fractionOf, digitsOf, exponentOf, isLowered}
+use Rattle.decimal.specs.Grammar.{isNumeral, isInfinite, isNan, fractionOf, digitsOf, exponentOf, isNegativeExponent}
 
 -- [+-]?
 abbrev pub Sign : List ℕ → Type 0
@@ -75,7 +75,7 @@ PartsSpelled =
     (isMinus xs 0 ≡ true ↔ s ≡ ascii "-")
     × (digitsOf xs ≡ a ++ b)
     × (fractionOf xs ≡ b)
-    × (isLowered xs ≡ true ↔ t ≡ ascii "-")
+    × (isNegativeExponent xs ≡ true ↔ t ≡ ascii "-")
     × (exponentOf xs ≡ d)
 
 abbrev pub SignSpelled : Type 0

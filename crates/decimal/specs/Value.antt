@@ -1,7 +1,7 @@
 -- The exact value of a decimal text, by unbounded numbers, and where it is exact: document 01, "A nonzero value is w times 10^E, w not
--- divisible by ten; it is exact if w is at most 2^53 and E lies in -22 to 22". E is up to a difference: 10 ^ raised over 10 ^ lowered.
+-- divisible by ten; it is exact if w is at most 2^53 and E lies in -22 to 22". E is `raised` less `reduced`, which may be negative.
 use Prim.Native.Nat.{ℕ, _+_, _-_, _*_, _^_}
-use mathlib.Core.Bool.{Bool, true, cond, _&&_}
+use mathlib.Core.Bool.{Bool, true, false, cond, _&&_}
 use mathlib.Core.List.{List, [], _∷_}
 use lib.Dec.{eqb, leb, ltb}
 use lib.IntN.{pos}
@@ -15,7 +15,7 @@ use Rattle.decimal.specs.declared.Number.{Number}
 use Rattle.decimal.specs.declared.Decimal.{Decimal}
 use Rattle.decimal.specs.declared.Decimal.the-variants.{NotDecimal, Named, Exact, Outside}
 use Rattle.sign.specs.Sign.{isMinus}
-use Rattle.decimal.specs.Grammar.{isNumeral, isInfinite, isNan, fractionOf, digitsOf, exponentOf, isLowered}
+use Rattle.decimal.specs.Grammar.{isNumeral, isInfinite, isNan, fractionOf, digitsOf, exponentOf, isNegativeExponent}
 
 -- how many digits a notation has
 abbrev pub radixOf : Notation → ℕ
@@ -34,7 +34,7 @@ valueIn n xs = valueFrom (radixOf n) 0 xs
 abbrev pub valueOf : List ℕ → ℕ
 valueOf xs = valueIn notation.Decimal xs
 
--- a reader of digits tells no more apart: it is above each magnitude of a signed 64-bit integer
+-- what the reader of digits answers for this and every greater value: no magnitude of a signed 64-bit integer is so great
 abbrev pub mostTold : ℕ
 mostTold = 2 ^ 63 + 1
 
@@ -56,20 +56,24 @@ abbrev pub significand : List ℕ → ℕ
 significand xs = valueOf (trimmed (digitsOf xs))
 
 abbrev pub raised : List ℕ → ℕ
-raised xs = trailing (digitsOf xs) + cond (isLowered xs) 0 (valueOf (exponentOf xs))
+raised xs = trailing (digitsOf xs) + cond (isNegativeExponent xs) 0 (valueOf (exponentOf xs))
 
 abbrev pub reduced : List ℕ → ℕ
-reduced xs = length (fractionOf xs) + cond (isLowered xs) (valueOf (exponentOf xs)) 0
+reduced xs = length (fractionOf xs) + cond (isNegativeExponent xs) (valueOf (exponentOf xs)) 0
 
 -- "it is exact if w is at most 2^53 and E lies in -22 to 22"
-abbrev pub largest : ℕ
-largest = 2 ^ 53
+abbrev pub mostExact : ℕ
+mostExact = 2 ^ 53
 
-abbrev pub steps : ℕ
-steps = 22
+abbrev pub mostExponent : ℕ
+mostExponent = 22
 
 unfoldable pub isExact : ℕ → ℕ → ℕ → Bool
-isExact w up down = leb w largest && (leb up (down + steps) && leb down (up + steps))
+isExact w up down = leb w mostExact && (leb up (down + mostExponent) && leb down (up + mostExponent))
+
+-- 10 ^ e as an f64, which holds it up to e = 22: 5 ^ e * 2 ^ e
+abbrev pub tenTo : ℕ → Float
+tenTo e = fin false (5 ^ e) (pos e)
 
 -- the f64 nearest to w times 10 ^ up over 10 ^ down
 unfoldable pub nearest : Bool → ℕ → ℕ → ℕ → Float
@@ -92,15 +96,17 @@ numeralRead xs = scaledBy (isMinus xs 0) (significand xs) (raised xs) (reduced x
 abbrev pub longest : ℕ
 longest = 256
 
--- what characters are, as a decimal
+-- what characters are, as a decimal; no rule takes U+0100, whose number stands past the last of them
 unfoldable pub decimalIn : List ℕ → Decimal
-decimalIn xs =
-    cond (ltb longest (length xs)) NotDecimal
-    (cond (isInfinite xs) (Named (plain (inf (isMinus xs 0))))
-    (cond (isNan xs) (Named (plain nan))
-    (cond (isNumeral xs) (numeralRead xs)
-    NotDecimal)))
+decimalIn cs =
+    cond (isInfinite cs) (Named (plain (inf (isMinus cs 0))))
+    (cond (isNan cs) (Named (plain nan))
+    (cond (isNumeral cs) (numeralRead cs)
+    NotDecimal))
 
--- a decimal is a text of characters
+-- a decimal is a text of characters, of at most so many bytes
 unfoldable pub decimalOf : List ℕ → Decimal
-decimalOf xs = cond (isWellFormed xs) (decimalIn (codesOf xs)) NotDecimal
+decimalOf xs =
+    cond (ltb longest (length xs)) NotDecimal
+    (cond (isWellFormed xs) (decimalIn (codesOf xs))
+    NotDecimal)

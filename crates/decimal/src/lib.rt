@@ -12,9 +12,9 @@ ghost use Rattle.scan.specs.Byte.{lowered};
 ghost use Rattle.scan.specs.Text.{sameText};
 ghost use Rattle.sign.specs.Sign.{isMinus};
 ghost use Rattle.decimal.specs.declared.Decimal.the-variants.{Named};
-ghost use Rattle.decimal.specs.Grammar.{pastPoint, isExponent, pastExponent, between, partsOf, hasDigits, isExponentWhole, isNumeral, digitsOf, exponentOf};
-ghost use Rattle.decimal.specs.Value.{radixOf, valueFrom, valueOf, mostTold, trailing, significand, largest, steps, longest, isExact, nearest, plain, scaledBy, numeralRead, decimalOf};
-ghost use Rattle.decimal.specs.Scaled.{tenTo};
+ghost use Rattle.decimal.specs.Grammar.{pastPoint, isExponent, pastExponent, between, partsOf, hasDigits, exponentHasDigits, isNumeral, digitsOf, exponentOf};
+ghost use Rattle.decimal.specs.Value.{radixOf, valueFrom, valueOf, mostTold, trailing, significand, mostExact, mostExponent, longest, isExact, nearest, plain, scaledBy, numeralRead, decimalOf};
+ghost use Rattle.decimal.specs.Value.{tenTo};
 
 // How a number was written.
 pub enum Notation {
@@ -104,8 +104,8 @@ fn has_digits(p: Parts) -> bool
 }
 
 // Whether an exponent has digits, where there is one.
-fn is_exponent_whole(s: &[u8], p: Parts) -> bool
-    ensures { λ r. ⌜ r ≡ isExponentWhole (now (s .entry)) p ⌝ }
+fn exponent_has_digits(s: &[u8], p: Parts) -> bool
+    ensures { λ r. ⌜ r ≡ exponentHasDigits (now (s .entry)) p ⌝ }
 {
     !is_exponent(s, p.fraction_to) || p.exponent_from < p.exponent_to
 }
@@ -115,7 +115,7 @@ fn is_numeral(s: &[u8], p: Parts) -> bool
     requires { ⌜ p ≡ partsOf (now s) ⌝ }
     ensures { λ r. ⌜ r ≡ isNumeral (now (s .entry)) ⌝ }
 {
-    has_digits(p) && (is_exponent_whole(s, p) && p.exponent_to == s.len())
+    has_digits(p) && (exponent_has_digits(s, p) && p.exponent_to == s.len())
 }
 
 // Whether a word is a name, in any case of its letters.
@@ -198,9 +198,9 @@ fn zeros_before(s: &[u8], from: usize, to: usize) -> usize
 }
 
 // The greatest whole number up to which an f64 holds each, and the greatest power of ten that it holds exactly.
-const LARGEST: u64 = 0x20_0000_0000_0000;
+const MOST_EXACT: u64 = 0x20_0000_0000_0000;
 
-const STEPS: usize = 22;
+const MOST_EXPONENT: usize = 22;
 
 // 10 ^ 0 to 10 ^ 22, each of which an `f64` holds exactly.
 const POWERS: [f64; 23] = [
@@ -231,7 +231,7 @@ const POWERS: [f64; 23] = [
 
 // A power of ten.
 fn power(e: usize) -> f64
-    requires { ⌜ e ≤ steps ⌝ }
+    requires { ⌜ e ≤ mostExponent ⌝ }
     ensures { λ r. ⌜ r ≡ tenTo e ⌝ }
 {
     POWERS[e]
@@ -240,7 +240,7 @@ fn power(e: usize) -> f64
 // The f64 nearest to w times one power of ten over another, of which neither is more than 10 ^ 22 times the other: one rounded
 // multiplication or division of two exact values.
 fn magnitude(w: u64, raised: usize, reduced: usize) -> f64
-    requires { ⌜ (w ≤ largest) × (raised ≤ reduced + steps) × (reduced ≤ raised + steps) ⌝ }
+    requires { ⌜ (w ≤ mostExact) × (raised ≤ reduced + mostExponent) × (reduced ≤ raised + mostExponent) ⌝ }
     ensures { λ r. ⌜ r ≡ nearest false w raised reduced ⌝ }
 {
     if reduced <= raised {
@@ -251,7 +251,7 @@ fn magnitude(w: u64, raised: usize, reduced: usize) -> f64
 
 // The same with a sign.
 fn nearest(negative: bool, w: u64, raised: usize, reduced: usize) -> f64
-    requires { ⌜ (w ≤ largest) × (raised ≤ reduced + steps) × (reduced ≤ raised + steps) ⌝ }
+    requires { ⌜ (w ≤ mostExact) × (raised ≤ reduced + mostExponent) × (reduced ≤ raised + mostExponent) ⌝ }
     ensures { λ r. ⌜ r ≡ nearest negative w raised reduced ⌝ }
 {
     let r = magnitude(w, raised, reduced);
@@ -270,7 +270,7 @@ fn is_exact(w: u64, raised: usize, reduced: usize) -> bool
     requires { ⌜ (raised ≤ mostTold + longest) × (reduced ≤ mostTold + longest) ⌝ }
     ensures { λ r. ⌜ r ≡ isExact w raised reduced ⌝ }
 {
-    w <= LARGEST && (raised <= reduced + STEPS && reduced <= raised + STEPS)
+    w <= MOST_EXACT && (raised <= reduced + MOST_EXPONENT && reduced <= raised + MOST_EXPONENT)
 }
 
 // The value of w times one power of ten over another, where it is exact.
@@ -296,7 +296,7 @@ fn scaled_by(negative: bool, w: u64, raised: usize, reduced: usize) -> Decimal
 }
 
 // Whether a negative exponent begins at a place.
-fn is_lowered(s: &[u8], at: usize) -> bool
+fn is_negative_exponent(s: &[u8], at: usize) -> bool
     requires { ⌜ at ≤ longest ⌝ }
     ensures { λ r. ⌜ r ≡ isExponent (now (s .entry)) at && isMinus (now (s .entry)) (suc at) ⌝ }
 {
@@ -346,7 +346,7 @@ fn numeral(s: &[u8], p: Parts) -> Decimal
     let e = exponent(s, p);
     let behind = p.fraction_to - p.fraction_from;
     let negative = sign::is_minus(s, 0);
-    if is_lowered(s, p.fraction_to) {
+    if is_negative_exponent(s, p.fraction_to) {
         return scaled_by(negative, w, zeros, behind + e);
     }
     scaled_by(negative, w, zeros + e, behind)

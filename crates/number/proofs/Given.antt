@@ -29,10 +29,10 @@ use Rattle.number.specs.declared.Integer.the-variants as integer
 use Rattle.number.specs.declared.Parsing.{Parsing}
 use Rattle.number.specs.declared.Parsing.the-variants.{Value, Refused}
 use Rattle.number.specs.White.{plainText}
-use Rattle.number.specs.Signed.{isSigned}
+use Rattle.number.specs.Signed.{isI64}
 use Rattle.number.specs.Integer.{isDigits, digitsOf, isWhole, integerOf}
-use Rattle.number.specs.Number.{outsideExact, notNumber, notSigned, leadsZero, behindZero, hasDecimalSign, isOctal, isInteger, isHexMark, notationOf, followsMark, integerNumber, integerBy, markedRead, decimalRead, numberOf, parsingOf}
-use Rattle.number.specs.Refusals.{Octal, Marked, AllDigits, Whole, magnitude, own, negative, InSigned, Spelled, InExact, Accepted, numberIn, OutsideExact, NotNumber, NotSigned, ParsingGiven}
+use Rattle.number.specs.Number.{outsideExact, notNumber, outsideI64, leadsZero, behindZero, hasDecimalMark, isZeroLed, isMarked, isHexMark, notationOf, followsMark, integerNumber, integerBy, markedRead, decimalRead, numberOf, parsingOf}
+use Rattle.number.specs.Refusals.{ZeroLed, Marked, AllDigits, Whole, magnitude, own, negative, InI64, Spelled, InExact, Accepted, numberIn, OutsideExact, NotNumber, OutsideI64, ParsingGiven}
 use Rattle.number.proofs.Kept.{plain-few}
 
 -- the conditions and their tests
@@ -42,16 +42,16 @@ tests-digits radix [] = ((λ e. tt), λ a. refl)
 tests-digits radix (d ∷ ds) = tests-and (itself (isDigitIn radix d)) (tests-digits radix ds)
 
 module _ (t : List ℕ) where
-  tests-octal : Tests (isOctal t) (Octal t)
-  unfolding isOctal hasDecimalSign
-  tests-octal =
+  tests-led : Tests (isZeroLed t) (ZeroLed t)
+  unfolding isZeroLed hasDecimalMark
+  tests-led =
       let s = tests-not (tests-or (tests-has (code ".") t) (tests-or (tests-has (code "8") t) (tests-has (code "9") t))) in
       let r = tests-and (tests-eq (peekAt t (pastSign t 0)) (code "0")) (tests-and s (tests-not (tests-eq (behindZero t) (length t)))) in
       ((λ e. let o = r .0 e in (o .0, o .1 .0, o .1 .1)), λ o. r .1 (o .0, (o .1, o .2)))
 
-  tests-marked : Tests (isInteger t) (Marked t)
-  unfolding isInteger
-  tests-marked = tests-or (tests-has (code "x") t) tests-octal
+  tests-marked : Tests (isMarked t) (Marked t)
+  unfolding isMarked
+  tests-marked = tests-or (tests-has (code "x") t) tests-led
 
   tests-whole : Tests (leadsZero t && isWhole (notationOf t) (followsMark t)) (Whole t)
   unfolding isWhole
@@ -59,9 +59,9 @@ module _ (t : List ℕ) where
       let ds = digitsOf (followsMark t) in
       tests-and (tests-eq (peekAt t (pastSign t 0)) (code "0")) (tests-and (tests-lt 0 (length ds)) (tests-digits (radixOf (notationOf t)) ds))
 
-  tests-signed : Tests (isSigned (own t) (magnitude t) && isSigned (negative t) (magnitude t)) (InSigned t)
-  unfolding isSigned
-  tests-signed = tests-and (tests-le (magnitude t) (cond (own t) (2 ^ 63) (2 ^ 63 - 1))) (tests-le (magnitude t) (cond (negative t) (2 ^ 63) (2 ^ 63 - 1)))
+  tests-i64 : Tests (isI64 (own t) (magnitude t) && isI64 (negative t) (magnitude t)) (InI64 t)
+  unfolding isI64
+  tests-i64 = tests-and (tests-le (magnitude t) (cond (own t) (2 ^ 63) (2 ^ 63 - 1))) (tests-le (magnitude t) (cond (negative t) (2 ^ 63) (2 ^ 63 - 1)))
 
   -- what a marked text gives
   unmarked : (Whole t → ⊥) → markedRead t ≡ Refused notNumber
@@ -79,11 +79,11 @@ module _ (t : List ℕ) where
       let e = tests-whole .1 w in
       rw (and-left (leadsZero t) (isWhole (notationOf t) (followsMark t)) e, and-right (leadsZero t) (isWhole (notationOf t) (followsMark t)) e)
 
-  signed : Whole t → InSigned t → markedRead t ≡ Value (integerNumber (notationOf t) (negative t) (magnitude t))
-  signed w i = marked w ∙ rw (tests-signed .1 i)
+  signed : Whole t → InI64 t → markedRead t ≡ Value (integerNumber (notationOf t) (negative t) (magnitude t))
+  signed w i = marked w ∙ rw (tests-i64 .1 i)
 
-  unsigned : Whole t → (InSigned t → ⊥) → markedRead t ≡ Refused notSigned
-  unsigned w n = marked w ∙ rw (affirmed tests-signed n)
+  unsigned : Whole t → (InI64 t → ⊥) → markedRead t ≡ Refused outsideI64
+  unsigned w n = marked w ∙ rw (affirmed tests-i64 n)
 
   -- what a decimal gives
   module _ (h : length t ≤ longest) where
@@ -146,16 +146,16 @@ module _ (xs : List ℕ) where
   Holds long = TooLong longest xs
   Holds broken = (TooLong longest xs → ⊥) × NotUtf8 xs
   Holds none = Taken longest xs × NotNumber t
-  Holds oversized = Taken longest xs × NotSigned t
+  Holds oversized = Taken longest xs × OutsideI64 t
   Holds outside = Taken longest xs × OutsideExact t
-  Holds integral = Taken longest xs × (Marked t × Whole t × InSigned t)
+  Holds integral = Taken longest xs × (Marked t × Whole t × InI64 t)
   Holds decimal = Taken longest xs × ((Marked t → ⊥) × Accepted t)
 
   abbrev given : Row → Parsing
   given long = Refused tooLong
   given broken = Refused (notUtf8 (placeAt xs (prefixEnd xs)))
   given none = Refused notNumber
-  given oversized = Refused notSigned
+  given oversized = Refused outsideI64
   given outside = Refused outsideExact
   given integral = Value (integerNumber (notationOf t) (negative t) (magnitude t))
   given decimal = Value (numberIn (decimalOf t))
@@ -192,7 +192,7 @@ module _ (xs : List ℕ) where
   gives decimal h = decimal-read (h .0) (h .1 .0) ∙ accepted t (short (h .0)) (h .1 .1)
 
   -- which row holds of a text that is taken
-  marked-row : Taken longest xs → Marked t → Dec (Whole t) → Dec (InSigned t) → (w : Row) × Holds w
+  marked-row : Taken longest xs → Marked t → Dec (Whole t) → Dec (InI64 t) → (w : Row) × Holds w
   marked-row k m (no w) i = (none, (k, inl (m, w)))
   marked-row k m (yes w) (no i) = (oversized, (k, (m, w, i)))
   marked-row k m (yes w) (yes i) = (integral, (k, (m, w, i)))
@@ -207,7 +207,7 @@ module _ (xs : List ℕ) where
   row : Dec (TooLong longest xs) → Dec (WellFormed xs) → Dec (Marked t) → (w : Row) × Holds w
   row (yes l) w m = (long, l)
   row (no l) (no w) m = (broken, (l, w))
-  row (no l) (yes w) (yes m) = marked-row (l, w) m (decided (tests-whole t)) (decided (tests-signed t))
+  row (no l) (yes w) (yes m) = marked-row (l, w) m (decided (tests-whole t)) (decided (tests-i64 t))
   row (no l) (yes w) (no m) =
       decimal-row (l, w) m (decided (itself (isInfinite t))) (decided (itself (isNan t))) (decided (itself (isNumeral t))) (decided-exact t)
 

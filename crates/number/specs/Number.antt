@@ -22,7 +22,7 @@ use Rattle.decimal.specs.Value.{longest, decimalOf}
 use Rattle.number.specs.declared.Parsing.{Parsing}
 use Rattle.number.specs.declared.Parsing.the-variants.{Value, Refused}
 use Rattle.number.specs.White.{plainText}
-use Rattle.number.specs.Signed.{signedOf, isSigned}
+use Rattle.number.specs.Signed.{signedOf, isI64}
 use Rattle.number.specs.declared.Integer.{Integer}
 use Rattle.number.specs.declared.Integer.the-variants.{Whole, NotInteger}
 use Rattle.number.specs.Integer.{integerOf}
@@ -34,8 +34,8 @@ outsideExact = atStart 53
 abbrev pub notNumber : Refusal
 notNumber = atStart 60
 
-abbrev pub notSigned : Refusal
-notSigned = atStart 61
+abbrev pub outsideI64 : Refusal
+outsideI64 = atStart 61
 
 -- "a leading 0 after an optional sign
 abbrev pub isZeroAt : List ℕ → ℕ → Bool
@@ -48,16 +48,16 @@ abbrev pub behindZero : List ℕ → ℕ
 behindZero t = suc (pastSign t 0)
 
 -- with no `.`, 8 or 9,
-unfoldable pub hasDecimalSign : List ℕ → Bool
-hasDecimalSign t = has (code ".") t || (has (code "8") t || has (code "9") t)
+unfoldable pub hasDecimalMark : List ℕ → Bool
+hasDecimalMark t = has (code ".") t || (has (code "8") t || has (code "9") t)
 
 -- except `0`, `+0`, `-0`"
-unfoldable pub isOctal : List ℕ → Bool
-isOctal t = leadsZero t && (not (hasDecimalSign t) && not (eqb (behindZero t) (length t)))
+unfoldable pub isZeroLed : List ℕ → Bool
+isZeroLed t = leadsZero t && (not (hasDecimalMark t) && not (eqb (behindZero t) (length t)))
 
 -- "An `x`, or" that
-unfoldable pub isInteger : List ℕ → Bool
-isInteger t = has (code "x") t || isOctal t
+unfoldable pub isMarked : List ℕ → Bool
+isMarked t = has (code "x") t || isZeroLed t
 
 -- "Signed 64-bit before an outer minus .., then rounded once to f64. .. Negating the least integer is 61"
 abbrev pub integerNumber : Notation → Bool → ℕ → Number
@@ -66,7 +66,7 @@ integerNumber n negative v = record { value = ofInt binary64 (signedOf negative 
 abbrev pub integerBy : Notation → Bool → Integer → Parsing
 integerBy n outer (Whole own v) =
     let negative = unlike own outer in
-    cond (isSigned own v && isSigned negative v) (Value (integerNumber n negative v)) (Refused notSigned)
+    cond (isI64 own v && isI64 negative v) (Value (integerNumber n negative v)) (Refused outsideI64)
 integerBy n outer NotInteger = Refused notNumber
 
 abbrev pub integerRead : Notation → Bool → List ℕ → Parsing
@@ -93,7 +93,7 @@ decimalRead (Outside negative) = Refused outsideExact
 
 -- the number that a text is, without white space and in lower case
 unfoldable pub numberOf : List ℕ → Parsing
-numberOf t = cond (isInteger t) (markedRead t) (decimalRead (decimalOf t))
+numberOf t = cond (isMarked t) (markedRead t) (decimalRead (decimalOf t))
 
 -- "Order: 1, 2, the reading"
 abbrev pub parsingBy : Admission → List ℕ → Parsing

@@ -22,22 +22,22 @@ use Rattle.decimal.specs.Laws.{Infinite, Nan, Numeral, Zero, ExactRange}
 use Rattle.number.specs.declared.Parsing.the-variants.{Value, Refused}
 use Rattle.number.specs.White.{plainText}
 use Rattle.number.specs.Integer.{digitsOf, magnitudeOf}
-use Rattle.number.specs.Number.{outsideExact, notNumber, notSigned, behindZero, notationOf, followsMark, integerNumber, parsingOf}
+use Rattle.number.specs.Number.{outsideExact, notNumber, outsideI64, behindZero, notationOf, followsMark, integerNumber, parsingOf}
 
 -- "a leading 0 after an optional sign
 abbrev pub LeadsZero : List ℕ → Type 0
 LeadsZero t = peekAt t (pastSign t 0) ≡ code "0"
 
 -- with no `.`, 8 or 9, except `0`, `+0`, `-0`"
-abbrev pub Octal : List ℕ → Type 0
-Octal t =
+abbrev pub ZeroLed : List ℕ → Type 0
+ZeroLed t =
     LeadsZero t
     × (¬ (Stands (code ".") t ⊎ (Stands (code "8") t ⊎ Stands (code "9") t)))
     × (¬ (behindZero t ≡ length t))
 
 -- "An `x`, or" that
 abbrev pub Marked : List ℕ → Type 0
-Marked t = Stands (code "x") t ⊎ Octal t
+Marked t = Stands (code "x") t ⊎ ZeroLed t
 
 -- "hex after `0x`, else octal after `0`. What follows may bear its own sign": digits of the notation, one at least
 abbrev pub AllDigits : ℕ → List ℕ → Type 0
@@ -60,11 +60,11 @@ abbrev pub negative : List ℕ → Bool
 negative t = unlike (own t) (isMinus t 0)
 
 -- "Signed 64-bit before an outer minus", and behind it: "Negating the least integer is 61"
-abbrev pub Signed : Bool → ℕ → Type 0
-Signed neg v = v ≤ cond neg (2 ^ 63) (2 ^ 63 - 1)
+abbrev pub I64 : Bool → ℕ → Type 0
+I64 neg v = v ≤ cond neg (2 ^ 63) (2 ^ 63 - 1)
 
-abbrev pub InSigned : List ℕ → Type 0
-InSigned t = Signed (own t) (magnitude t) × Signed (negative t) (magnitude t)
+abbrev pub InI64 : List ℕ → Type 0
+InI64 t = I64 (own t) (magnitude t) × I64 (negative t) (magnitude t)
 
 -- a decimal, by the grammar; in the exact range; and one that is accepted
 abbrev pub Spelled : List ℕ → Type 0
@@ -92,8 +92,8 @@ abbrev pub NotNumber : List ℕ → Type 0
 NotNumber t = (Marked t × (¬ (Whole t))) ⊎ ((¬ (Marked t)) × (¬ (Spelled t)))
 
 -- 61 "hex or octal outside a signed 64-bit integer"
-abbrev pub NotSigned : List ℕ → Type 0
-NotSigned t = Marked t × Whole t × (¬ (InSigned t))
+abbrev pub OutsideI64 : List ℕ → Type 0
+OutsideI64 t = Marked t × Whole t × (¬ (InI64 t))
 
 -- "Order: 1, 2, the reading"; "60 and 52 are judged on the whole text, before 61 and 53"
 abbrev pub ParsingGiven : Type 0
@@ -104,7 +104,7 @@ ParsingGiven =
     (p ≡ Refused tooLong ↔ TooLong longest xs)
     × (p ≡ Refused (notUtf8 (placeAt xs (prefixEnd xs))) ↔ (¬ (TooLong longest xs)) × NotUtf8 xs)
     × (p ≡ Refused notNumber ↔ Taken longest xs × NotNumber t)
-    × (p ≡ Refused notSigned ↔ Taken longest xs × NotSigned t)
+    × (p ≡ Refused outsideI64 ↔ Taken longest xs × OutsideI64 t)
     × (p ≡ Refused outsideExact ↔ Taken longest xs × OutsideExact t)
-    × (p ≡ Value (integerNumber (notationOf t) (negative t) (magnitude t)) ↔ Taken longest xs × (Marked t × Whole t × InSigned t))
+    × (p ≡ Value (integerNumber (notationOf t) (negative t) (magnitude t)) ↔ Taken longest xs × (Marked t × Whole t × InI64 t))
     × (p ≡ Value (numberIn (decimalOf t)) ↔ Taken longest xs × ((¬ (Marked t)) × Accepted t))

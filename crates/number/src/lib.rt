@@ -22,16 +22,16 @@ ghost use Rattle.number.specs.White.{isWhite, keptBytes, plainText};
 ghost use Rattle.decimal.specs.Value.{longest, decimalOf};
 ghost use Rattle.utf8.specs.Answers.{atStart};
 ghost use Rattle.number.specs.declared.Parsing.the-variants.{Refused};
-ghost use Rattle.number.specs.Signed.{signedOf, isSigned};
+ghost use Rattle.number.specs.Signed.{signedOf, isI64};
 ghost use Rattle.number.specs.Integer.{isDigits, integerOf, toldOf};
-ghost use Rattle.number.specs.Number.{isZeroAt, hasDecimalSign, isOctal, isInteger, integerRead, markedRead, decimalRead, numberOf, parsingOf};
+ghost use Rattle.number.specs.Number.{isZeroAt, hasDecimalMark, isZeroLed, isMarked, integerRead, markedRead, decimalRead, numberOf, parsingOf};
 
 // Document 01's refusals of a number: it is outside the exact range, is none, or is no signed 64-bit integer.
 pub const OUTSIDE_EXACT: usize = 53;
 
 pub const NOT_A_NUMBER: usize = 60;
 
-pub const NOT_SIGNED: usize = 61;
+pub const OUTSIDE_I64: usize = 61;
 
 // A number, or why there is none.
 pub enum Parsing {
@@ -159,8 +159,8 @@ const MOST_POSITIVE: u64 = 0x7fff_ffff_ffff_ffff;
 const MOST_NEGATIVE: u64 = 0x8000_0000_0000_0000;
 
 // Whether a magnitude is that of a signed 64-bit integer.
-fn is_signed(negative: bool, n: u64) -> bool
-    ensures { λ r. ⌜ r ≡ isSigned negative n ⌝ }
+fn is_i64(negative: bool, n: u64) -> bool
+    ensures { λ r. ⌜ r ≡ isI64 negative n ⌝ }
 {
     if negative {
         return n <= MOST_NEGATIVE;
@@ -208,31 +208,31 @@ fn is_zero_at(t: &[u8], at: usize) -> bool
 }
 
 // Whether a text has a point, an 8 or a 9.
-fn has_decimal_sign(t: &[u8]) -> bool
-    ensures { λ r. ⌜ r ≡ hasDecimalSign (now (t .entry)) ⌝ }
+fn has_decimal_mark(t: &[u8]) -> bool
+    ensures { λ r. ⌜ r ≡ hasDecimalMark (now (t .entry)) ⌝ }
 {
     scan::contains(t, b'.') || (scan::contains(t, b'8') || scan::contains(t, b'9'))
 }
 
 // Whether a text is octal: a 0 leads it, behind a sign, and is not all, and there is nothing decimal in it.
-fn is_octal(t: &[u8]) -> bool
-    ensures { λ r. ⌜ r ≡ isOctal (now (t .entry)) ⌝ }
+fn is_zero_led(t: &[u8]) -> bool
+    ensures { λ r. ⌜ r ≡ isZeroLed (now (t .entry)) ⌝ }
 {
     let from = sign::past_sign(t, 0);
     if !is_zero_at(t, from) {
         return false;
     }
-    if has_decimal_sign(t) {
+    if has_decimal_mark(t) {
         return false;
     }
     from + 1 != t.len()
 }
 
 // Whether a text is read as an integer.
-fn is_integer(t: &[u8]) -> bool
-    ensures { λ r. ⌜ r ≡ isInteger (now (t .entry)) ⌝ }
+fn is_marked(t: &[u8]) -> bool
+    ensures { λ r. ⌜ r ≡ isMarked (now (t .entry)) ⌝ }
 {
-    scan::contains(t, b'x') || is_octal(t)
+    scan::contains(t, b'x') || is_zero_led(t)
 }
 
 // A refusal that names no place.
@@ -251,11 +251,11 @@ fn integer_number(notation: Notation, outer: bool, s: &[u8]) -> Parsing
         return refused(NOT_A_NUMBER);
     };
     let negative = own != outer;
-    if !is_signed(own, n) {
-        return refused(NOT_SIGNED);
+    if !is_i64(own, n) {
+        return refused(OUTSIDE_I64);
     }
-    if !is_signed(negative, n) {
-        return refused(NOT_SIGNED);
+    if !is_i64(negative, n) {
+        return refused(OUTSIDE_I64);
     }
     let value = signed(negative, n);
     Parsing::Value(Number { value, notation })
@@ -298,7 +298,7 @@ fn decimal_number(t: &[u8]) -> Parsing
 fn read_plain(t: &[u8]) -> Parsing
     ensures { λ r. ⌜ r ≡ numberOf (now (t .entry)) ⌝ }
 {
-    if is_integer(t) {
+    if is_marked(t) {
         return marked(t);
     }
     decimal_number(t)

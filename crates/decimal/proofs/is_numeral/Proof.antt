@@ -5,31 +5,31 @@ use lib.Dec.{eqb}
 use lib.ListN.{length}
 use denote.Ref.{now}
 use Rattle.decimal.specs.declared.Parts.{Parts}
-use Rattle.decimal.specs.Grammar.{hasDigits, isExponentWhole, isNumeral}
+use Rattle.decimal.specs.Grammar.{hasDigits, exponentHasDigits, isNumeral}
 use borrow.Author.Needs.{needs}
 use Rattle.decimal.proofs.is_numeral.Statement.{statement}
 use Rattle.decimal.proofs.is_numeral.Tie as tie
 
 module _ (c : tie.Start) where
-  by-parts : let xs = now (c .args .s) in let p = c .args .p in hasDigits p && (isExponentWhole xs p && eqb (p .«exponent_to») (length xs)) ≡ isNumeral xs
+  by-parts : let xs = now (c .args .s) in let p = c .args .p in hasDigits p && (exponentHasDigits xs p && eqb (p .«exponent_to») (length xs)) ≡ isNumeral xs
   unfolding isNumeral
-  by-parts = ap (λ (p : Parts). let xs = now (c .args .s) in hasDigits p && (isExponentWhole xs p && eqb (p .«exponent_to») (length xs))) (c .pre)
+  by-parts = ap (λ (p : Parts). let xs = now (c .args .s) in hasDigits p && (exponentHasDigits xs p && eqb (p .«exponent_to») (length xs))) (c .pre)
 
 has-digits-requires : tie.Need-has-digits-requires
 has-digits-requires c κs = search needs
 
-is-exponent-whole-requires : tie.Need-is-exponent-whole-requires
-is-exponent-whole-requires c κs = search needs
+exponent-has-digits-requires : tie.Need-exponent-has-digits-requires
+exponent-has-digits-requires c κs = search needs
 
 returns : tie.Need-returns
-returns c = rw (← by-parts (c .before .before .before .before .before .before), ← c .before .before .before .before .has-digits .ensures, c .before .before .before .if1 .taken, ← c .before .before .is-exponent-whole .ensures, c .before .if2 .taken)
+returns c = rw (← by-parts (c .before .before .before .before .before .before), ← c .before .before .before .before .has-digits .ensures, c .before .before .before .if1 .taken, ← c .before .before .exponent-has-digits .ensures, c .before .if2 .taken)
 
 returns-2 : tie.Need-returns-2
-returns-2 c = rw (← by-parts (c .before .before .before .before .before), ← c .before .before .before .has-digits .ensures, c .before .before .if1 .taken, ← c .before .is-exponent-whole .ensures, c .if2 .left)
+returns-2 c = rw (← by-parts (c .before .before .before .before .before), ← c .before .before .before .has-digits .ensures, c .before .before .if1 .taken, ← c .before .exponent-has-digits .ensures, c .if2 .left)
 
 returns-3 : tie.Need-returns-3
 returns-3 c = rw (← by-parts (c .before .before .before), ← c .before .has-digits .ensures, c .if1 .left)
 
 pub is-numeral-spec : {M : Type 1} → statement M
 is-numeral-spec =
-    tie.close (tie.spec has-digits-requires is-exponent-whole-requires returns returns-2 returns-3)
+    tie.close (tie.spec has-digits-requires exponent-has-digits-requires returns returns-2 returns-3)

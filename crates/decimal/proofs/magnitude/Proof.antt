@@ -6,7 +6,7 @@ use native.Mathlib.Omega.{arith}
 use lib.Dec.{le→leb}
 use lib.IntN.{pos}
 use lib.Ieee.{binary64, inFloat, mul, div, ofInt}
-use Rattle.decimal.specs.Value.{largest, nearest}
+use Rattle.decimal.specs.Value.{mostExact, nearest}
 use Rattle.decimal.proofs.Values.{times, over, raise, reduce}
 use borrow.Author.Needs.{needs}
 use Rattle.decimal.proofs.magnitude.Statement.{statement}
@@ -14,7 +14,7 @@ use Rattle.decimal.proofs.magnitude.Tie as tie
 
 int-to-float-result : tie.Need-int-to-float-result
 unfolding inFloat
-int-to-float-result c = le→leb (c .before .before .args .w) largest (c .before .before .pre .0)
+int-to-float-result c = le→leb (c .before .before .args .w) mostExact (c .before .before .pre .0)
 
 power-requires : tie.Need-power-requires
 power-requires c κs = search needs
@@ -29,7 +29,7 @@ returns c =
 
 int-to-float-result-2 : tie.Need-int-to-float-result-2
 unfolding inFloat
-int-to-float-result-2 c = le→leb (c .before .before .args .w) largest (c .before .before .pre .0)
+int-to-float-result-2 c = le→leb (c .before .before .args .w) mostExact (c .before .before .pre .0)
 
 sub-power : tie.Need-sub-power
 sub-power c = search needs

@@ -10,7 +10,7 @@ use denote.Ref.{now}
 use Rattle.sign.specs.Sign.{isMinus}
 use Rattle.decimal.specs.declared.Decimal.{Decimal}
 use Rattle.decimal.specs.declared.Parts.{Parts}
-use Rattle.decimal.specs.Grammar.{isExponent, partsOf, digitsOf, fractionOf, exponentOf, isLowered}
+use Rattle.decimal.specs.Grammar.{isExponent, partsOf, digitsOf, fractionOf, exponentOf, isNegativeExponent}
 use Rattle.decimal.specs.Value.{valueOf, trailing, mostTold, significand, longest, scaledBy, numeralRead}
 use Rattle.decimal.proofs.Places.{Ordered, ordered, fractionIn, behindIn, fraction-long, digits-few}
 use Rattle.decimal.proofs.Zeros.{trailing-few}
@@ -39,12 +39,12 @@ module _ (xs : List ℕ) where
 
   read-lowered : (p : Parts) → p ≡ partsOf xs → isExponent xs (p .«fraction_to») && isMinus xs (suc (p .«fraction_to»)) ≡ true → scaledBy (isMinus xs 0) (significand xs) (trailing (digitsOf xs)) (behindIn xs p + power) ≡ numeralRead xs
   read-lowered p e l =
-      let m : isLowered xs ≡ true = rw e at l in
+      let m : isNegativeExponent xs ≡ true = rw e at l in
       ap (λ (n : ℕ). scaledBy (isMinus xs 0) (significand xs) (trailing (digitsOf xs)) (n + power)) (behind-is p e) ∙ rw (m, add-zero)
 
   read-raised : (p : Parts) → p ≡ partsOf xs → isExponent xs (p .«fraction_to») && isMinus xs (suc (p .«fraction_to»)) ≡ false → scaledBy (isMinus xs 0) (significand xs) (trailing (digitsOf xs) + power) (behindIn xs p) ≡ numeralRead xs
   read-raised p e l =
-      let m : isLowered xs ≡ false = rw e at l in
+      let m : isNegativeExponent xs ≡ false = rw e at l in
       ap (scaledBy (isMinus xs 0) (significand xs) (trailing (digitsOf xs) + power)) (behind-is p e) ∙ rw (m, add-zero)
 
 trailing-zeros-requires : tie.Need-trailing-zeros-requires
@@ -62,11 +62,11 @@ sub-behind c = in-order (c .before .before .before .before .before) .fraction
 is-minus-requires : tie.Need-is-minus-requires
 is-minus-requires c κs = search needs
 
-is-lowered-requires : tie.Need-is-lowered-requires
-is-lowered-requires c κs = let a = c .before .before .before .before .before .before in omega (arith, in-order a .fraction-in, a .pre .1)
+is-negative-exponent-requires : tie.Need-is-negative-exponent-requires
+is-negative-exponent-requires c κs = let a = c .before .before .before .before .before .before in omega (arith, in-order a .fraction-in, a .pre .1)
 
 -- what was read
-module _ (c : tie.After-is-lowered) where
+module _ (c : tie.After-is-negative-exponent) where
   abbrev a : tie.Start
   a = c .before .before .before .before .before .before .before
 
@@ -113,7 +113,7 @@ returns c =
     c .scaled-by .ensures
     ∙ stands d (λ s v z n. scaledBy s v z (behindIn x (p (a d)) + n))
     ∙ reduced-capped (isMinus x 0) (significand x) t (behindIn x (p (a d))) (power x) (zeros-few d) (behind-few d)
-    ∙ read-lowered x (p (a d)) (a d .pre .0) (sym (d .is-lowered .ensures) ∙ c .before .if1 .taken)
+    ∙ read-lowered x (p (a d)) (a d .pre .0) (sym (d .is-negative-exponent .ensures) ∙ c .before .if1 .taken)
 
 add-scaled-by-2 : tie.Need-add-scaled-by-2
 add-scaled-by-2 c = let d = c .before in omega (arith, counted d, capped d)
@@ -129,7 +129,7 @@ returns-2 c =
     c .scaled-by2 .ensures
     ∙ stands d (λ s v z n. scaledBy s v (z + n) (behindIn x (p (a d))))
     ∙ raised-capped (isMinus x 0) (significand x) t (behindIn x (p (a d))) (power x) (zeros-few d) (behind-few d)
-    ∙ read-raised x (p (a d)) (a d .pre .0) (sym (d .is-lowered .ensures) ∙ c .before .if1 .left)
+    ∙ read-raised x (p (a d)) (a d .pre .0) (sym (d .is-negative-exponent .ensures) ∙ c .before .if1 .left)
 
 pub numeral-spec : {M : Type 1} → statement M
 numeral-spec =
@@ -140,7 +140,7 @@ numeral-spec =
     exponent-requires
     sub-behind
     is-minus-requires
-    is-lowered-requires
+    is-negative-exponent-requires
     add-scaled-by
     scaled-by-requires
     returns

@@ -24,27 +24,27 @@ use Rattle.decimal.proofs.read_decimal.Tie as tie
 
 module _ (xs : List ℕ) where
   too-long : longest < length xs → NotDecimal ≡ decimalOf xs
-  unfolding decimalIn
-  too-long h = rw (← by-characters xs, lt-ltb longest (length xs) h)
+  unfolding decimalOf
+  too-long h = rw (lt-ltb longest (length xs) h)
 
   module _ (h : length xs ≤ longest) where
     infinity : isInfinite xs ≡ true → Named (plain (inf (isMinus xs 0))) ≡ decimalOf xs
     unfolding decimalIn
-    infinity i = rw (← by-characters xs, le-ltb longest (length xs) h, i)
+    infinity i = rw (← by-characters xs h, i)
 
     module _ (i : isInfinite xs ≡ false) where
       no-number : isNan xs ≡ true → Named (plain nan) ≡ decimalOf xs
       unfolding decimalIn
-      no-number n = rw (← by-characters xs, le-ltb longest (length xs) h, i, n)
+      no-number n = rw (← by-characters xs h, i, n)
 
       module _ (n : isNan xs ≡ false) where
         none : isNumeral xs ≡ false → NotDecimal ≡ decimalOf xs
         unfolding decimalIn
-        none e = rw (← by-characters xs, le-ltb longest (length xs) h, i, n, e)
+        none e = rw (← by-characters xs h, i, n, e)
 
         some : isNumeral xs ≡ true → numeralRead xs ≡ decimalOf xs
         unfolding decimalIn
-        some e = rw (← by-characters xs, le-ltb longest (length xs) h, i, n, e)
+        some e = rw (← by-characters xs h, i, n, e)
 
 returns : tie.Need-returns
 returns c = too-long (now (c .before .before .args .s)) (c .if1 .taken)

@@ -13,9 +13,9 @@ use Rattle.number.specs.declared.Integer.{Integer}
 use Rattle.number.specs.declared.Integer.the-variants.{Whole, NotInteger}
 use Rattle.number.specs.declared.Parsing.{Parsing}
 use Rattle.number.specs.declared.Parsing.the-variants.{Value, Refused}
-use Rattle.number.specs.Signed.{isSigned}
+use Rattle.number.specs.Signed.{isI64}
 use Rattle.number.specs.Integer.{integerOf, toldOf}
-use Rattle.number.specs.Number.{notSigned, integerNumber, integerBy, integerRead}
+use Rattle.number.specs.Number.{outsideI64, integerNumber, integerBy, integerRead}
 use borrow.Author.Needs.{needs}
 use Rattle.number.proofs.integer_number.Statement.{statement}
 use Rattle.number.proofs.integer_number.Tie as tie
@@ -34,8 +34,8 @@ refused-requires c κs = search needs
 
 -- what is told apart only so far is still no signed integer
 module _ (n : Notation) (outer : Bool) where
-  far : (s : Bool) (v : ℕ) → 2 ^ 63 < v → isSigned s v ≡ false
-  unfolding isSigned
+  far : (s : Bool) (v : ℕ) → 2 ^ 63 < v → isI64 s v ≡ false
+  unfolding isI64
   far true v h = lt-leb v (2 ^ 63) h
   far false v h = lt-leb v (2 ^ 63 - 1) (omega arith)
 
@@ -47,10 +47,10 @@ module _ (n : Notation) (outer : Bool) where
       go (yes l) = let k : min mostTold v ≡ v = omega arith in ap (λ (m : ℕ). integerBy n outer (Whole own m)) k
       go (no l) = rw (far own v (omega arith), far own (min mostTold v) (omega arith))
 
-  beyond : (own : Bool) (v : ℕ) → isSigned own v && isSigned (unlike own outer) v ≡ false → Refused notSigned ≡ integerBy n outer (Whole own v)
+  beyond : (own : Bool) (v : ℕ) → isI64 own v && isI64 (unlike own outer) v ≡ false → Refused outsideI64 ≡ integerBy n outer (Whole own v)
   beyond own v e = rw e
 
-  within : (own : Bool) (v : ℕ) → isSigned own v && isSigned (unlike own outer) v ≡ true → Value (integerNumber n (unlike own outer) v) ≡ integerBy n outer (Whole own v)
+  within : (own : Bool) (v : ℕ) → isI64 own v && isI64 (unlike own outer) v ≡ true → Value (integerNumber n (unlike own outer) v) ≡ integerBy n outer (Whole own v)
   within own v e = rw e
 
 -- the answer by what was read
@@ -78,17 +78,17 @@ module _ (c : tie.After-known-told) where
   abbrev read : Parsing
   read = integerRead (a d .args .notation) (a d .args .outer) (now (a d .args .s))
 
-  out : isSigned own v && isSigned negative v ≡ false → Refused notSigned ≡ read
+  out : isI64 own v && isI64 negative v ≡ false → Refused outsideI64 ≡ read
   out e = beyond (a d .args .notation) (a d .args .outer) own v e ∙ answer d (Whole own v) (c .before .i .given .1)
 
-  number : isSigned own v && isSigned negative v ≡ true → Value (integerNumber (a d .args .notation) negative v) ≡ read
+  number : isI64 own v && isI64 negative v ≡ true → Value (integerNumber (a d .args .notation) negative v) ≡ read
   number e = within (a d .args .notation) (a d .args .outer) own v e ∙ answer d (Whole own v) (c .before .i .given .1)
 
 returns : tie.Need-returns
 returns c = let d = c .before .before .before in c .refused .ensures ∙ answer d NotInteger (c .before .enum-told .given .1)
 
-is-signed-requires : tie.Need-is-signed-requires
-is-signed-requires c κs = search needs
+is-i64-requires : tie.Need-is-i64-requires
+is-i64-requires c κs = search needs
 
 refused-requires-2 : tie.Need-refused-requires-2
 refused-requires-2 c κs = search needs
@@ -96,10 +96,10 @@ refused-requires-2 c κs = search needs
 returns-2 : tie.Need-returns-2
 returns-2 c =
     let e = c .before .before in
-    c .refused2 .ensures ∙ out (e .before) (rw (← e .is-signed .ensures, not-true (e .is-signed .result) (c .before .if1 .taken)))
+    c .refused2 .ensures ∙ out (e .before) (rw (← e .is-i64 .ensures, not-true (e .is-i64 .result) (c .before .if1 .taken)))
 
-is-signed-requires-2 : tie.Need-is-signed-requires-2
-is-signed-requires-2 c κs = search needs
+is-i64-requires-2 : tie.Need-is-i64-requires-2
+is-i64-requires-2 c κs = search needs
 
 refused-requires-3 : tie.Need-refused-requires-3
 refused-requires-3 c κs = search needs
@@ -109,7 +109,7 @@ returns-3 c =
     let e = c .before .before .before .before in
     let f = c .before .before in
     c .refused3 .ensures
-    ∙ out (e .before) (rw (← e .is-signed .ensures, not-false (e .is-signed .result) (f .before .if1 .left), ← f .is-signed2 .ensures, not-true (f .is-signed2 .result) (c .before .if2 .taken)))
+    ∙ out (e .before) (rw (← e .is-i64 .ensures, not-false (e .is-i64 .result) (f .before .if1 .left), ← f .is-i642 .ensures, not-true (f .is-i642 .result) (c .before .if2 .taken)))
 
 signed-requires : tie.Need-signed-requires
 signed-requires c κs = search needs
@@ -119,7 +119,7 @@ returns-4 c =
     let e = c .before .before .before .before in
     let f = c .before .before in
     ap (λ (x : Float). Value (record { value = x; notation = a (d (e .before)) .args .notation })) (c .signed .ensures)
-    ∙ number (e .before) (rw (← e .is-signed .ensures, not-false (e .is-signed .result) (f .before .if1 .left), ← f .is-signed2 .ensures, not-false (f .is-signed2 .result) (c .before .if2 .left)))
+    ∙ number (e .before) (rw (← e .is-i64 .ensures, not-false (e .is-i64 .result) (f .before .if1 .left), ← f .is-i642 .ensures, not-false (f .is-i642 .result) (c .before .if2 .left)))
 
 pub integer-number-spec : {M : Type 1} → statement M
 integer-number-spec =
@@ -130,10 +130,10 @@ integer-number-spec =
     enum-told
     refused-requires
     returns
-    is-signed-requires
+    is-i64-requires
     refused-requires-2
     returns-2
-    is-signed-requires-2
+    is-i64-requires-2
     refused-requires-3
     returns-3
     signed-requires

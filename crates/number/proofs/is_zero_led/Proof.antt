@@ -6,11 +6,11 @@ use mathlib.Core.List.{List}
 use mathlib.Core.Path.{_≡_, sym, ap, _∙_}
 use denote.Ref.{now}
 use borrow.Author.Tests.{not-true, not-false}
-use Rattle.number.specs.Number.{isZeroAt, leadsZero, isOctal}
+use Rattle.number.specs.Number.{isZeroAt, leadsZero, isZeroLed}
 use Rattle.number.proofs.Marks.{zero-inside}
 use borrow.Author.Needs.{needs}
-use Rattle.number.proofs.is_octal.Statement.{statement}
-use Rattle.number.proofs.is_octal.Tie as tie
+use Rattle.number.proofs.is_zero_led.Statement.{statement}
+use Rattle.number.proofs.is_zero_led.Tie as tie
 
 past-sign-requires : tie.Need-past-sign-requires
 past-sign-requires c κs = search needs
@@ -26,34 +26,34 @@ module _ (c : tie.After-is-zero-at) where
   led = c .is-zero-at .ensures ∙ ap (isZeroAt text) (c .before .past-sign .ensures)
 
 returns : tie.Need-returns
-unfolding isOctal
+unfolding isZeroLed
 returns c = rw (← led (c .before), not-true (c .before .is-zero-at .result) (c .if1 .taken))
 
-has-decimal-sign-requires : tie.Need-has-decimal-sign-requires
-has-decimal-sign-requires c κs = search needs
+has-decimal-mark-requires : tie.Need-has-decimal-mark-requires
+has-decimal-mark-requires c κs = search needs
 
 returns-2 : tie.Need-returns-2
-unfolding isOctal
-returns-2 c = let d = c .before .before .before in rw (← led d, not-false (d .is-zero-at .result) (c .before .before .if1 .left), ← c .before .has-decimal-sign .ensures, c .if2 .taken)
+unfolding isZeroLed
+returns-2 c = let d = c .before .before .before in rw (← led d, not-false (d .is-zero-at .result) (c .before .before .if1 .left), ← c .before .has-decimal-mark .ensures, c .if2 .taken)
 
 add-result : tie.Need-add-result
 add-result c = let d = c .before .before .before in omega (arith, zero-inside (text d) (d .before .past-sign .result) (sym (d .is-zero-at .ensures) ∙ not-false (d .is-zero-at .result) (c .before .before .if1 .left)))
 
 returns-3 : tie.Need-returns-3
-unfolding isOctal
+unfolding isZeroLed
 returns-3 c =
     let d = c .before .before .before in
     let e : d .before .past-sign .result + 1 ≡ suc (d .before .past-sign .result) = add-one (d .before .past-sign .result) in
-    rw (← led d, not-false (d .is-zero-at .result) (c .before .before .if1 .left), ← c .before .has-decimal-sign .ensures, c .if2 .left, ← d .before .past-sign .ensures, e)
+    rw (← led d, not-false (d .is-zero-at .result) (c .before .before .if1 .left), ← c .before .has-decimal-mark .ensures, c .if2 .left, ← d .before .past-sign .ensures, e)
 
-pub is-octal-spec : {M : Type 1} → statement M
-is-octal-spec =
+pub is-zero-led-spec : {M : Type 1} → statement M
+is-zero-led-spec =
     tie.close
     (tie.spec
     past-sign-requires
     is-zero-at-requires
     returns
-    has-decimal-sign-requires
+    has-decimal-mark-requires
     returns-2
     add-result
     returns-3)

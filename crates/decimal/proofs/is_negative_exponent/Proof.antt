@@ -2,8 +2,8 @@
 use native.Mathlib.Numerals.{add-one}
 use mathlib.Core.Path.{_∙_}
 use borrow.Author.Needs.{needs}
-use Rattle.decimal.proofs.is_lowered.Statement.{statement}
-use Rattle.decimal.proofs.is_lowered.Tie as tie
+use Rattle.decimal.proofs.is_negative_exponent.Statement.{statement}
+use Rattle.decimal.proofs.is_negative_exponent.Tie as tie
 
 is-exponent-requires : tie.Need-is-exponent-requires
 is-exponent-requires c κs = search needs
@@ -20,6 +20,6 @@ returns c = rw (← c .before .before .is-exponent .ensures, c .before .if1 .tak
 returns-2 : tie.Need-returns-2
 returns-2 c = rw (← c .before .is-exponent .ensures, c .if1 .left)
 
-pub is-lowered-spec : {M : Type 1} → statement M
-is-lowered-spec =
+pub is-negative-exponent-spec : {M : Type 1} → statement M
+is-negative-exponent-spec =
     tie.close (tie.spec is-exponent-requires add-is-minus is-minus-requires returns returns-2)

@@ -1,8 +1,8 @@
 -- Each way out knows what was looked for and found.
-use Rattle.number.specs.Number.{hasDecimalSign}
+use Rattle.number.specs.Number.{hasDecimalMark}
 use borrow.Author.Needs.{needs}
-use Rattle.number.proofs.has_decimal_sign.Statement.{statement}
-use Rattle.number.proofs.has_decimal_sign.Tie as tie
+use Rattle.number.proofs.has_decimal_mark.Statement.{statement}
+use Rattle.number.proofs.has_decimal_mark.Tie as tie
 
 contains-requires : tie.Need-contains-requires
 contains-requires c κs = search needs
@@ -14,19 +14,19 @@ contains-requires-3 : tie.Need-contains-requires-3
 contains-requires-3 c κs = search needs
 
 returns : tie.Need-returns
-unfolding hasDecimalSign
+unfolding hasDecimalMark
 returns c = rw (← c .before .contains .ensures, c .if1 .taken)
 
 returns-2 : tie.Need-returns-2
-unfolding hasDecimalSign
+unfolding hasDecimalMark
 returns-2 c = rw (← c .before .before .before .contains .ensures, c .before .before .if1 .left, ← c .before .contains2 .ensures, c .if2 .taken)
 
 returns-3 : tie.Need-returns-3
-unfolding hasDecimalSign
+unfolding hasDecimalMark
 returns-3 c = let a = c .before .before .before .before in rw (← a .contains .ensures, c .before .before .before .if1 .left, ← c .before .before .contains2 .ensures, c .before .if2 .left) (c .contains3 .ensures)
 
-pub has-decimal-sign-spec : {M : Type 1} → statement M
-has-decimal-sign-spec =
+pub has-decimal-mark-spec : {M : Type 1} → statement M
+has-decimal-mark-spec =
     tie.close
     (tie.spec
     contains-requires
