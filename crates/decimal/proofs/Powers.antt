@@ -1,5 +1,4 @@
 -- The table of powers of ten: entry k is 5 ^ k * 2 ^ k, by one test that antt computes over the whole table.
---
 use mathlib.Core.Path.{_≡_, ap₂}
 use mathlib.Core.Bool.{Bool, true, false, _&&_}
 use mathlib.Core.List.{List, [], _∷_}

@@ -1,5 +1,4 @@
--- A rule of a table, proved at all of its entries by one test that antt computes. `laws/proofs/Table.antt` at any type of entry.
---
+-- A rule of a table, proved at all of its entries by one test that antt computes.
 use mathlib.Core.Path.{_∙_, subst, sym}
 use mathlib.Core.Bool.{Bool, true, _&&_}
 use mathlib.Core.List.{List, [], _∷_}

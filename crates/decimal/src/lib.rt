@@ -11,7 +11,6 @@ ghost use Rattle.scan.specs.Ascii.{ascii};
 ghost use Rattle.scan.specs.Byte.{lowered};
 ghost use Rattle.scan.specs.Text.{sameText};
 ghost use Rattle.sign.specs.Sign.{isMinus};
-ghost use Rattle.decimal.specs.declared.Decimal.the-variants.{Named};
 ghost use Rattle.decimal.specs.Grammar.{pastPoint, isExponent, pastExponent, between, partsOf, hasDigits, exponentHasDigits, isNumeral, digitsOf, exponentOf};
 ghost use Rattle.decimal.specs.Value.{radixOf, valueFrom, valueOf, mostTold, trailing, significand, mostExact, mostExponent, longest, isExact, nearest, plain, scaledBy, numeralRead, decimalOf};
 ghost use Rattle.decimal.specs.Value.{tenTo};
@@ -37,14 +36,24 @@ pub enum Decimal {
     Outside(bool),
 }
 
+// A number in decimal notation.
+fn plain(value: f64) -> Number
+    ensures { λ r. ⌜ r ≡ plain value ⌝ }
+{
+    Number {
+        value,
+        notation: Notation::Decimal,
+    }
+}
+
 // Where the digits of a text's parts begin and end.
-pub struct Parts {
-    pub whole_from: usize,
-    pub whole_to: usize,
-    pub fraction_from: usize,
-    pub fraction_to: usize,
-    pub exponent_from: usize,
-    pub exponent_to: usize,
+struct Parts {
+    whole_from: usize,
+    whole_to: usize,
+    fraction_from: usize,
+    fraction_to: usize,
+    exponent_from: usize,
+    exponent_to: usize,
 }
 
 // The place past a point, where one stands.
@@ -135,7 +144,7 @@ fn is_named(word: &[u8], name: &[u8]) -> bool
     true
 }
 
-// The most that a reader of digits tells apart: it is above each magnitude of a signed 64-bit integer.
+// What `digits_value` answers for this and every greater value: no magnitude of a signed 64-bit integer is so great.
 pub const MOST_TOLD: u64 = 0x8000_0000_0000_0001;
 
 // How many digits a notation has.
@@ -197,9 +206,10 @@ fn zeros_before(s: &[u8], from: usize, to: usize) -> usize
     to - at
 }
 
-// The greatest whole number up to which an f64 holds each, and the greatest power of ten that it holds exactly.
+// 2^53: an f64 holds every whole number up to it.
 const MOST_EXACT: u64 = 0x20_0000_0000_0000;
 
+// An f64 holds every power of ten up to this one.
 const MOST_EXPONENT: usize = 22;
 
 // 10 ^ 0 to 10 ^ 22, each of which an `f64` holds exactly.
@@ -279,20 +289,12 @@ fn scaled_by(negative: bool, w: u64, raised: usize, reduced: usize) -> Decimal
     ensures { λ r. ⌜ r ≡ scaledBy negative w raised reduced ⌝ }
 {
     if w == 0 {
-        let value = zero(negative);
-        return Decimal::Exact(Number {
-            value,
-            notation: Notation::Decimal,
-        });
+        return Decimal::Exact(plain(zero(negative)));
     }
     if !is_exact(w, raised, reduced) {
         return Decimal::Outside(negative);
     }
-    let value = nearest(negative, w, raised, reduced);
-    Decimal::Exact(Number {
-        value,
-        notation: Notation::Decimal,
-    })
+    Decimal::Exact(plain(nearest(negative, w, raised, reduced)))
 }
 
 // Whether a negative exponent begins at a place.
@@ -359,16 +361,6 @@ fn is_infinite(word: &[u8]) -> bool
     is_named(word, b"inf") || is_named(word, b"infinity")
 }
 
-// A value that has a name.
-fn named(value: f64) -> Decimal
-    ensures { λ r. ⌜ r ≡ Named (plain value) ⌝ }
-{
-    Decimal::Named(Number {
-        value,
-        notation: Notation::Decimal,
-    })
-}
-
 // Infinity, with its sign.
 fn infinite(negative: bool) -> f64
     ensures { λ r. ⌜ r ≡ inf negative ⌝ }
@@ -396,10 +388,10 @@ pub fn read_decimal(s: &[u8]) -> Decimal
     let from = sign::past_sign(s, 0);
     let word = &s[from..];
     if is_infinite(word) {
-        return named(infinite(sign::is_minus(s, 0)));
+        return Decimal::Named(plain(infinite(sign::is_minus(s, 0))));
     }
     if is_named(word, b"nan") {
-        return named(not_a_number());
+        return Decimal::Named(plain(not_a_number()));
     }
     let p = parts_of(s);
     if !is_numeral(s, p) {

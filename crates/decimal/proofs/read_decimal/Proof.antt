@@ -7,7 +7,7 @@ use mathlib.Core.Path.{_≡_, sym, ap, _∙_}
 use lib.Ieee.{Float, inf, nan}
 use lib.ListN.{length, take, drop}
 use denote.Ref.{now}
-use borrow.Author.Tests.{lt-ltb, le-ltb, not-true, not-false}
+use borrow.Author.Tests.{lt-ltb, not-true, not-false}
 use Rattle.scan.specs.Ascii.{ascii}
 use Rattle.scan.specs.Byte.{lowered}
 use Rattle.scan.specs.Text.{sameText}
@@ -85,13 +85,13 @@ is-minus-requires c κs = search needs
 infinite-requires : tie.Need-infinite-requires
 infinite-requires c κs = search needs
 
-named-requires : tie.Need-named-requires
-named-requires c κs = search needs
+plain-requires : tie.Need-plain-requires
+plain-requires c κs = search needs
 
 returns-2 : tie.Need-returns-2
 returns-2 c =
     let d = c .before .before .before .before in
-    c .named .ensures
+    ap Named (c .plain .ensures)
     ∙ ap (λ (x : Float). Named (plain x)) (c .before .infinite .ensures ∙ ap inf (c .before .before .is-minus .ensures))
     ∙ infinity (text d) (short d) (sym (told d) ∙ c .before .before .before .if2 .taken)
 
@@ -111,14 +111,14 @@ finite c = sym (told (c .before .before .before)) ∙ c .before .before .if2 .le
 not-a-number-requires : tie.Need-not-a-number-requires
 not-a-number-requires c κs = search needs
 
-named-requires-2 : tie.Need-named-requires-2
-named-requires-2 c κs = search needs
+plain-requires-2 : tie.Need-plain-requires-2
+plain-requires-2 c κs = search needs
 
 returns-3 : tie.Need-returns-3
 returns-3 c =
     let e = c .before .before .before in
     let d = e .before .before .before in
-    c .named2 .ensures
+    ap Named (c .plain2 .ensures)
     ∙ ap (λ (x : Float). Named (plain x)) (c .before .not-a-number .ensures)
     ∙ no-number (text d) (short d) (finite e) (sym (nan-told e) ∙ c .before .before .if3 .taken)
 
@@ -160,12 +160,12 @@ read-decimal-spec =
     is-infinite-requires
     is-minus-requires
     infinite-requires
-    named-requires
+    plain-requires
     returns-2
     slice-aggregate-is-named
     is-named-requires
     not-a-number-requires
-    named-requires-2
+    plain-requires-2
     returns-3
     parts-of-requires
     is-numeral-requires

@@ -32,10 +32,13 @@ told c = c .is-exact .ensures
 zero-requires : tie.Need-zero-requires
 zero-requires c κs = search needs
 
+plain-requires : tie.Need-plain-requires
+plain-requires c κs = search needs
+
 returns : tie.Need-returns
 returns c =
-    let a = c .before .before .args in
-    ap (λ (x : Float). Exact (plain x)) (c .zero .ensures) ∙ nothing (a .negative) (a .w) (a .raised) (a .reduced) (c .before .if1 .taken)
+    let a = c .before .before .before .args in
+    ap Exact (c .plain .ensures) ∙ ap (λ (x : Float). Exact (plain x)) (c .before .zero .ensures) ∙ nothing (a .negative) (a .w) (a .raised) (a .reduced) (c .before .before .if1 .taken)
 
 is-exact-requires : tie.Need-is-exact-requires
 is-exact-requires c κs = search needs
@@ -51,14 +54,26 @@ nearest-requires c κs =
     let i = tests-exact (a .w) (a .raised) (a .reduced) .0 (sym (told (c .before)) ∙ not-false (c .before .is-exact .result) (c .if2 .left)) in
     (i .0, i .1 .0, i .1 .1)
 
+plain-requires-2 : tie.Need-plain-requires-2
+plain-requires-2 c κs = search needs
+
 returns-3 : tie.Need-returns-3
 returns-3 c =
-    let a = c .before .before .before .before .args in
-    let d = c .before .before in
-    ap (λ (x : Float). Exact (plain x)) (c .nearest .ensures)
-    ∙ exact (a .negative) (a .w) (a .raised) (a .reduced) (c .before .before .before .if1 .left) (sym (told d) ∙ not-false (d .is-exact .result) (c .before .if2 .left))
+    let d = c .before .before .before in
+    let a = d .before .before .args in
+    ap Exact (c .plain2 .ensures)
+    ∙ ap (λ (x : Float). Exact (plain x)) (c .before .nearest .ensures)
+    ∙ exact (a .negative) (a .w) (a .raised) (a .reduced) (d .before .if1 .left) (sym (told d) ∙ not-false (d .is-exact .result) (c .before .before .if2 .left))
 
 pub scaled-by-spec : {M : Type 1} → statement M
 scaled-by-spec =
     tie.close
-    (tie.spec zero-requires returns is-exact-requires returns-2 nearest-requires returns-3)
+    (tie.spec
+    zero-requires
+    plain-requires
+    returns
+    is-exact-requires
+    returns-2
+    nearest-requires
+    plain-requires-2
+    returns-3)
