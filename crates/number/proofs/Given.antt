@@ -1,38 +1,39 @@
--- When each answer is given: of any text one of the seven rows holds, which gives its own answer, and no two rows give the same
+-- When each answer is given: of any text one of the six rows holds, which gives its own answer, and no two rows give the same
 -- (`exactly`). The conditions are read off the tests, and those of a decimal off its own theorem (`decimal-given`).
-use Prim.Native.Nat.{ℕ, _-_, _^_, _≤_}
+use Prim.Native.Nat.{ℕ, _-_, _≤_}
 use Prim.Native.Char.{code}
 use native.Mathlib.Decide.{decLt, ℕ-discrete}
 use native.Mathlib.Omega.{arith}
 use mathlib.Core.Bool.{Bool, true, false, cond, _&&_, true≢false}
 use mathlib.Core.List.{List, [], _∷_}
-use mathlib.Core.Logic.{_⊎_, inl, inr, ⊎-elim}
+use mathlib.Core.Logic.{_↔_, _⊎_, inl, inr, ⊎-elim}
 use mathlib.Core.Path.{_≡_, refl, sym, ap, _∙_}
-use lib.Dec.{eqb, ltb}
+use lib.Dec.{eqb}
+use lib.Ieee.{nan, inf}
 use lib.ListN.{length}
 use Rattle.scan.specs.Byte.{peekAt, isDigitIn}
-use Rattle.scan.proofs.Choice.{either, and-left, and-right, exactly}
+use Rattle.scan.proofs.Choice.{and-left, and-right, exactly}
 use Rattle.scan.proofs.Tests.{Tests, affirmed, decided, itself, tests-or, tests-and, tests-not, tests-eq, tests-lt, tests-le, tests-has}
-use Rattle.utf8.specs.Text.{prefixEnd, WellFormed, isWellFormed, codesOf}
+use Rattle.utf8.specs.Text.{prefixEnd, WellFormed}
 use Rattle.utf8.specs.Answers.{placeAt, tooLong, notUtf8}
 use Rattle.utf8.specs.Refusals.{TooLong, NotUtf8, Taken}
 use Rattle.utf8.proofs.Given.{given-exactly}
-use Rattle.decimal.specs.declared.Notation.{Notation}
-use Rattle.decimal.specs.declared.Notation.the-variants as notation
+use Rattle.decimal.specs.declared.Number.{Number}
 use Rattle.decimal.specs.declared.Decimal.{Decimal}
+use Rattle.decimal.specs.declared.Decimal.the-variants.{NotDecimal, Named, Exact, Outside}
 use Rattle.sign.specs.Sign.{pastSign, isMinus}
 use Rattle.decimal.specs.Grammar.{isNumeral, isInfinite, isNan}
-use Rattle.decimal.specs.Value.{radixOf, isExact, scaledBy, significand, raised, reduced, longest, decimalIn, decimalOf}
-use Rattle.decimal.specs.Laws.{Infinite, Nan, Numeral}
+use Rattle.decimal.specs.Value.{radixOf, plain, longest, decimalOf}
+use Rattle.decimal.specs.Laws.{nearestOf, Infinite, Nan, Numeral, InExact}
 use Rattle.decimal.proofs.Given.{decimal-given, decided-exact}
 use Rattle.number.specs.declared.Integer.the-variants as integer
 use Rattle.number.specs.declared.Parsing.{Parsing}
 use Rattle.number.specs.declared.Parsing.the-variants.{Value, Refused}
 use Rattle.number.specs.White.{plainText}
-use Rattle.number.specs.Signed.{isI64}
-use Rattle.number.specs.Integer.{isDigits, digitsOf, isWhole, integerOf}
-use Rattle.number.specs.Number.{outsideExact, notNumber, outsideI64, leadsZero, behindZero, hasDecimalMark, isZeroLed, isMarked, isHexMark, notationOf, followsMark, integerNumber, integerBy, markedRead, decimalRead, numberOf, parsingOf}
-use Rattle.number.specs.Refusals.{ZeroLed, Marked, AllDigits, Whole, magnitude, own, negative, InI64, Spelled, InExact, Accepted, numberIn, OutsideExact, NotNumber, OutsideI64, ParsingGiven}
+use Rattle.number.specs.Signed.{mostOf, isI64}
+use Rattle.number.specs.Integer.{isDigits, unsignedOf, isWhole, integerOf}
+use Rattle.number.specs.Number.{outsideExact, notNumber, outsideI64, leadsZero, behindZero, hasDecimalMark, isZeroLed, isMarked, notationOf, followsMark, integerNumber, integerBy, markedRead, decimalRead, numberOf, parsingOf}
+use Rattle.number.specs.Refusals.{ZeroLed, Marked, AllDigits, Whole, magnitude, own, negative, InI64, OutsideExact, NotNumber, OutsideI64, IntegerIs, DecimalIs, ParsingGiven}
 use Rattle.number.proofs.Kept.{plain-few}
 
 -- the conditions and their tests
@@ -56,12 +57,12 @@ module _ (t : List ℕ) where
   tests-whole : Tests (leadsZero t && isWhole (notationOf t) (followsMark t)) (Whole t)
   unfolding isWhole
   tests-whole =
-      let ds = digitsOf (followsMark t) in
+      let ds = unsignedOf (followsMark t) in
       tests-and (tests-eq (peekAt t (pastSign t 0)) (code "0")) (tests-and (tests-lt 0 (length ds)) (tests-digits (radixOf (notationOf t)) ds))
 
   tests-i64 : Tests (isI64 (own t) (magnitude t) && isI64 (negative t) (magnitude t)) (InI64 t)
   unfolding isI64
-  tests-i64 = tests-and (tests-le (magnitude t) (cond (own t) (2 ^ 63) (2 ^ 63 - 1))) (tests-le (magnitude t) (cond (negative t) (2 ^ 63) (2 ^ 63 - 1)))
+  tests-i64 = tests-and (tests-le (magnitude t) (mostOf (own t))) (tests-le (magnitude t) (mostOf (negative t)))
 
   -- what a marked text gives
   unmarked : (Whole t → ⊥) → markedRead t ≡ Refused notNumber
@@ -85,53 +86,16 @@ module _ (t : List ℕ) where
   unsigned : Whole t → (InI64 t → ⊥) → markedRead t ≡ Refused outsideI64
   unsigned w n = marked w ∙ rw (affirmed tests-i64 n)
 
-  -- what a decimal gives
-  module _ (h : length t ≤ longest) where
-    undecimal : (Spelled t → ⊥) → decimalRead (decimalOf t) ≡ Refused notNumber
-    undecimal n = ap decimalRead (decimal-given t .4 .1 (λ s. n (s .1)))
-
-    beyond : Numeral t → (InExact t → ⊥) → decimalRead (decimalOf t) ≡ Refused outsideExact
-    beyond m n = ap decimalRead (decimal-given t .3 .1 (h, m, n))
-
-    same : (d : Decimal) → decimalOf t ≡ d → decimalRead d ≡ Value (numberIn d) → decimalRead (decimalOf t) ≡ Value (numberIn (decimalOf t))
-    same d e r = ap decimalRead e ∙ r ∙ ap (λ (d : Decimal). Value (numberIn d)) (sym e)
-
-    accepted : Accepted t → decimalRead (decimalOf t) ≡ Value (numberIn (decimalOf t))
-    accepted (inl i) = same _ (decimal-given t .0 .1 (h, i)) refl
-    accepted (inr (inl a)) = same _ (decimal-given t .1 .1 (h, a)) refl
-    accepted (inr (inr n)) = same _ (decimal-given t .2 .1 (h, n .0, n .1)) refl
-
-  plain-notation : numberIn (decimalOf t) .notation ≡ notation.Decimal
-  unfolding decimalOf decimalIn scaledBy
-  plain-notation =
-      let P : Decimal → Type 0 = λ d. numberIn d .notation ≡ notation.Decimal in
-      let xs = codesOf t in
-      either P (isWellFormed t)
-      (λ e. either P (ltb longest (length xs)) (λ e. refl)
-      (λ e. either P (isInfinite xs) (λ e. refl)
-      (λ e. either P (isNan xs) (λ e. refl)
-      (λ e. either P (isNumeral xs)
-      (λ e. either P (eqb (significand xs) 0) (λ e. refl)
-      (λ e. either P (isExact (significand xs) (raised xs) (reduced xs)) (λ e. refl) (λ e. refl)))
-      (λ e. refl)))))
-      (λ e. refl)
-
 data Row : Type 0 where
   long : Row
   broken : Row
   none : Row
   oversized : Row
   outside : Row
-  integral : Row
-  decimal : Row
-
-abbrev byNotation : Notation → Row
-byNotation notation.Decimal = decimal
-byNotation notation.Hex = integral
-byNotation notation.Octal = integral
+  accepted : Number → Row
 
 abbrev rowOf : Parsing → Row
-rowOf (Value n) = byNotation (n .notation)
+rowOf (Value n) = accepted n
 rowOf (Refused r) =
     cond (eqb (r .number) 1) long
     (cond (eqb (r .number) 2) broken
@@ -148,8 +112,7 @@ module _ (xs : List ℕ) where
   Holds none = Taken longest xs × NotNumber t
   Holds oversized = Taken longest xs × OutsideI64 t
   Holds outside = Taken longest xs × OutsideExact t
-  Holds integral = Taken longest xs × (Marked t × Whole t × InI64 t)
-  Holds decimal = Taken longest xs × ((Marked t → ⊥) × Accepted t)
+  Holds (accepted n) = Taken longest xs × (IntegerIs t n ⊎ DecimalIs t n)
 
   abbrev given : Row → Parsing
   given long = Refused tooLong
@@ -157,8 +120,7 @@ module _ (xs : List ℕ) where
   given none = Refused notNumber
   given oversized = Refused outsideI64
   given outside = Refused outsideExact
-  given integral = Value (integerNumber (notationOf t) (negative t) (magnitude t))
-  given decimal = Value (numberIn (decimalOf t))
+  given (accepted n) = Value n
 
   back : (w : Row) → rowOf (given w) ≡ w
   back long = refl
@@ -166,8 +128,7 @@ module _ (xs : List ℕ) where
   back none = refl
   back oversized = refl
   back outside = refl
-  back integral = unfold notationOf in either (λ n. byNotation n ≡ integral) (isHexMark t) (λ e. refl) (λ e. refl)
-  back decimal = ap byNotation (plain-notation t)
+  back (accepted n) = refl
 
   short : Taken longest xs → length t ≤ longest
   short k = omega (arith, plain-few xs (k .1), k .0)
@@ -176,31 +137,33 @@ module _ (xs : List ℕ) where
   unfolding parsingOf numberOf
   integer-read k m = rw (given-exactly longest xs .2 .1 k, tests-marked t .1 m)
 
-  decimal-read : Taken longest xs → (Marked t → ⊥) → parsingOf xs ≡ decimalRead (decimalOf t)
+  decimal-read : Taken longest xs → (Marked t → ⊥) → (d : Decimal) → decimalOf t ≡ d → parsingOf xs ≡ decimalRead d
   unfolding parsingOf numberOf
-  decimal-read k m = rw (given-exactly longest xs .2 .1 k, affirmed (tests-marked t) m)
+  decimal-read k m d e = rw (given-exactly longest xs .2 .1 k, affirmed (tests-marked t) m, e)
 
   gives : (w : Row) → Holds w → parsingOf xs ≡ given w
   unfolding parsingOf
   gives long h = rw (given-exactly longest xs .0 .1 h)
   gives broken h = rw (given-exactly longest xs .1 .1 h)
   gives none (k, inl n) = integer-read k (n .0) ∙ unmarked t (n .1)
-  gives none (k, inr n) = decimal-read k (n .0) ∙ undecimal t (short k) (n .1)
+  gives none (k, inr n) = decimal-read k (n .0) NotDecimal (decimal-given t .4 .1 (λ s. n .1 (s .1)))
   gives oversized h = integer-read (h .0) (h .1 .0) ∙ unsigned t (h .1 .1) (h .1 .2)
-  gives outside h = decimal-read (h .0) (h .1 .0) ∙ beyond t (short (h .0)) (h .1 .1) (h .1 .2)
-  gives integral h = integer-read (h .0) (h .1 .0) ∙ signed t (h .1 .1) (h .1 .2)
-  gives decimal h = decimal-read (h .0) (h .1 .0) ∙ accepted t (short (h .0)) (h .1 .1)
+  gives outside h = decimal-read (h .0) (h .1 .0) (Outside (isMinus t 0)) (decimal-given t .3 .1 (short (h .0), h .1 .1, h .1 .2))
+  gives (accepted n) (k, inl i) = integer-read k (i .0) ∙ signed t (i .1) (i .2) ∙ ap Value (sym (i .3))
+  gives (accepted n) (k, inr (m, inl i)) = decimal-read k m (Named (plain (inf (isMinus t 0)))) (decimal-given t .0 .1 (short k, i .0)) ∙ ap Value (sym (i .1))
+  gives (accepted n) (k, inr (m, inr (inl a))) = decimal-read k m (Named (plain nan)) (decimal-given t .1 .1 (short k, a .0)) ∙ ap Value (sym (a .1))
+  gives (accepted n) (k, inr (m, inr (inr e))) = decimal-read k m (Exact (nearestOf t)) (decimal-given t .2 .1 (short k, e .0, e .1)) ∙ ap Value (sym (e .2))
 
   -- which row holds of a text that is taken
   marked-row : Taken longest xs → Marked t → Dec (Whole t) → Dec (InI64 t) → (w : Row) × Holds w
   marked-row k m (no w) i = (none, (k, inl (m, w)))
   marked-row k m (yes w) (no i) = (oversized, (k, (m, w, i)))
-  marked-row k m (yes w) (yes i) = (integral, (k, (m, w, i)))
+  marked-row k m (yes w) (yes i) = (accepted _, (k, inl (m, w, i, refl)))
 
   decimal-row : Taken longest xs → (Marked t → ⊥) → Dec (Infinite t) → Dec (Nan t) → Dec (Numeral t) → Dec (InExact t) → (w : Row) × Holds w
-  decimal-row k m (yes i) a n e = (decimal, (k, (m, inl i)))
-  decimal-row k m (no i) (yes a) n e = (decimal, (k, (m, inr (inl a))))
-  decimal-row k m (no i) (no a) (yes n) (yes e) = (decimal, (k, (m, inr (inr (n, e)))))
+  decimal-row k m (yes i) a n e = (accepted _, (k, inr (m, inl (i, refl))))
+  decimal-row k m (no i) (yes a) n e = (accepted _, (k, inr (m, inr (inl (a, refl)))))
+  decimal-row k m (no i) (no a) (yes n) (yes e) = (accepted _, (k, inr (m, inr (inr (n, e, refl)))))
   decimal-row k m (no i) (no a) (yes n) (no e) = (outside, (k, (m, n, e)))
   decimal-row k m (no i) (no a) (no n) e = (none, (k, inr (m, ⊎-elim i (⊎-elim a n))))
 
@@ -217,6 +180,8 @@ module _ (xs : List ℕ) where
   each : (w : Row) → parsingOf xs ≡ given w → Holds w
   each = exactly rowOf given back Holds (some .0) (some .1) (gives (some .0) (some .1))
 
+  both : (w : Row) → parsingOf xs ≡ given w ↔ Holds w
+  both w = (each w, gives w)
+
 pub parsing-given : ParsingGiven
-parsing-given xs =
-    ((each xs long, gives xs long), (each xs broken, gives xs broken), (each xs none, gives xs none), (each xs oversized, gives xs oversized), (each xs outside, gives xs outside), (each xs integral, gives xs integral), (each xs decimal, gives xs decimal))
+parsing-given xs = (both xs long, both xs broken, both xs none, both xs oversized, both xs outside, λ n. both xs (accepted n))

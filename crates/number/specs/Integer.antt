@@ -15,20 +15,20 @@ unfoldable pub isDigits : ℕ → List ℕ → Bool
 isDigits radix [] = true
 isDigits radix (c ∷ cs) = isDigitIn radix c && isDigits radix cs
 
--- behind the own sign
-abbrev pub digitsOf : List ℕ → List ℕ
-digitsOf ys = drop (pastSign ys 0) ys
+-- what stands behind the own sign
+abbrev pub unsignedOf : List ℕ → List ℕ
+unsignedOf ys = drop (pastSign ys 0) ys
 
 unfoldable pub isWhole : Notation → List ℕ → Bool
-isWhole n ys = ltb 0 (length (digitsOf ys)) && isDigits (radixOf n) (digitsOf ys)
+isWhole n ys = ltb 0 (length (unsignedOf ys)) && isDigits (radixOf n) (unsignedOf ys)
 
 abbrev pub magnitudeOf : Notation → List ℕ → ℕ
-magnitudeOf n ys = valueIn n (digitsOf ys)
+magnitudeOf n ys = valueIn n (unsignedOf ys)
 
 unfoldable pub integerOf : Notation → List ℕ → Integer
 integerOf n ys = cond (isWhole n ys) (Whole (isMinus ys 0) (magnitudeOf n ys)) NotInteger
 
--- the reader tells a magnitude apart so far as a 64-bit integer has it
+-- as `digits_value` answers: 2^63 + 1 stands for every greater magnitude
 abbrev pub toldOf : Integer → Integer
 toldOf (Whole own v) = Whole own (min mostTold v)
 toldOf NotInteger = NotInteger

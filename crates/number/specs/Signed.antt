@@ -11,5 +11,8 @@ signedOf true zero = pos 0
 signedOf false n = pos n
 
 -- "a signed 64-bit integer": from -2^63 to 2^63 - 1
+abbrev pub mostOf : Bool → ℕ
+mostOf neg = cond neg (2 ^ 63) (2 ^ 63 - 1)
+
 unfoldable pub isI64 : Bool → ℕ → Bool
-isI64 neg n = leb n (cond neg (2 ^ 63) (2 ^ 63 - 1))
+isI64 neg n = leb n (mostOf neg)

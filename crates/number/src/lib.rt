@@ -40,7 +40,7 @@ pub enum Parsing {
 }
 
 // An integer by its own sign and its magnitude, if it is one.
-pub enum Integer {
+enum Integer {
     Whole(bool, u64),
     NotInteger,
 }
@@ -71,10 +71,10 @@ const MEDIUM_MATHEMATICAL_SPACE: u32 = 0x205f;
 
 const IDEOGRAPHIC_SPACE: u32 = 0x3000;
 
-// What a one in the upper half of an integer is worth, and that as a float.
-const HALF: u64 = 4294967296;
+// 2^32, by which the high part of an integer counts, and that as a float.
+const HIGH_UNIT: u64 = 4294967296;
 
-const HALF_VALUE: f64 = 4294967296.0;
+const HIGH_UNIT_VALUE: f64 = 4294967296.0;
 
 // From lo to hi, both included.
 fn is_between(lo: u32, hi: u32, code: u32) -> bool
@@ -136,11 +136,11 @@ fn keep(text: &[u8], out: &mut [u8; decimal::LONGEST]) -> usize
     n
 }
 
-// An integer, rounded once.
+// An integer, rounded once: a high and a low part, each exact, and one sum.
 fn whole(n: u64) -> f64
     ensures { λ r. ⌜ r ≡ Ieee.ofInt binary64 (pos n) ⌝ }
 {
-    (n / HALF) as f64 * HALF_VALUE + (n % HALF) as f64
+    (n / HIGH_UNIT) as f64 * HIGH_UNIT_VALUE + (n % HIGH_UNIT) as f64
 }
 
 // An integer with a sign, rounded once; zero has none.
@@ -214,7 +214,7 @@ fn has_decimal_mark(t: &[u8]) -> bool
     scan::contains(t, b'.') || (scan::contains(t, b'8') || scan::contains(t, b'9'))
 }
 
-// Whether a text is octal: a 0 leads it, behind a sign, and is not all, and there is nothing decimal in it.
+// Whether a 0 leads a text, behind a sign, and is not all of it, and there is nothing decimal in it.
 fn is_zero_led(t: &[u8]) -> bool
     ensures { λ r. ⌜ r ≡ isZeroLed (now (t .entry)) ⌝ }
 {
@@ -228,7 +228,7 @@ fn is_zero_led(t: &[u8]) -> bool
     from + 1 != t.len()
 }
 
-// Whether a text is read as an integer.
+// Whether a text is marked as an integer.
 fn is_marked(t: &[u8]) -> bool
     ensures { λ r. ⌜ r ≡ isMarked (now (t .entry)) ⌝ }
 {

@@ -13,7 +13,7 @@ use Rattle.sign.specs.Sign.{isMinus}
 use Rattle.decimal.specs.Value.{radixOf, valueIn, mostTold}
 use Rattle.sign.proofs.Places.{sign-within}
 use Rattle.number.specs.declared.Integer.the-variants.{Whole, NotInteger}
-use Rattle.number.specs.Integer.{isDigits, digitsOf, isWhole, magnitudeOf, integerOf, toldOf}
+use Rattle.number.specs.Integer.{isDigits, unsignedOf, isWhole, magnitudeOf, integerOf, toldOf}
 use borrow.Author.Needs.{needs}
 use Rattle.number.proofs.read_integer.Statement.{statement}
 use Rattle.number.proofs.read_integer.Tie as tie
@@ -22,17 +22,17 @@ past-sign-requires : tie.Need-past-sign-requires
 past-sign-requires c κs = search needs
 
 module _ (n : Notation) (ys : List ℕ) where
-  empty : length (digitsOf ys) ≡ 0 → NotInteger ≡ toldOf (integerOf n ys)
+  empty : length (unsignedOf ys) ≡ 0 → NotInteger ≡ toldOf (integerOf n ys)
   unfolding integerOf isWhole
-  empty e = rw (le-ltb 0 (length (digitsOf ys)) (omega arith))
+  empty e = rw (le-ltb 0 (length (unsignedOf ys)) (omega arith))
 
-  other : isDigits (radixOf n) (digitsOf ys) ≡ false → NotInteger ≡ toldOf (integerOf n ys)
+  other : isDigits (radixOf n) (unsignedOf ys) ≡ false → NotInteger ≡ toldOf (integerOf n ys)
   unfolding integerOf isWhole
   other e = rw (e, and-false)
 
-  digits : 0 < length (digitsOf ys) → isDigits (radixOf n) (digitsOf ys) ≡ true → Whole (isMinus ys 0) (min mostTold (magnitudeOf n ys)) ≡ toldOf (integerOf n ys)
+  digits : 0 < length (unsignedOf ys) → isDigits (radixOf n) (unsignedOf ys) ≡ true → Whole (isMinus ys 0) (min mostTold (magnitudeOf n ys)) ≡ toldOf (integerOf n ys)
   unfolding integerOf isWhole
-  digits h e = rw (lt-ltb 0 (length (digitsOf ys)) h, e)
+  digits h e = rw (lt-ltb 0 (length (unsignedOf ys)) h, e)
 
 -- what stands behind the sign
 module _ (c : tie.After-past-sign) where
@@ -42,7 +42,7 @@ module _ (c : tie.After-past-sign) where
   within : c .past-sign .result ≤ length text
   within = omega (arith, c .past-sign .ensures, sign-within text 0 (omega arith))
 
-  digits-are : take (length text - c .past-sign .result) (drop (c .past-sign .result) text) ≡ digitsOf text
+  digits-are : take (length text - c .past-sign .result) (drop (c .past-sign .result) text) ≡ unsignedOf text
   digits-are = rest-of text (c .past-sign .result) ∙ ap (λ (k : ℕ). drop k text) (c .past-sign .ensures)
 
 sub-digits : tie.Need-sub-digits
@@ -63,10 +63,10 @@ radix-requires c κs = search needs
 is-digits-requires : tie.Need-is-digits-requires
 is-digits-requires c κs = search needs
 
-told : (c : tie.After-is-digits) → let p = c .before .before .before .before in c .is-digits .result ≡ isDigits (radixOf (p .before .before .args .notation)) (digitsOf (text p))
+told : (c : tie.After-is-digits) → let p = c .before .before .before .before in c .is-digits .result ≡ isDigits (radixOf (p .before .before .args .notation)) (unsignedOf (text p))
 told c = let p = c .before .before .before .before in c .is-digits .ensures ∙ ap₂ isDigits (c .before .radix .ensures) (digits-are p)
 
-some : (c : tie.Else1) → let p = c .before .before in 0 < length (digitsOf (text p))
+some : (c : tie.Else1) → let p = c .before .before in 0 < length (unsignedOf (text p))
 some c = let p = c .before .before in omega (arith, ap length (digits-are p), length-drop (p .past-sign .result) (text p), c .if1 .left)
 
 returns-2 : tie.Need-returns-2
