@@ -2,3 +2,4 @@ pub mod White
 pub mod Signed
 pub mod Integer
 pub mod Number
+pub mod Bounds
