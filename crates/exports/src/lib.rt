@@ -232,7 +232,7 @@ pub extern "C" fn simmerpath_unquote_string(literal: &[u8], documented: u32, tex
     }
 }
 
-// The number that a notation is answered with.
+// A notation as a number.
 fn notation_code(notation: Notation) -> u64
     ensures { λ r. ⌜ r ≡ notationCode notation ⌝ }
 {
@@ -253,7 +253,7 @@ fn bits_of(x: f64) -> u64
     f64::to_bits(x)
 }
 
-// The notation of a number: 0 for decimal, 1 for hexadecimal, 2 for octal; the bits of its value are written. Or refusal 1, 2, 53, 60 or 61.
+// The notation of a number, the bits of whose value it writes; or refusal 1, 2, 53, 60 or 61.
 #[no_mangle]
 pub extern "C" fn simmerpath_parse_str_radix(text: &[u8], bits: &mut u64) -> u64
     ensures { λ r. ⌜ r ≡ parseCode (parsingOf (now (text .entry))) ⌝ }

@@ -12,7 +12,6 @@ use Rattle.utf8.proofs.Bounds as within
 use Rattle.decimal.specs.declared.Notation.{Notation}
 use Rattle.decimal.specs.declared.Decimal.{Decimal}
 use Rattle.decimal.specs.declared.Decimal.the-variants.{NotDecimal, Named, Exact, Outside}
-use Rattle.decimal.specs.Grammar.{isMinus}
 use Rattle.decimal.specs.Value.{longest, decimalOf}
 use Rattle.number.specs.declared.Integer.{Integer}
 use Rattle.number.specs.declared.Integer.the-variants.{Whole, NotInteger}
@@ -31,7 +30,7 @@ marked-bound : (t : List ℕ) → Bounded (markedRead t)
 unfolding markedRead
 marked-bound t =
     either Bounded (leadsZero t)
-    (λ e. either Bounded (isHexMark t) (λ f. integer-bound _ (isMinus t 0) (integerOf _ _)) (λ f. integer-bound _ (isMinus t 0) (integerOf _ _)))
+    (λ e. either Bounded (isHexMark t) (λ f. integer-bound _ _ (integerOf _ _)) (λ f. integer-bound _ _ (integerOf _ _)))
     (λ e. omega arith)
 
 decimal-bound : (d : Decimal) → Bounded (decimalRead d)
