@@ -1,5 +1,5 @@
 -- The laws of `specs/Laws`: the parts of a packed refusal are the digits of one number, and an accepted answer is at most twice
--- a text's bytes, well below bit 63.
+-- a text's bytes, or a notation's number, well below bit 63.
 use Prim.Native.Nat.{ℕ, _*_, _≤_}
 use native.Mathlib.Omega.{arith}
 use mathlib.Core.Bool.{Bool, true, false, cond, _&&_, _||_, not}
@@ -18,7 +18,12 @@ use Rattle.escape.specs.declared.Escaping.{Escaping}
 use Rattle.escape.specs.declared.Escaping.the-variants as escaping
 use Rattle.string.specs.declared.Unquoting.{Unquoting}
 use Rattle.string.specs.declared.Unquoting.the-variants as unquoting
+use Rattle.decimal.specs.declared.Notation.{Notation}
+use Rattle.decimal.specs.declared.Notation.the-variants.{Decimal, Hex, Octal}
+use Rattle.number.specs.declared.Parsing.{Parsing}
+use Rattle.number.specs.declared.Parsing.the-variants as parsing
 use Rattle.escape.specs.Escape.{escapingOf}
+use Rattle.number.specs.Number.{parsingOf}
 use Rattle.string.specs.Literal.{unquotingOf}
 use Rattle.string.specs.Laws.{isRead}
 use Rattle.escape.proofs.Bounds as escaping-bounds
@@ -26,10 +31,11 @@ use Rattle.escape.proofs.Bounds.{escaping-bound}
 use Rattle.string.proofs.Bounds as unquoting-bounds
 use Rattle.string.proofs.Bounds.{unquoting-bound}
 use Rattle.utf8.specs.Answers.{placeAt, textLimit, tooLong, notUtf8, admitted, characterAt, encodingOf}
+use Rattle.exports.specs.Number.{notationCode, parseCode}
 use Rattle.exports.specs.Packed.{refusedFrom, packedOf}
 use Rattle.exports.specs.String.{escapeCode, innerFrom, unquoteCode}
 use Rattle.exports.specs.Utf8.{validateCode, characterCode, charAtCode, encodeCode}
-use Rattle.exports.specs.Laws.{NothingLost, looksRefused, isRefused, ValidateTold, isIllFormed, CharAtTold, isUnwritten, EncodeTold, isNotEscaped, EscapeTold, isInner, UnquoteTold}
+use Rattle.exports.specs.Laws.{NothingLost, looksRefused, isRefused, ValidateTold, isIllFormed, CharAtTold, isUnwritten, EncodeTold, isNotEscaped, EscapeTold, isNoNumber, ParseTold, isInner, UnquoteTold}
 use Rattle.utf8.proofs.Bounds.{Bounded, admitted-bound, Within, character-within, AtMostFour, encoding-bound}
 
 pub nothing-lost : NothingLost
@@ -77,6 +83,18 @@ escape-told room xs = go (escapingOf room xs) (escaping-bound room xs)
     go : (e : Escaping) → escaping-bounds.Bounded e → looksRefused (escapeCode e) ≡ isNotEscaped e
     go (escaping.Written n) h = small n h
     go (escaping.Refused r) h = packed r
+
+pub parse-told : ParseTold
+parse-told xs = go (parsingOf xs)
+  where
+    by : (n : Notation) → looksRefused (notationCode n) ≡ false
+    by Decimal = refl
+    by Hex = refl
+    by Octal = refl
+
+    go : (p : Parsing) → looksRefused (parseCode p) ≡ isNoNumber p
+    go (parsing.Value n) = by (n .notation)
+    go (parsing.Refused r) = packed r
 
 pub unquote-told : UnquoteTold
 unquote-told r room xs = go (unquotingOf r room xs) (unquoting-bound r room xs)

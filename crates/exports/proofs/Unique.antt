@@ -23,6 +23,8 @@ use Rattle.exports.proofs.simmerpath_escape_string.Kinds as escape-stri
 use Rattle.exports.proofs.simmerpath_escape_string.Reads as escape-string-reads
 use Rattle.exports.proofs.simmerpath_unquote_string.Kinds as unquote-string
 use Rattle.exports.proofs.simmerpath_unquote_string.Reads as unquote-string-reads
+use Rattle.exports.proofs.simmerpath_parse_str_radix.Kinds as parse-str-radix
+use Rattle.exports.proofs.simmerpath_parse_str_radix.Reads as parse-str-radix-reads
 
 pub same-simmerpath-utf8-validate : OneAnswer validate.ps validate.r validate-reads.Post
 same-simmerpath-utf8-validate κs a x y e f p q = p ∙ sym q
@@ -68,3 +70,9 @@ same-simmerpath-unquote-string κs a x y e f p q = p .0 ∙ sym (q .0)
 
 pub same-simmerpath-unquote-string-text : OneContent unquote-string.ps unquote-string.r unquote-string-reads.Post (λ κs e. now (e .1 .1 .0))
 same-simmerpath-unquote-string-text κs a x y e f p q = p .1 ∙ sym (q .1)
+
+pub same-simmerpath-parse-str-radix : OneAnswer parse-str-radix.ps parse-str-radix.r parse-str-radix-reads.Post
+same-simmerpath-parse-str-radix κs a x y e f p q = p .0 ∙ sym (q .0)
+
+pub same-simmerpath-parse-str-radix-bits : OneContent parse-str-radix.ps parse-str-radix.r parse-str-radix-reads.Post (λ κs e. now (e .1 .0))
+same-simmerpath-parse-str-radix-bits κs a x y e f p q = p .1 ∙ sym (q .1)

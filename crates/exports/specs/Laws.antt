@@ -16,11 +16,15 @@ use Rattle.escape.specs.declared.Escaping.{Escaping}
 use Rattle.escape.specs.declared.Escaping.the-variants as escaping
 use Rattle.string.specs.declared.Unquoting.{Unquoting}
 use Rattle.string.specs.declared.Unquoting.the-variants as unquoting
+use Rattle.number.specs.declared.Parsing.{Parsing}
+use Rattle.number.specs.declared.Parsing.the-variants as parsing
 use Rattle.escape.specs.Escape.{escapingOf}
+use Rattle.number.specs.Number.{parsingOf}
 use Rattle.string.specs.Literal.{unquotingOf}
 use Rattle.string.specs.Laws.{isRead}
 use Rattle.utf8.specs.declared.Reading.{Reading}
 use Rattle.utf8.specs.Answers.{textLimit, admitted, characterAt, encodingOf}
+use Rattle.exports.specs.Number.{parseCode}
 use Rattle.exports.specs.Packed.{refusedFrom, packedOf, Packable}
 use Rattle.exports.specs.String.{escapeCode, innerFrom, unquoteCode}
 use Rattle.exports.specs.Utf8.{validateCode, charAtCode, encodeCode}
@@ -67,6 +71,14 @@ isNotEscaped (escaping.Refused r) = true
 
 abbrev pub EscapeTold : Type 0
 EscapeTold = (room : ℕ) (xs : List ℕ) → let e = escapingOf room xs in looksRefused (escapeCode e) ≡ isNotEscaped e
+
+-- of `parse_str_radix`,
+abbrev pub isNoNumber : Parsing → Bool
+isNoNumber (parsing.Value n) = false
+isNoNumber (parsing.Refused r) = true
+
+abbrev pub ParseTold : Type 0
+ParseTold = (xs : List ℕ) → let p = parsingOf xs in looksRefused (parseCode p) ≡ isNoNumber p
 
 -- and of `unquote_string`, where it takes another answer for a text in the literal itself from bit 32 on
 abbrev pub isInner : Unquoting → Bool

@@ -2,4 +2,5 @@ pub mod Packed
 pub mod Utf8
 pub mod Token
 pub mod String
+pub mod Number
 pub mod Laws

@@ -1,6 +1,8 @@
 // The C functions over the library: each answers with one number, and writes what else it gives to what is lent.
 // A refusal is packed into the number: bit 63, document 01's number, the byte offset and the character number.
+use decimal::Notation;
 use escape::Escaping;
+use number::Parsing;
 use string::Unquoting;
 use token::Display;
 use token::Keyword;
@@ -15,12 +17,14 @@ ghost use mathlib.Core.Path.{_≡_};
 ghost use Prim.Native.Nat.{_≤_};
 ghost use lib.ListN.{length};
 ghost use Rattle.escape.specs.Escape.{escaped, escapingOf, leftBy as escapedBy};
+ghost use Rattle.number.specs.Number.{parsingOf};
 ghost use Rattle.string.specs.Literal.{unquoted, unquotingOf, textBy};
 ghost use Rattle.token.specs.Display.{displayOf, displayed, leftBy as shownBy};
 ghost use Rattle.token.specs.Words.{keywordOf};
 ghost use Rattle.token.specs.Label.{isLabel};
 ghost use Rattle.utf8.specs.Text.{charNumber};
 ghost use Rattle.utf8.specs.Answers.{textLimit, atStart, admitted, encodingOf, leftBy};
+ghost use Rattle.exports.specs.Number.{notationCode, bitsOf, parseCode, parseLeft};
 ghost use Rattle.exports.specs.Packed.{numberLimit, packedOf, Packable};
 ghost use Rattle.exports.specs.String.{escapeCode, readingOf, unquoteCode};
 ghost use Rattle.exports.specs.Token.{keywordCode, displayCode, flag, classesCode};
@@ -50,6 +54,9 @@ const SET_OPERATOR: u64 = 4;
 const AGGREGATOR: u64 = 8;
 
 const AGGREGATOR_WITH_PARAM: u64 = 16;
+
+// The bits of every NaN.
+const NAN_BITS: u64 = 0x7ff8_0000_0000_0000;
 
 // A refusal as one number.
 fn packed(r: Refusal) -> u64
@@ -222,5 +229,43 @@ pub extern "C" fn simmerpath_unquote_string(literal: &[u8], documented: u32, tex
         Unquoting::Inner(n) => INNER + n as u64,
         Unquoting::Written(n) => n as u64,
         Unquoting::Refused(r) => packed(r),
+    }
+}
+
+// A notation as a number.
+fn notation_code(notation: Notation) -> u64
+    ensures { λ r. ⌜ r ≡ notationCode notation ⌝ }
+{
+    match notation {
+        Notation::Decimal => 0,
+        Notation::Hex => 1,
+        Notation::Octal => 2,
+    }
+}
+
+// The bits of a float, the same of every NaN.
+fn bits_of(x: f64) -> u64
+    ensures { λ r. ⌜ r ≡ bitsOf x ⌝ }
+{
+    if x != x {
+        return NAN_BITS;
+    }
+    f64::to_bits(x)
+}
+
+// The notation of a number, the bits of whose value it writes; or refusal 1, 2, 53, 60 or 61.
+#[no_mangle]
+pub extern "C" fn simmerpath_parse_str_radix(text: &[u8], bits: &mut u64) -> u64
+    ensures { λ r. ⌜ r ≡ parseCode (parsingOf (now (text .entry))) ⌝ }
+    ensures { λ _. ⌜ now (bits .exit) ≡ parseLeft (parsingOf (now (text .entry))) (now (bits .entry)) ⌝ }
+{
+    let p = number::parse_str_radix(text);
+    match p {
+        Parsing::Value(n) => {
+            *bits = bits_of(n.value);
+            let notation = n.notation;
+            notation_code(notation)
+        }
+        Parsing::Refused(r) => packed(r),
     }
 }

@@ -1,4 +1,5 @@
 pub mod Kept
 pub mod Marks
 pub mod Given
+pub mod Bounds
 pub mod Unique
