@@ -5,7 +5,8 @@ use mathlib.Core.Bool.{Bool, true, false, cond, _&&_}
 use mathlib.Core.List.{List, [], _∷_}
 use lib.Dec.{eqb, leb, ltb}
 use lib.IntN.{pos}
-use lib.Ieee.{Float, nan, inf, fin, binary64, round}
+use lib.Ieee as Ieee
+use lib.Ieee.{Float, nan, inf, fin, binary64, round, toBits}
 use lib.ListN.{length, take}
 use Rattle.scan.specs.Byte.{digitOf}
 use Rattle.utf8.specs.Text.{codesOf, isWellFormed}
@@ -16,6 +17,10 @@ use Rattle.decimal.specs.declared.Decimal.{Decimal}
 use Rattle.decimal.specs.declared.Decimal.the-variants.{NotDecimal, Named, Exact, Outside}
 use Rattle.sign.specs.Sign.{isMinus}
 use Rattle.decimal.specs.Grammar.{isNumeral, isInfinite, isNan, fractionOf, digitsOf, exponentOf, isNegativeExponent}
+
+-- the bits of a value: "every NaN has bits 7FF8000000000000"
+unfoldable pub bitsOf : Float → ℕ
+bitsOf x = cond (Ieee.isNan x) 0x7ff8000000000000 (toBits binary64 x)
 
 -- how many digits a notation has
 abbrev pub radixOf : Notation → ℕ

@@ -12,7 +12,7 @@ ghost use Rattle.scan.specs.Byte.{lowered};
 ghost use Rattle.scan.specs.Text.{sameText};
 ghost use Rattle.sign.specs.Sign.{isMinus};
 ghost use Rattle.decimal.specs.Grammar.{pastPoint, isExponent, pastExponent, between, partsOf, hasDigits, exponentHasDigits, isNumeral, digitsOf, exponentOf};
-ghost use Rattle.decimal.specs.Value.{radixOf, valueFrom, valueOf, mostTold, trailing, significand, mostExact, mostExponent, longest, isExact, nearest, plain, scaledBy, numeralRead, decimalOf};
+ghost use Rattle.decimal.specs.Value.{bitsOf, radixOf, valueFrom, valueOf, mostTold, trailing, significand, mostExact, mostExponent, longest, isExact, nearest, plain, scaledBy, numeralRead, decimalOf};
 ghost use Rattle.decimal.specs.Value.{tenTo};
 
 // How a number was written.
@@ -44,6 +44,19 @@ fn plain(value: f64) -> Number
         value,
         notation: Notation::Decimal,
     }
+}
+
+// The bits of every NaN.
+const NAN_BITS: u64 = 0x7ff8_0000_0000_0000;
+
+// The bits of a value, as they are shown.
+pub fn bits_of(value: f64) -> u64
+    ensures { λ r. ⌜ r ≡ bitsOf value ⌝ }
+{
+    if value != value {
+        return NAN_BITS;
+    }
+    f64::to_bits(value)
 }
 
 // Where the digits of a text's parts begin and end.

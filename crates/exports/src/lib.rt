@@ -24,7 +24,7 @@ ghost use Rattle.token.specs.Words.{keywordOf};
 ghost use Rattle.token.specs.Label.{isLabel};
 ghost use Rattle.utf8.specs.Text.{charNumber};
 ghost use Rattle.utf8.specs.Answers.{textLimit, atStart, admitted, encodingOf, leftBy};
-ghost use Rattle.exports.specs.Number.{notationCode, bitsOf, parseCode, parseLeft};
+ghost use Rattle.exports.specs.Number.{notationCode, parseCode, parseLeft};
 ghost use Rattle.exports.specs.Packed.{numberLimit, packedOf, Packable};
 ghost use Rattle.exports.specs.String.{escapeCode, readingOf, unquoteCode};
 ghost use Rattle.exports.specs.Token.{keywordCode, displayCode, flag, classesCode};
@@ -54,9 +54,6 @@ const SET_OPERATOR: u64 = 4;
 const AGGREGATOR: u64 = 8;
 
 const AGGREGATOR_WITH_PARAM: u64 = 16;
-
-// The bits of every NaN.
-const NAN_BITS: u64 = 0x7ff8_0000_0000_0000;
 
 // A refusal as one number.
 fn packed(r: Refusal) -> u64
@@ -243,16 +240,6 @@ fn notation_code(notation: Notation) -> u64
     }
 }
 
-// The bits of a float, the same of every NaN.
-fn bits_of(x: f64) -> u64
-    ensures { λ r. ⌜ r ≡ bitsOf x ⌝ }
-{
-    if x != x {
-        return NAN_BITS;
-    }
-    f64::to_bits(x)
-}
-
 // The notation of a number, the bits of whose value it writes; or refusal 1, 2, 53, 60 or 61.
 #[no_mangle]
 pub extern "C" fn simmerpath_parse_str_radix(text: &[u8], bits: &mut u64) -> u64
@@ -262,7 +249,7 @@ pub extern "C" fn simmerpath_parse_str_radix(text: &[u8], bits: &mut u64) -> u64
     let p = number::parse_str_radix(text);
     match p {
         Parsing::Value(n) => {
-            *bits = bits_of(n.value);
+            *bits = decimal::bits_of(n.value);
             let notation = n.notation;
             notation_code(notation)
         }

@@ -1,4 +1,4 @@
--- The refusals of a number are those of its text's admission, 1 and 2, at places within it, and 53, 60 and 61, at none.
+-- How far the refusals of a number reach: they are those of its text's admission, 1 and 2, at places within it, and 53, 60 and 61, at none.
 use Prim.Native.Nat.{ℕ}
 use native.Mathlib.Omega.{arith}
 use mathlib.Core.Bool.{Bool, _&&_}
@@ -9,29 +9,33 @@ use Rattle.utf8.specs.declared.Admission.{Admission}
 use Rattle.utf8.specs.declared.Admission.the-variants as admission
 use Rattle.utf8.specs.Answers.{admitted}
 use Rattle.utf8.proofs.Bounds as within
+use Rattle.sign.specs.Sign.{isMinus}
 use Rattle.decimal.specs.declared.Notation.{Notation}
 use Rattle.decimal.specs.declared.Decimal.{Decimal}
 use Rattle.decimal.specs.declared.Decimal.the-variants.{NotDecimal, Named, Exact, Outside}
 use Rattle.decimal.specs.Value.{longest, decimalOf}
 use Rattle.number.specs.declared.Integer.{Integer}
 use Rattle.number.specs.declared.Integer.the-variants.{Whole, NotInteger}
-use Rattle.number.specs.Signed.{isSigned}
+use Rattle.number.specs.Signed.{isI64}
 use Rattle.number.specs.Integer.{integerOf}
 use Rattle.number.specs.White.{plainText}
-use Rattle.number.specs.Number.{leadsZero, isHexMark, isInteger, integerBy, markedRead, decimalRead, numberOf, parsingBy, parsingOf}
-use Rattle.number.specs.Bounds.{Bounded, ParsingBound}
+use Rattle.number.specs.Number.{leadsZero, isMarked, integerBy, notationOf, followsMark, markedRead, decimalRead, numberOf, parsingBy, parsingOf}
+use Rattle.number.specs.declared.Parsing.{Parsing}
+use Rattle.number.specs.declared.Parsing.the-variants.{Value, Refused}
+
+abbrev pub Bounded : Parsing → Type 0
+Bounded (Value n) = Unit {0}
+Bounded (Refused r) = within.Placed 61 longest r
 
 integer-bound : (n : Notation) (outer : Bool) (i : Integer) → Bounded (integerBy n outer i)
 integer-bound n outer (Whole own v) =
-    either Bounded (isSigned own v && isSigned (unlike own outer) v) (λ e. tt) (λ e. omega arith)
+    either Bounded (isI64 own v && isI64 (unlike own outer) v) (λ e. tt) (λ e. omega arith)
 integer-bound n outer NotInteger = omega arith
 
 marked-bound : (t : List ℕ) → Bounded (markedRead t)
 unfolding markedRead
 marked-bound t =
-    either Bounded (leadsZero t)
-    (λ e. either Bounded (isHexMark t) (λ f. integer-bound _ _ (integerOf _ _)) (λ f. integer-bound _ _ (integerOf _ _)))
-    (λ e. omega arith)
+    either Bounded (leadsZero t) (λ e. integer-bound (notationOf t) (isMinus t 0) (integerOf (notationOf t) (followsMark t))) (λ e. omega arith)
 
 decimal-bound : (d : Decimal) → Bounded (decimalRead d)
 decimal-bound NotDecimal = omega arith
@@ -41,9 +45,9 @@ decimal-bound (Outside negative) = omega arith
 
 number-bound : (t : List ℕ) → Bounded (numberOf t)
 unfolding numberOf
-number-bound t = either Bounded (isInteger t) (λ e. marked-bound t) (λ e. decimal-bound (decimalOf t))
+number-bound t = either Bounded (isMarked t) (λ e. marked-bound t) (λ e. decimal-bound (decimalOf t))
 
-pub parsing-bound : ParsingBound
+pub parsing-bound : (xs : List ℕ) → Bounded (parsingOf xs)
 unfolding parsingOf
 parsing-bound xs = go (admitted longest xs) (within.admitted-bound longest xs)
   where

@@ -3,4 +3,3 @@ pub mod Signed
 pub mod Integer
 pub mod Number
 pub mod Refusals
-pub mod Bounds

@@ -13,14 +13,14 @@ use Rattle.token.specs.declared.Display.the-variants.{Length}
 use Rattle.token.specs.Display.{displayOf, fitted, leftBy}
 use Rattle.token.proofs.Displays.{short}
 use Rattle.replay.specs.Rooms.{Alike}
-use Rattle.replay.specs.Tokens.{numberAnswer, displayAnswer}
+use Rattle.replay.specs.Tokens.{digitsAnswer, displayAnswer}
 use Rattle.replay.proofs.Pieces.{front}
 
 pub display-alike : (bytes : List ℕ) {r s : ℕ} → Alike r s → displayAnswer r bytes ≡ displayAnswer s bytes
 unfolding displayAnswer fitted
 display-alike bytes {r} {s} l = go (decimalRead bytes)
   where
-    go : (d : Decimal) → numberAnswer r d ≡ numberAnswer s d
+    go : (d : Decimal) → digitsAnswer r d ≡ digitsAnswer s d
     go (Value k) = rw (l .fits (length (displayOf k)) (omega (arith, short k)))
     go Bad = refl
 

@@ -13,6 +13,7 @@ use Rattle.utf8.specs.declared.Admission.{Admission}
 use Rattle.utf8.specs.declared.Admission.the-variants.{Admitted, Refused}
 use Rattle.utf8.specs.declared.Reading.the-variants.{Crate, Documented}
 use Rattle.utf8.specs.Answers.{textLimit, admitted}
+use Rattle.number.specs.Number.{parsingOf}
 use Rattle.record.specs.declared.Decoded.{Decoded}
 use Rattle.record.specs.declared.Decoded.the-variants as decoding
 use Rattle.record.specs.declared.Room.{Room}
@@ -29,6 +30,7 @@ use Rattle.replay.specs.Rooms.{roomOf}
 use Rattle.replay.specs.Lines.{badRecord, okLine, refusal}
 use Rattle.replay.specs.Tokens.{keywordAnswer, labelAnswer, displayAnswer}
 use Rattle.replay.specs.Strings.{escapeAnswer, unquoteAnswer}
+use Rattle.replay.specs.Numbers.{numberAnswer}
 
 -- `utf8`: the number of characters
 unfoldable pub utf8Answer : Admission → List ℕ
@@ -52,6 +54,7 @@ ops =
     ∷ named "unquote" op.Unquote
     ∷ named "unquotedoc" op.UnquoteDoc
     ∷ named "escape" op.Escape
+    ∷ named "number" op.Number
     ∷ []
 
 -- the op that a name is for
@@ -71,6 +74,7 @@ opAnswer op.Label bytes room = labelAnswer (isLabel bytes)
 opAnswer op.Unquote bytes room = unquoteAnswer Crate room bytes
 opAnswer op.UnquoteDoc bytes room = unquoteAnswer Documented room bytes
 opAnswer op.Escape bytes room = escapeAnswer room bytes
+opAnswer op.Number bytes room = numberAnswer (parsingOf bytes)
 opAnswer op.Unknown bytes room = badRecord
 
 -- no answer needs more room than `mostRoom`

@@ -3,4 +3,5 @@ pub mod Lines
 pub mod Rooms
 pub mod Tokens
 pub mod Strings
+pub mod Numbers
 pub mod Answer

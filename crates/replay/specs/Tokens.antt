@@ -49,9 +49,9 @@ kindAnswer k (Length n) = hexLine (displayOf k) (flagsOf k)
 kindAnswer k NoRoom = refusal noRoom
 
 -- by what the decimal digits say
-abbrev pub numberAnswer : ℕ → Decimal → List ℕ
-numberAnswer room (Value n) = cond (ltb largestKind n) badRecord (kindAnswer n (displayed room n))
-numberAnswer room Bad = badRecord
+abbrev pub digitsAnswer : ℕ → Decimal → List ℕ
+digitsAnswer room (Value n) = cond (ltb largestKind n) badRecord (kindAnswer n (displayed room n))
+digitsAnswer room Bad = badRecord
 
 unfoldable pub displayAnswer : ℕ → List ℕ → List ℕ
-displayAnswer room bytes = numberAnswer room (decimalRead bytes)
+displayAnswer room bytes = digitsAnswer room (decimalRead bytes)

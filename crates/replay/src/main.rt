@@ -1,6 +1,7 @@
 // Answers recorded inputs: reads records from standard input, a line each, and writes a line each.
 // The lines are read in `lines`, and answered in `ops`; the other modules have what an op asks and what it says.
 mod lines;
+mod numbers;
 mod ops;
 mod says;
 mod strings;

@@ -206,7 +206,7 @@ fn long() -> [String; 9] {
 /// The answer to `number`: the notation and the bits of a number.
 pub fn number(text: &[u8]) -> String {
     match number::number(text) {
-        Ok(number) => format!("{} {:016x}", word(number.notation), number.bits),
+        Ok(number) => format!("ok {} {:016x}", word(number.notation), number.bits),
         Err(refused) => refused.to_string(),
     }
 }

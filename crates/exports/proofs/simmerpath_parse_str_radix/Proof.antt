@@ -8,7 +8,7 @@ use denote.Ref.{now}
 use borrow.Author.Needs.{needs}
 use Rattle.number.specs.declared.Parsing.{Parsing}
 use Rattle.number.specs.Number.{parsingOf}
-use Rattle.number.specs.Bounds.{Bounded}
+use Rattle.number.proofs.Bounds.{Bounded}
 use Rattle.number.proofs.Bounds.{parsing-bound}
 use Rattle.exports.specs.Number.{parseCode, parseLeft}
 use Rattle.exports.proofs.simmerpath_parse_str_radix.Statement.{statement}

@@ -51,6 +51,12 @@ escape-requires c κs = search needs
 enum-told-8 : tie.Need-enum-told-8
 enum-told-8 c = search needs
 
+number-requires : tie.Need-number-requires
+number-requires c κs = search needs
+
+enum-told-9 : tie.Need-enum-told-9
+enum-told-9 c = search needs
+
 bad-record-requires : tie.Need-bad-record-requires
 bad-record-requires c κs = search needs
 
@@ -112,7 +118,13 @@ same-length-12 : tie.Need-same-length-12
 same-length-12 c = search needs
 
 returns-8 : tie.Need-returns-8
-returns-8 c = rw (← c .before .before .before .before .before .before .op-of .ensures, c .before .before .before .before .enum-told8 .given .1) (c .before .before .bad-record .ensures)
+returns-8 c = rw (← c .before .before .before .before .before .before .op-of .ensures, c .before .before .before .before .enum-told8 .given .1) (c .before .before .number .ensures)
+
+same-length-13 : tie.Need-same-length-13
+same-length-13 c = search needs
+
+returns-9 : tie.Need-returns-9
+returns-9 c = rw (← c .before .before .before .before .before .before .op-of .ensures, c .before .before .before .before .enum-told9 .given .1) (c .before .before .bad-record .ensures)
 
 pub dispatch-spec : {M : Type 1} → statement M
 dispatch-spec =
@@ -134,6 +146,8 @@ dispatch-spec =
     enum-told-7
     escape-requires
     enum-told-8
+    number-requires
+    enum-told-9
     bad-record-requires
     same-length
     returns
@@ -154,4 +168,6 @@ dispatch-spec =
     same-length-11
     returns-7
     same-length-12
-    returns-8)
+    returns-8
+    same-length-13
+    returns-9)

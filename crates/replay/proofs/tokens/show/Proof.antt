@@ -2,6 +2,7 @@
 use Rattle.replay.proofs.Display.{shown-front}
 use Rattle.replay.proofs.Pieces.{hex-few}
 use Rattle.replay.specs.Tokens.{flagsOf, kindAnswer}
+use Rattle.scan.specs.Ascii.{ascii}
 use Rattle.token.specs.DisplayRows.{textSize}
 use Rattle.token.proofs.Displays.{short}
 use Rattle.token.specs.Display.{displayOf, leftBy}
@@ -42,7 +43,7 @@ slice-aggregate-ok-text c = sym (length-take-le _ _ (front (c .before) .0))
 ok-text-requires : tie.Need-ok-text-requires
 ok-text-requires c κs =
     let k = c .before .before .before .before .before .before .before .before .before .before .before .args .kind in
-    rw (front (c .before .before) .1) (omega (arith, hex-few textSize (displayOf k) (flagsOf k) (short k) (omega arith)))
+    rw (front (c .before .before) .1) (omega (arith, hex-few textSize (ascii "ok ") (displayOf k) (flagsOf k) (short k) (omega arith)))
 
 enum-told : tie.Need-enum-told
 enum-told c = search needs
