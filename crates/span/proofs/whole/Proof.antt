@@ -1,0 +1,26 @@
+-- `span::whole` meets its contract.
+use borrow.Author.Needs.{needs}
+use mathlib.Core.Path.{_≡_, ap₂}
+use Prim.Native.Nat.{ℕ}
+use native.Mathlib.Omega.{arith}
+use Rattle.span.specs.declared.Duration.{Duration}
+use Rattle.span.proofs.whole.Statement.{statement}
+use Rattle.span.proofs.whole.Tie as tie
+
+abbrev span : ℕ → ℕ → Duration
+span s n = record { secs = s; nanos = n }
+
+add-t5 : tie.Need-add-t5
+add-t5 c = record { fits = c .before .pre .1 (c .if1 .taken) }
+
+returns : tie.Need-returns
+returns c = ap₂ span (omega arith) (omega arith)
+
+cast-t6 : tie.Need-cast-t6
+cast-t6 c = search needs
+
+returns-2 : tie.Need-returns-2
+returns-2 c = ap₂ span (omega arith) (omega arith)
+
+pub whole-spec : {M : Type 1} → statement M
+whole-spec = tie.close (tie.spec add-t5 cast-t6 returns returns-2)
