@@ -26,6 +26,10 @@ week = 7 * day
 abbrev pub year : ℕ
 year = 365 * day
 
+-- how many nanoseconds a millisecond has
+abbrev pub nanosAMilli : ℕ
+nanosAMilli = 1000000
+
 -- a unit: its text, and its length in milliseconds
 pub record Unit : Type 0 where
   pub text : List ℕ
