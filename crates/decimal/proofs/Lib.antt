@@ -13,3 +13,4 @@ pub mod Characters
 pub mod Exactness
 pub mod Given
 pub mod Unique
+pub mod Answers
