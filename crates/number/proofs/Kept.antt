@@ -5,7 +5,7 @@ use native.Mathlib.Omega.{arith}
 use mathlib.Core.Bool.{Bool, true, false, cond}
 use mathlib.Core.List.{List, [], _∷_, _++_, append-nil}
 use mathlib.Core.Logic.{_⊎_, inl, inr, ⊎-elim}
-use mathlib.Core.Path.{_≡_, refl, ap}
+use mathlib.Core.Path.{_≡_, refl, ap, _∙_}
 use lib.ListN.{length, drop, length-append, drop-of-length-le}
 use Rattle.scan.specs.Byte.{lowered}
 use Rattle.scan.proofs.Classes.{lowered-above, lowered-ascii}
@@ -25,6 +25,9 @@ module _ (c : ℕ) where
   pub other-kept : isWhite c ≡ false → keptBytes c ≡ encoded (lowered c)
   unfolding keptOf
   other-kept e = rw e (append-nil (encoded (lowered c)))
+
+  pub ascii-kept : c < 0x80 → isWhite c ≡ false → keptBytes c ≡ lowered c ∷ []
+  ascii-kept h e = other-kept e ∙ ascii-bytes (lowered c) (lowered-ascii c h)
 
   -- an ASCII character is lowered to one, and others are left as they are; so a character stays one, of as many bytes
   lowered-ways : ((c < 0x80) × (lowered c < 0x80)) ⊎ (lowered c ≡ c)

@@ -1,5 +1,6 @@
 pub mod Kept
 pub mod Marks
 pub mod Given
+pub mod Spelling
 pub mod Bounds
 pub mod Unique

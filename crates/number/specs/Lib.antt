@@ -3,3 +3,4 @@ pub mod Signed
 pub mod Integer
 pub mod Number
 pub mod Refusals
+pub mod Spelling

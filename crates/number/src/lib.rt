@@ -9,7 +9,7 @@ use utf8::Encoding;
 use utf8::Refusal;
 ghost use mathlib.Core.Bool.{true};
 ghost use mathlib.Core.Path.{_≡_};
-ghost use Prim.Native.Nat.{_+_, _≤_};
+ghost use Prim.Native.Nat.{_+_, _<_, _≤_};
 ghost use lib.IntN.{pos};
 ghost use lib.Ieee as Ieee;
 ghost use lib.Ieee.{binary64};
@@ -44,6 +44,8 @@ enum Integer {
     Whole(bool, u64),
     NotInteger,
 }
+
+const LAST_ASCII: u8 = 0x7f;
 
 const TAB: u32 = 0x9;
 
@@ -117,6 +119,20 @@ fn put_kept(code: u32, out: &mut [u8], at: usize) -> usize
     at + n
 }
 
+// Writes what is kept of an ASCII character at a place where it fits, and answers the place past it.
+fn put_ascii(byte: u8, out: &mut [u8], at: usize) -> usize
+    requires { ⌜ byte < 0x80 ⌝ }
+    requires { ⌜ at + length (keptBytes byte) ≤ length (now out) ⌝ }
+    ensures { λ r. ⌜ r ≡ at + length (keptBytes byte) ⌝ }
+    ensures { λ _. ⌜ now (out .exit) ≡ sets (now (out .entry)) at (keptBytes byte) ⌝ }
+{
+    if is_white(byte as u32) {
+        return at;
+    }
+    out[at] = scan::lowered(byte as usize) as u8;
+    at + 1
+}
+
 // Writes a text without its white space and in lower case at the front of a buffer, and answers how many bytes that is.
 fn keep(text: &[u8], out: &mut [u8; decimal::LONGEST]) -> usize
     requires { ⌜ Taken longest (now text) ⌝ }
@@ -126,12 +142,18 @@ fn keep(text: &[u8], out: &mut [u8; decimal::LONGEST]) -> usize
     let mut n = 0;
     let mut at = 0;
     while at < text.len() {
-        let c = utf8::char_at(text, ByteOffset(at));
-        let Character::Scalar { code, size } = c else {
-            return n;
-        };
-        n = put_kept(code, out, n);
-        at += size;
+        let byte = text[at];
+        if byte <= LAST_ASCII {
+            n = put_ascii(byte, out, n);
+            at += 1;
+        } else {
+            let c = utf8::char_at(text, ByteOffset(at));
+            let Character::Scalar { code, size } = c else {
+                return n;
+            };
+            n = put_kept(code, out, n);
+            at += size;
+        }
     }
     n
 }

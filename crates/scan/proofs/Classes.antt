@@ -57,16 +57,17 @@ digit-bound c =
     (λ e. either P (isWithin (code "A") (code "F") c) (λ e. omega (arith, within-bounds (code "A") (code "F") c e))
     (λ e. omega arith)))
 
--- a digit of any radix is ASCII
-pub digit-ascii : (radix c : ℕ) → isDigitIn radix c ≡ true → c < 0x80
+-- a digit of any radix is between 0 and f
+pub digit-bounds : (radix c : ℕ) → isDigitIn radix c ≡ true → (code "0" ≤ c) × (c ≤ code "f")
 unfolding isDigitIn isHexDigit
-digit-ascii radix c d =
+digit-bounds radix c d =
     go (isDigit c) refl (isWithin (code "a") (code "f") c) refl (and-left (isDigit c || (isWithin (code "a") (code "f") c || isWithin (code "A") (code "F") c)) (ltb (digitOf c) radix) d)
   where
-    go : (s : Bool) → isDigit c ≡ s → (t : Bool) → isWithin (code "a") (code "f") c ≡ t → s || (t || isWithin (code "A") (code "F") c) ≡ true → c < 0x80
-    go true a t b e = omega (arith, within-bounds (code "0") (code "9") c a)
-    go false a true b e = omega (arith, within-bounds (code "a") (code "f") c b)
-    go false a false b e = omega (arith, within-bounds (code "A") (code "F") c e)
+    go : (s : Bool) → isDigit c ≡ s → (t : Bool) → isWithin (code "a") (code "f") c ≡ t → s || (t || isWithin (code "A") (code "F") c) ≡ true
+        → (code "0" ≤ c) × (c ≤ code "f")
+    go true a t b e = let h = within-bounds (code "0") (code "9") c a in (h .0, omega (arith, h .1))
+    go false a true b e = let h = within-bounds (code "a") (code "f") c b in (omega (arith, h .0), h .1)
+    go false a false b e = let h = within-bounds (code "A") (code "F") c e in (omega (arith, h .0), omega (arith, h .1))
 
 -- lowering keeps within a byte, and leaves what is not ASCII as it is
 pub lowered-byte : (c : ℕ) → c ≤ 0xff → lowered c ≤ 0xff

@@ -13,7 +13,7 @@ use Rattle.scan.specs.Ascii.{ascii}
 use Rattle.scan.specs.Byte.{peekAt, backslash, digitOf, isDigitIn}
 use Rattle.scan.specs.Text.{Stands}
 use Rattle.scan.proofs.Choice.{either, and-left, and-right}
-use Rattle.scan.proofs.Classes.{digit-ascii}
+use Rattle.scan.proofs.Classes.{digit-bounds}
 use Rattle.utf8.specs.declared.Character.the-variants.{Nothing, IllFormed}
 use Rattle.utf8.specs.Table.{charLength}
 use Rattle.utf8.specs.Text.{WellFormed}
@@ -46,7 +46,7 @@ places radix xs (suc n) v at w e i l m =
     go (ℕ-discrete i at) d (places radix xs n (v * radix + digitOf (peekAt xs at)) (at + 1) w (sym (turn radix xs n v at d) ∙ e) i)
   where
     go : Dec (i ≡ at) → isDigitIn radix (peekAt xs at) ≡ true → (at + 1 ≤ i → i < at + 1 + n → peekAt xs i < 0x80) → peekAt xs i < 0x80
-    go (yes s) d ih = rw s (digit-ascii radix (peekAt xs at) d)
+    go (yes s) d ih = rw s (omega (arith, digit-bounds radix (peekAt xs at) d))
     go (no s) d ih = ih (omega arith) (omega arith)
 
 stands-ascii : (c : ℕ) (ys : List ℕ) → isAscii ys ≡ true → Stands c ys → c < 0x80

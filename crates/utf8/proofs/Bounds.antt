@@ -4,10 +4,10 @@ use Prim.Native.Nat.{ℕ, suc, _+_, _-_, _<_, _≤_}
 use native.Mathlib.Omega.{arith}
 use mathlib.Core.List.{List, [], _∷_}
 use mathlib.Core.Logic.{_⊎_, inl, inr}
-use mathlib.Core.Path.{_≡_, refl, ap, _∙_}
+use mathlib.Core.Path.{_≡_, refl, ap}
 use lib.Dec.{leb, ltb, eqb}
 use lib.ListN.{length, drop, length-drop}
-use lib.Seq.{drop-drop}
+use lib.Seq.{drop-drop, drop-cons}
 use borrow.Author.Tests.{le-leb, lt-leb, leb-false, ltb-false, lt-ltb, eq-eqb, ne-eqb, eqb-true, eqb-false}
 use Rattle.utf8.specs.declared.Refusal.{Refusal}
 use Rattle.utf8.specs.declared.Admission.{Admission}
@@ -19,9 +19,11 @@ use Rattle.utf8.specs.declared.Encoding.the-variants.{Written, NotScalar
 use Rattle.utf8.specs.Table.{charLength}
 use Rattle.utf8.specs.Code.{codeOf, isScalar, encoded}
 use Rattle.utf8.specs.Text.{Char, charsOf, sizeOf, prefixEnd, begunIn, charNumber}
-use Rattle.utf8.specs.Laws.{ByteScalar, EncodingFits, FirstCharacter, FirstAscii, FewBytes, StandsAt, CharacterStands}
+use Rattle.utf8.specs.Laws.{ByteScalar, EncodingFits, FirstCharacter, AsciiAt, FewBytes, StandsAt, CharacterStands}
 use Rattle.utf8.specs.Answers.{validityOf, admittedAs, admitted, characterAt, encodingOf}
+use Rattle.scan.specs.Byte.{end, peekAt}
 use Rattle.scan.proofs.Choice.{either}
+use Rattle.scan.proofs.Runs.{peek-inside}
 use Rattle.utf8.proofs.Chars.{char-bound, chars-some}
 use Rattle.utf8.proofs.Texts.{Filled, filled, prefix-bound}
 use Rattle.utf8.proofs.Laws.{none-empty, rest-text, ascii-length, ascii-code}
@@ -109,11 +111,12 @@ first-character xs = (some, none)
         either (λ (a : Character). (a ≡ Nothing) ⊎ (a ≡ IllFormed)) (leb (length xs) 0) (λ t. inl refl)
         (λ t. rw (eq-eqb (charLength xs) 0 e) (inr refl))
 
-pub first-ascii : FirstAscii
-first-ascii [] h = let f : ⊥ = omega arith in absurd f
-first-ascii (x ∷ xs) h =
-    let e = first-character (x ∷ xs) .0 (omega (arith, ascii-length x xs h)) in
-    e ∙ rw (ascii-length x xs h, ascii-code x xs h)
+pub ascii-at : AsciiAt
+unfolding characterAt
+ascii-at xs at h =
+    let x = peekAt xs at in
+    let l : at < length xs = peek-inside xs at (ne-eqb x end (λ e. omega arith)) in
+    rw (lt-leb (length xs) at l, drop-cons xs at end l, ascii-length x (drop (suc at) xs) h, ascii-code x (drop (suc at) xs) h)
 
 pub byte-scalar : ByteScalar
 unfolding isScalar

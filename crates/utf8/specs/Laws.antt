@@ -85,8 +85,9 @@ FirstCharacter =
     let n = charLength xs in
     (0 < n → characterAt xs 0 ≡ Scalar (codeOf n xs) n) × (n ≡ 0 → (characterAt xs 0 ≡ Nothing) ⊎ (characterAt xs 0 ≡ IllFormed))
 
-abbrev pub FirstAscii : Type 0
-FirstAscii = (xs : List ℕ) → peekAt xs 0 < 0x80 → characterAt xs 0 ≡ Scalar (peekAt xs 0) 1
+-- an ASCII byte is the character at its offset
+abbrev pub AsciiAt : Type 0
+AsciiAt = (xs : List ℕ) (at : ℕ) → peekAt xs at < 0x80 → characterAt xs at ≡ Scalar (peekAt xs at) 1
 
 -- the character at an offset from which on there is text: its code point and its size, and what there is behind it
 pub record Standing (xs : List ℕ) (at c n : ℕ) : Type 0 where

@@ -13,7 +13,7 @@ use Rattle.scan.specs.Byte.{peekAt}
 use Rattle.utf8.specs.declared.Character.{Character}
 use Rattle.utf8.specs.declared.Character.the-variants.{Scalar, Nothing, IllFormed}
 use Rattle.utf8.specs.Answers.{characterAt}
-use Rattle.utf8.proofs.Bounds.{first-ascii}
+use Rattle.utf8.proofs.Bounds.{ascii-at}
 use Rattle.utf8.proofs.Character as character
 use Rattle.tile.specs.declared.Tile.the-variants.{Bad}
 use Rattle.tile.specs.Tile.{beginsEscape, escapeOf, plainOf, tileOf}
@@ -77,7 +77,7 @@ returns-3 c =
     let d = c .before .before in
     let p = d .before .before .peek .ensures in
     rw p
-    (ap plainOf (sym (first-ascii (xs d) (omega (arith, p, c .if3 .taken))))
+    (ap plainOf (sym (ascii-at (xs d) 0 (omega (arith, p, c .if3 .taken))))
     ∙ plain (q d) (xs d) (other d) (sym (told d) ∙ c .before .if2 .left))
 
 char-at-requires : tie.Need-char-at-requires
