@@ -1,21 +1,19 @@
 -- An f64's digits and exponent by its bit pattern, and what a test of its size says of them.
 --
-use mathlib.Core.Path.{_≡_, refl, sym, ap, ap₂, _∙_, subst}
-use mathlib.Core.Logic.{_⊎_, inl, inr, ⊎-elim}
+use mathlib.Core.Path.{_≡_, refl, sym, ap, _∙_, subst}
+use mathlib.Core.Logic.{_⊎_, ⊎-elim}
 use mathlib.Core.Bool.{Bool, true, false, not, cond, true≢false}
 use Prim.Native.Nat.{ℕ, zero, suc, _+_, _-_, _*_, _/_, _%_, _^_, _≤_, _<_}
-use native.Mathlib.Nat.{le-refl, le-of-lt, le-trans, le-of-eq, lt-of-lt-of-le, lt-of-le-of-lt, lt-irrefl, zero-lt-suc, mul-comm, mul-assoc, mul-left-comm, mul-right-comm, mul-one, one-mul, mul-pos, mul-le-mul, mul-le-mul-right, mul-le-mul-left, mul-lt-mul-of-pos-right, le-of-mul-le-mul-right, eq-of-mul-eq-mul-right, not-le-of-lt, mod-lt, mod-eq-of-lt, le-of-suc-le-suc}
+use native.Mathlib.Nat.{le-of-lt, le-trans, le-of-eq, lt-of-le-of-lt, mul-assoc, mul-right-comm, mul-one, one-mul, mul-le-mul, mul-le-mul-right, mul-lt-mul-of-pos-right, eq-of-mul-eq-mul-right, not-le-of-lt, mod-lt, mod-eq-of-lt, le-of-suc-le-suc}
 use native.Mathlib.Omega.{arith}
-use lib.Dec.{T, leb, ltb, eqb, leb→le, ltb→lt, nltb→le, nleb→lt, lit<, lit≤}
-use lib.IntN.{ℤ, pos, negsuc}
+use lib.Dec.{T, leb, eqb, ltb→lt, nleb→lt, lit<, lit≤}
 use lib.Bits.{bitAnd, and-mask}
-use lib.Pow.{pow-add, pow-pos, pow-mono, shl-lt}
-use lib.Ieee.{Float, nan, inf, fin, binary64, up, down, lt, le, fits, isNan, odd, ofFields, ofBits, toBits}
-use lib.Ieee.Fits.{down-pos}
+use lib.Pow.{pow-add, pow-pos, pow-mono}
+use lib.Ieee.{Float, nan, inf, fin, binary64, up, down, lt, le, fits, odd, ofFields, ofBits, toBits}
 use lib.Ieee.Exact.{HasValue, odd-sign}
-use lib.Ieee.Bits.{ofBits-toBits, toBits-lt, is-false}
-use lib.Ieee.Positive.{num, den, positive, above, above-of-le, values-of-le, value→cross}
-use Rattle.span.specs.Spans.{leastTimed, tooLong}
+use lib.Ieee.Bits.{ofBits-toBits}
+use lib.Ieee.Positive.{above, above-of-le, values-of-le}
+use Rattle.span.specs.Spans.{leastTimed, twoTo64}
 use Rattle.span.proofs.Round.{lt-or-ge}
 
 -- ---- x by the fields of its pattern
@@ -34,7 +32,7 @@ low-side x s a c h l = go x h l (above-of-le leastTimed x tt l)
     go (fin false m e) h l p =
         (sym (h .0), le-trans (le-of-eq (sym (one-mul c))) (values-of-le leastTimed (fin false m e) 1 (2 ^ 31) a c tt p (refl, refl) (refl, h .1) l))
 
-high-side : (x : Float) (a c : ℕ) → 0 < c → HasValue x false a c → T (lt x tooLong) → a < 2 ^ 64 * c
+high-side : (x : Float) (a c : ℕ) → 0 < c → HasValue x false a c → T (lt x twoTo64) → a < 2 ^ 64 * c
 unfolding lt
 high-side nan a c C h l = absurd h
 high-side (inf t) a c C h l = absurd h
@@ -48,7 +46,7 @@ high-side (fin false m e) a c C h l =
 abbrev Read : Float → Bool → ℕ → ℕ → Type 0
 Read x s E t = (s ≡ false) × (992 ≤ E) × (E ≤ 1086) × HasValue x false ((2 ^ 52 + t) * 2 ^ (E - 1)) (2 ^ 1074)
 
-normal : (x : Float) (s : Bool) (y t : ℕ) → t < 2 ^ 52 → HasValue x s ((2 ^ 52 + t) * 2 ^ y) (2 ^ 1074) → T (le leastTimed x) → T (lt x tooLong) → Read x s (suc y) t
+normal : (x : Float) (s : Bool) (y t : ℕ) → t < 2 ^ 52 → HasValue x s ((2 ^ 52 + t) * 2 ^ y) (2 ^ 1074) → T (le leastTimed x) → T (lt x twoTo64) → Read x s (suc y) t
 normal x s y t h v l u =
     let a = (2 ^ 52 + t) * 2 ^ y in
     let low = low-side x s a (2 ^ 1074) v l in
@@ -73,24 +71,24 @@ normal x s y t h v l u =
     at-most g =
         ⊎-elim (λ (k : y < 1086). k) (λ (k : 1086 ≤ y). absurd (not-le-of-lt g (le-trans (lit≤ tt) (mul-le-mul digits-ge (pow-mono k))))) (lt-or-ge y 1086)
 
-no-inf : (s : Bool) → T (le leastTimed (inf s)) → T (lt (inf s) tooLong) → ⊥
+no-inf : (s : Bool) → T (le leastTimed (inf s)) → T (lt (inf s) twoTo64) → ⊥
 unfolding le lt
 no-inf true l u = l
 no-inf false l u = u
 
-no-nan : T (lt nan tooLong) → ⊥
+no-nan : T (lt nan twoTo64) → ⊥
 unfolding lt
 no-nan u = u
 
-fields : (x : Float) (s : Bool) (E t : ℕ) → t < 2 ^ 52 → x ≡ ofFields binary64 s E t → T (le leastTimed x) → T (lt x tooLong) → Read x s E t
+fields : (x : Float) (s : Bool) (E t : ℕ) → t < 2 ^ 52 → x ≡ ofFields binary64 s E t → T (le leastTimed x) → T (lt x twoTo64) → Read x s E t
 unfolding ofFields
 fields x s zero t h is l u =
     absurd (not-le-of-lt (lt-of-le-of-lt (mul-le-mul-right (2 ^ 31) (mul-le-mul-right 1 (le-of-lt h))) (lit< tt)) (low-side x s (t * 1) (2 ^ 1074) (subst (λ (z : Float). HasValue z s (t * 1) (2 ^ 1074)) (sym is) (odd-sign 53 s t 0 1074)) l .1))
 fields x s (suc y) t h is l u = go (eqb (suc y) 2047) (eqb t 0) is
   where
     go : (b z : Bool) → x ≡ cond b (cond z (inf s) nan) (odd 53 s (2 ^ 52 + t) y 1074) → Read x s (suc y) t
-    go true true is = absurd (no-inf s (subst (λ (v : Float). T (le leastTimed v)) is l) (subst (λ (v : Float). T (lt v tooLong)) is u))
-    go true false is = absurd (no-nan (subst (λ (v : Float). T (lt v tooLong)) is u))
+    go true true is = absurd (no-inf s (subst (λ (v : Float). T (le leastTimed v)) is l) (subst (λ (v : Float). T (lt v twoTo64)) is u))
+    go true false is = absurd (no-nan (subst (λ (v : Float). T (lt v twoTo64)) is u))
     go false z is = normal x s y t h (subst (λ (v : Float). HasValue v s ((2 ^ 52 + t) * 2 ^ y) (2 ^ 1074)) (sym is) (odd-sign 53 s (2 ^ 52 + t) y 1074)) l u
 
 -- ---- from one fraction to another of the same size
@@ -103,7 +101,7 @@ rescale (fin t m e) s a c b d C h v = (
       (mul-right-comm (m * up e) d c ∙ ap (λ (n : ℕ). n * d) (v .1) ∙ mul-right-comm a (down e) d ∙ ap (λ (n : ℕ). n * down e) (sym h) ∙ mul-right-comm b c (down e)),
 )
 
-module _ (x : Float) (held : T (fits binary64 x)) (l : T (le leastTimed x)) (u : T (lt x tooLong)) where
+module _ (x : Float) (held : T (fits binary64 x)) (l : T (le leastTimed x)) (u : T (lt x twoTo64)) where
   b : ℕ
   b = toBits binary64 x
 

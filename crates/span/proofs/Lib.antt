@@ -1,3 +1,4 @@
 pub mod Round
 pub mod Fields
 pub mod Spans
+pub mod Unique

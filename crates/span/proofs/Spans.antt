@@ -2,13 +2,12 @@
 --
 use mathlib.Core.Path.{_≡_, refl, sym, ap, ap₂, _∙_, subst}
 use mathlib.Core.Logic.{⊎-elim}
-use mathlib.Core.Bool.{Bool, true, false, not, cond, _&&_, true≢false}
-use Prim.Native.Nat.{ℕ, zero, suc, _+_, _-_, _*_, _/_, _%_, _^_, _≤_, _<_}
-use native.Mathlib.Nat.{le-refl, le-of-lt, le-trans, le-of-eq, lt-of-lt-of-le, lt-of-le-of-lt, zero-lt-suc, mul-comm, mul-assoc, mul-right-comm, mul-one, one-mul, zero-mul, zero-add, mul-le-mul-right, mul-le-mul-left, div-add-mod', div-mul-le-self, mod-lt, add-mul}
+use mathlib.Core.Bool.{Bool, true, false, cond, _&&_, true≢false}
+use Prim.Native.Nat.{ℕ, _+_, _-_, _*_, _/_, _%_, _^_, _≤_, _<_}
+use native.Mathlib.Nat.{le-of-lt, le-trans, le-of-eq, zero-lt-suc, mul-comm, mul-right-comm, mul-one, one-mul, zero-mul, zero-add, mul-le-mul-right, mul-le-mul-left, div-add-mod', div-mul-le-self, mod-lt, add-mul}
 use native.Mathlib.Omega.{arith}
-use lib.Dec.{T, ltb, eqb, ltb→lt, eqb→eq}
-use lib.IntN.{ℤ, pos}
-use lib.Pow.{pow-pos}
+use lib.Dec.{T, eqb, eqb→eq}
+use lib.IntN.{pos}
 use lib.Ieee.{Float, nan, inf, fin, up, down, lt, le}
 use lib.Ieee.Fits.{down-pos, and-l}
 use lib.Ieee.Exact.{HasValue}
@@ -17,7 +16,7 @@ use lib.Ieee.Order.{le-of-values}
 use lib.Ieee.Positive.{num, den, den-pos, above, above-of-le, value→cross}
 use Rattle.span.specs.declared.Timed.{Timed}
 use Rattle.span.specs.declared.Timed.the-variants.{Lasts, Refused}
-use Rattle.span.specs.Spans.{leastTimed, tooLong, nanosOf, durationAt, fromSecs}
+use Rattle.span.specs.Spans.{leastTimed, twoTo64, nanosOf, durationAt, fromSecs}
 use Rattle.span.proofs.Round.{lt-or-ge, rounds-down, closest-add, closest-le}
 
 abbrev nought : Float
@@ -27,13 +26,13 @@ abbrev pick : Bool → Bool → Timed → Timed
 pick a b t = cond (a && b) t Refused
 
 -- ---- the tests
-pub too-long : (x : Float) → lt x tooLong ≡ false → Refused ≡ fromSecs x
+pub too-long : (x : Float) → lt x twoTo64 ≡ false → Refused ≡ fromSecs x
 too-long x h = ap (λ (a : Bool). pick a (le nought x) (Lasts (durationAt (nanosOf x)))) (sym h)
 
-pub negative : (x : Float) → lt x tooLong ≡ true → le nought x ≡ false → Refused ≡ fromSecs x
+pub negative : (x : Float) → lt x twoTo64 ≡ true → le nought x ≡ false → Refused ≡ fromSecs x
 negative x h k = ap₂ (λ (a b : Bool). pick a b (Lasts (durationAt (nanosOf x)))) (sym h) (sym k)
 
-pub accepted : (x : Float) → lt x tooLong ≡ true → le nought x ≡ true → Lasts (durationAt (nanosOf x)) ≡ fromSecs x
+pub accepted : (x : Float) → lt x twoTo64 ≡ true → le nought x ≡ true → Lasts (durationAt (nanosOf x)) ≡ fromSecs x
 accepted x h k = ap₂ (λ (a b : Bool). pick a b (Lasts (durationAt (nanosOf x)))) (sym h) (sym k)
 
 is-true : (b : Bool) → T b → b ≡ true
@@ -58,7 +57,7 @@ above-nought x h = is-true (le nought x) (go x (above-of-le leastTimed x tt h))
 no-nanos : (a b : ℕ) → a * 2147483648 < b → closest (a * 1000000000) b ≡ 0
 no-nanos a b h = rounds-down (a * 1000000000) b 0 (a * 1000000000) (sym (ap (λ (n : ℕ). n + a * 1000000000) (zero-mul b) ∙ zero-add (a * 1000000000))) (omega arith) (omega arith)
 
-pub tiny : (x : Float) → lt x tooLong ≡ true → le leastTimed x ≡ false → le nought x ≡ true → nanosOf x ≡ 0
+pub tiny : (x : Float) → lt x twoTo64 ≡ true → le leastTimed x ≡ false → le nought x ≡ true → nanosOf x ≡ 0
 unfolding lt le
 tiny nan h l k = absurd (true≢false (sym h))
 tiny (inf true) h l k = absurd (true≢false (sym k))

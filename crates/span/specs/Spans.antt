@@ -1,8 +1,8 @@
 -- The words of the contracts. Definitions only.
 use Prim.Native.Nat.{ℕ, _*_, _/_, _%_}
-use mathlib.Core.Bool.{Bool, true, false, cond, _&&_}
+use mathlib.Core.Bool.{false, cond, _&&_}
 use lib.IntN.{pos, negsuc}
-use lib.Ieee.{Float, nan, inf, fin, up, down, lt, le}
+use lib.Ieee.{Float, fin, lt, le}
 use lib.Ieee.Nearest.{closest}
 use lib.Ieee.Positive.{num, den}
 use Rattle.span.specs.declared.Duration.{Duration}
@@ -13,8 +13,8 @@ use Rattle.span.specs.declared.Timed.the-variants.{Lasts, Refused}
 abbrev pub leastTimed : Float
 leastTimed = fin false 1 (negsuc 30)
 
-abbrev pub tooLong : Float
-tooLong = fin false 1 (pos 64)
+abbrev pub twoTo64 : Float
+twoTo64 = fin false 1 (pos 64)
 
 -- the nanoseconds nearest to x seconds, a tie to the even number: x is num x / den x
 abbrev pub nanosOf : Float → ℕ
@@ -25,4 +25,4 @@ durationAt n = record { secs = n / 1000000000; nanos = n % 1000000000 }
 
 -- a NaN, what is below zero, and what is 2 ^ 64 or more, an infinity among them, are refused
 abbrev pub fromSecs : Float → Timed
-fromSecs x = cond (lt x tooLong && le (fin false 0 (pos 0)) x) (Lasts (durationAt (nanosOf x))) Refused
+fromSecs x = cond (lt x twoTo64 && le (fin false 0 (pos 0)) x) (Lasts (durationAt (nanosOf x))) Refused

@@ -6,7 +6,7 @@ ghost use lib.Dec.{T};
 ghost use lib.Ieee.{le, lt};
 ghost use lib.Ieee.Exact.{HasValue};
 ghost use lib.Ieee.Nearest.{closest};
-ghost use Rattle.span.specs.Spans.{fromSecs, durationAt, leastTimed, tooLong};
+ghost use Rattle.span.specs.Spans.{fromSecs, durationAt, leastTimed, twoTo64};
 
 // A duration: seconds, and nanoseconds of which a second has less than a billion.
 pub struct Duration {
@@ -86,7 +86,7 @@ fn nanos(f: u64, k: u64) -> u64
 
 // The digits and the exponent of x.
 fn parts_of(x: f64) -> Parts
-    requires { ⌜ T (le leastTimed x) ⌝ ∗ ⌜ T (lt x tooLong) ⌝ }
+    requires { ⌜ T (le leastTimed x) ⌝ ∗ ⌜ T (lt x twoTo64) ⌝ }
     ensures { λ r. ⌜ HasValue x false (r .digits) (2 ^ (r .shift)) ⌝ ∗ ⌜ r .shift ≤ 94 ⌝ ∗ ⌜ r .digits < 2 ^ 64 ⌝ }
 {
     let bits = f64::to_bits(x);

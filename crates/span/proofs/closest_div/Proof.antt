@@ -1,15 +1,13 @@
 -- `span::closest_div` meets its contract.
 use borrow.Author.Needs.{needs}
-use mathlib.Core.Path.{_≡_, _∙_}
-use Prim.Native.Nat.{ℕ, _/_, _%_, _*_, _≤_}
+use mathlib.Core.Path.{_∙_}
+use Prim.Native.Nat.{ℕ, _/_, _*_, _≤_}
 use native.Mathlib.Nat.{mod-lt, le-trans, mul-le-mul-left, div-mul-le-self, le-antisymm}
 use native.Mathlib.Numerals.{add-one}
 use native.Mathlib.Omega.{arith}
 use Rattle.span.proofs.Round.{below-half, above-half, at-half}
 use Rattle.span.proofs.closest_div.Statement.{statement}
 use Rattle.span.proofs.closest_div.Tie as tie
-use Rattle.span.proofs.closest_div.Reads as reads
-use Rattle.span.proofs.closest_div.Lts as lts
 
 div-q : tie.Need-div-q
 div-q c = search needs

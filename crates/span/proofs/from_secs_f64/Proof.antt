@@ -5,18 +5,18 @@ use Prim.Native.Nat.{ℕ, _+_, _*_, _/_, _%_, _^_, _<_, _≤_}
 use native.Mathlib.Nat.{zero-add, lt-of-lt-of-le, mod-lt}
 use lib.Dec.{T, lit<}
 use lib.Pow.{pow-pos, pow-mono}
-use lib.Ieee.{Float, ofBits, le, lt}
+use lib.Ieee.{ofBits, le, lt}
 use lib.Ieee.Exact.{HasValue}
 use lib.Ieee.Nearest.{closest}
 use mathlib.Core.Bool.{false}
 use Rattle.span.specs.declared.Timed.the-variants.{Lasts}
-use Rattle.span.specs.Spans.{durationAt, fromSecs, nanosOf, leastTimed, tooLong}
+use Rattle.span.specs.Spans.{durationAt, fromSecs, nanosOf, leastTimed, twoTo64}
 use Rattle.span.proofs.Spans.{too-long, negative, accepted, above-nought, tiny, by-value, by-parts, at-most-a-second, carry}
 use Rattle.span.proofs.from_secs_f64.Statement.{statement}
 use Rattle.span.proofs.from_secs_f64.Tie as tie
 
 -- ---- where both tests passed
-in-time : (c : tie.Then2) → T (lt (c .before .before .args .x) tooLong)
+in-time : (c : tie.Then2) → T (lt (c .before .before .args .x) twoTo64)
 unfolding ofBits
 in-time c = subst T (sym (c .before .if1 .taken)) tt
 

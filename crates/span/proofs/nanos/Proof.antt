@@ -9,10 +9,6 @@ use lib.Ieee.Nearest.{closest}
 use Rattle.span.proofs.Round.{none-low, some-low, high-of}
 use Rattle.span.proofs.nanos.Statement.{statement}
 use Rattle.span.proofs.nanos.Tie as tie
-use Rattle.span.proofs.nanos.Reads as reads
-use Rattle.span.proofs.nanos.Lts as lts
-use Rattle.span.proofs.closest_div.Reads as closest-div-reads
-use Rattle.span.proofs.pow2.Reads as pow2-reads
 
 divisor : (r k : ℕ) → k ≤ 63 → r ≡ 2 ^ k → (0 < r) × (r ≤ 2 ^ 63)
 divisor r k h e = (subst (λ (n : ℕ). 0 < n) (sym e) (pow-pos k), subst (λ (n : ℕ). n ≤ 2 ^ 63) (sym e) (pow-mono h))

@@ -6,7 +6,7 @@ use lib.Pow.{pow-pos}
 use lib.Dec.{T}
 use lib.Ieee.{Float, nan, inf, fin, binary64, fits, isNan, lt}
 use mathlib.Core.Bool.{not}
-use Rattle.span.specs.Spans.{tooLong}
+use Rattle.span.specs.Spans.{twoTo64}
 use Rattle.span.proofs.Fields.{exponent-le, shift-le, masked-lt, value}
 use Rattle.span.proofs.parts_of.Statement.{statement}
 use Rattle.span.proofs.parts_of.Tie as tie
@@ -15,7 +15,7 @@ use Rattle.span.proofs.parts_of.Tie as tie
 held : (c : tie.Start) → T (fits binary64 (c .args .x))
 held c = subst T (sym (c .good .0 .1)) tt
 
-no-nan : (x : Float) → T (lt x tooLong) → T (not (isNan x))
+no-nan : (x : Float) → T (lt x twoTo64) → T (not (isNan x))
 unfolding lt isNan
 no-nan nan h = h
 no-nan (inf s) h = tt

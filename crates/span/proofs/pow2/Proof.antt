@@ -1,7 +1,7 @@
 -- `span::pow2` meets its contract: the shifted bit stays within 64 bits.
 use borrow.Author.Needs.{needs}
-use mathlib.Core.Path.{_∙_, ap, _≡_}
-use Prim.Native.Nat.{ℕ, _^_, _*_, _%_}
+use mathlib.Core.Path.{_∙_, ap}
+use Prim.Native.Nat.{ℕ, _^_, _%_}
 use native.Mathlib.Nat.{one-mul, mod-eq-of-lt}
 use lib.Pow.{pow-lt}
 use Rattle.span.proofs.pow2.Statement.{statement}

@@ -1,0 +1,8 @@
+-- Any two answers that the promise of the public function allows are equal: both equal the definition.
+use mathlib.Core.Path.{sym, _∙_}
+use Rattle.scan.proofs.One.{OneAnswer}
+use Rattle.duration.proofs.parse_duration.Kinds as parse-duration
+use Rattle.duration.proofs.parse_duration.Reads as parse-duration-reads
+
+pub same-parse-duration : OneAnswer parse-duration.ps parse-duration.r parse-duration-reads.Post
+same-parse-duration κs a x y e f p q = p ∙ sym q
