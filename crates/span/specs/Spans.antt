@@ -1,4 +1,4 @@
--- The words of the contracts. Definitions only.
+-- A number of seconds as a duration: document 01, "A decimal text's f64 is seconds, rounded to the nearest nanosecond, ties to even".
 use Prim.Native.Nat.{ℕ, _*_, _/_, _%_}
 use mathlib.Core.Bool.{false, cond, _&&_}
 use lib.IntN.{pos, negsuc}
@@ -16,12 +16,15 @@ leastTimed = fin false 1 (negsuc 30)
 abbrev pub twoTo64 : Float
 twoTo64 = fin false 1 (pos 64)
 
+abbrev pub nanosASecond : ℕ
+nanosASecond = 1000000000
+
 -- the nanoseconds nearest to x seconds, a tie to the even number: x is num x / den x
 abbrev pub nanosOf : Float → ℕ
-nanosOf x = closest (num x * 1000000000) (den x)
+nanosOf x = closest (num x * nanosASecond) (den x)
 
 abbrev pub durationAt : ℕ → Duration
-durationAt n = record { secs = n / 1000000000; nanos = n % 1000000000 }
+durationAt n = record { secs = n / nanosASecond; nanos = n % nanosASecond }
 
 -- a NaN, what is below zero, and what is 2 ^ 64 or more, an infinity among them, are refused
 abbrev pub fromSecs : Float → Timed

@@ -6,7 +6,7 @@ ghost use lib.Dec.{T};
 ghost use lib.Ieee.{le, lt};
 ghost use lib.Ieee.Exact.{HasValue};
 ghost use lib.Ieee.Nearest.{closest};
-ghost use Rattle.span.specs.Spans.{fromSecs, durationAt, leastTimed, twoTo64};
+ghost use Rattle.span.specs.Spans.{nanosASecond, fromSecs, durationAt, leastTimed, twoTo64};
 
 // A duration: seconds, and nanoseconds of which a second has less than a billion.
 pub struct Duration {
@@ -31,17 +31,42 @@ impl Duration {
     pub const YEAR: u64 = 365 * Self::DAY;
 }
 
+// A duration, or none where the seconds are negative, too many or no number.
 pub enum Timed {
     Lasts(Duration),
     Refused,
 }
 
-// x is digits / 2 ^ shift
-pub struct Parts {
-    pub digits: u64,
-    pub shift: u64,
+// A float by its digits: digits / 2 ^ shift.
+struct Parts {
+    digits: u64,
+    shift: u64,
 }
 
+const NANOS_A_SECOND: u64 = 1_000_000_000;
+
+// 2^32.
+const HIGH_UNIT: u64 = 4_294_967_296;
+
+// From this many seconds on there is no duration: 2^64.
+const TWO_TO_64: f64 = 18446744073709551616.0;
+
+// Below this many seconds there is less than half a nanosecond: 2^-31.
+const LEAST_TIMED: f64 = 0.0000000004656612873077392578125;
+
+// The bits of an f64 behind its exponent, the bit that stands before them unwritten, and how many they are.
+const FRACTION: u64 = 0xf_ffff_ffff_ffff;
+
+const LEADING: u64 = 0x10_0000_0000_0000;
+
+const FRACTION_BITS: u64 = 52;
+
+// How far the digits are moved up, and what an exponent is then counted from.
+const MOVED: u64 = 11;
+
+const EXPONENT_FROM: u64 = 1086;
+
+// A power of two.
 fn pow2(k: u64) -> u64
     requires { ⌜ k < 64 ⌝ }
     ensures { λ r. ⌜ r ≡ 2 ^ k ⌝ }
@@ -68,16 +93,16 @@ fn closest_div(a: u64, b: u64) -> u64
 // f / 2 ^ k seconds, less than one, in nanoseconds.
 fn nanos(f: u64, k: u64) -> u64
     requires { ⌜ f < 2 ^ k ⌝ ∗ ⌜ k ≤ 94 ⌝ }
-    ensures { λ r. ⌜ r ≡ closest (f * 1000000000) (2 ^ k) ⌝ }
+    ensures { λ r. ⌜ r ≡ closest (f * nanosASecond) (2 ^ k) ⌝ }
 {
     if k <= 32 {
-        return closest_div(f * 1000000000, pow2(k));
+        return closest_div(f * NANOS_A_SECOND, pow2(k));
     }
     // f * 10 ^ 9 is high * 2 ^ 32 + low, and of low only whether it is zero bears on the rounding
-    let p = f % 4294967296 * 1000000000;
-    let high = f / 4294967296 * 1000000000 + p / 4294967296;
+    let p = f % HIGH_UNIT * NANOS_A_SECOND;
+    let high = f / HIGH_UNIT * NANOS_A_SECOND + p / HIGH_UNIT;
     let b = pow2(k - 31);
-    if p % 4294967296 == 0 {
+    if p % HIGH_UNIT == 0 {
         closest_div(high * 2, b)
     } else {
         closest_div(high * 2 + 1, b)
@@ -91,17 +116,17 @@ fn parts_of(x: f64) -> Parts
 {
     let bits = f64::to_bits(x);
     Parts {
-        digits: ((bits & 0xf_ffff_ffff_ffff) + 0x10_0000_0000_0000) << 11,
-        shift: 1086 - (bits >> 52),
+        digits: ((bits & FRACTION) + LEADING) << MOVED,
+        shift: EXPONENT_FROM - (bits >> FRACTION_BITS),
     }
 }
 
-// The test for a time that is not refused is `0 <= x && x < 2 ^ 64`, which a NaN fails.
+// A number of seconds, to the nearest nanosecond, a tie to the even one.
 pub fn from_secs_f64(x: f64) -> Timed
     ensures { λ r. ⌜ r ≡ fromSecs x ⌝ }
 {
-    if x < 18446744073709551616.0 {
-        if x >= 0.0000000004656612873077392578125 {
+    if x < TWO_TO_64 {
+        if x >= LEAST_TIMED {
             let p = parts_of(x);
             let d = p.digits;
             let k = p.shift;
@@ -120,10 +145,10 @@ pub fn from_secs_f64(x: f64) -> Timed
 
 // s seconds and n nanoseconds, of which there may be a whole second.
 fn whole(s: u64, n: u64) -> Duration
-    requires { ⌜ n ≤ 1000000000 ⌝ ∗ ⌜ (n ≡ 1000000000 → s + 1 < 2 ^ 64) ⌝ }
-    ensures { λ r. ⌜ r ≡ durationAt (s * 1000000000 + n) ⌝ }
+    requires { ⌜ n ≤ nanosASecond ⌝ ∗ ⌜ (n ≡ nanosASecond → s + 1 < 2 ^ 64) ⌝ }
+    ensures { λ r. ⌜ r ≡ durationAt (s * nanosASecond + n) ⌝ }
 {
-    if n == 1000000000 {
+    if n == NANOS_A_SECOND {
         Duration {
             secs: s + 1,
             nanos: 0,
