@@ -1,0 +1,16 @@
+use borrow.Author.Needs.{needs}
+use Rattle.display.proofs.is_left_out.Statement.{statement}
+use Rattle.display.proofs.is_left_out.Tie as tie
+use Rattle.display.proofs.is_left_out.Reads as reads
+use Rattle.display.proofs.is_left_out.Lts as lts
+
+-- src/lib.rt:43:1
+returns : tie.Need-returns
+returns c = ?
+
+-- src/lib.rt:43:1
+returns-2 : tie.Need-returns-2
+returns-2 c = search needs
+
+pub is-left-out-spec : {M : Type 1} → statement M
+is-left-out-spec = tie.close (tie.spec returns returns-2)
