@@ -1,14 +1,11 @@
+-- Each way out knows what the tests said.
 use borrow.Author.Needs.{needs}
 use Rattle.display.proofs.is_left_out.Statement.{statement}
 use Rattle.display.proofs.is_left_out.Tie as tie
-use Rattle.display.proofs.is_left_out.Reads as reads
-use Rattle.display.proofs.is_left_out.Lts as lts
 
--- src/lib.rt:43:1
 returns : tie.Need-returns
-returns c = ?
+returns c = rw (c .if1 .taken)
 
--- src/lib.rt:43:1
 returns-2 : tie.Need-returns-2
 returns-2 c = search needs
 

@@ -1,41 +1,40 @@
+-- `0s` stands at the front, or what the units write.
+use mathlib.Core.List.{List}
+use mathlib.Core.Path.{sym, subst, _∙_}
+use native.Mathlib.Omega.{arith}
+use Prim.Native.Nat.{ℕ}
+use denote.Ref.{now}
+use Rattle.scan.specs.Ascii.{ascii}
+use Rattle.display.specs.Steps.{Shows}
+use Rattle.display.proofs.Steps.{shows-text, text-zero}
 use borrow.Author.Needs.{needs}
 use Rattle.display.proofs.put_duration.Statement.{statement}
 use Rattle.display.proofs.put_duration.Tie as tie
-use Rattle.display.proofs.put_duration.Reads as reads
-use Rattle.display.proofs.put_duration.Lts as lts
-use Rattle.display.proofs.is_zero.Reads as is-zero-reads
-use Rattle.display.proofs.put_units.Reads as put-units-reads
-use Rattle.record.proofs.put_text.Reads as put-text-reads
 
--- src/lib.rt:105:8
 is-zero-requires : tie.Need-is-zero-requires
 is-zero-requires c κs = search needs
 
--- src/lib.rt:106:41
 slice-aggregate-put-text : tie.Need-slice-aggregate-put-text
 slice-aggregate-put-text c = search needs
 
--- src/lib.rt:106:9
 put-text-requires : tie.Need-put-text-requires
 put-text-requires c κs = search needs
 
--- src/lib.rt:106:9
 same-length : tie.Need-same-length
 same-length c = search needs
 
--- src/lib.rt:106:9
 returns : tie.Need-returns
-returns c = ?
+returns c =
+    let a = c .before .before .before .before .before .before .before .before .args in
+    let t = c .before .before .put-text in
+    subst (λ (xs : List ℕ). Shows xs (t .result) (t .last .0)) (sym (text-zero (a .duration) (sym (c .before .before .before .before .before .before .is-zero .ensures) ∙ c .before .before .before .before .before .if1 .taken))) (shows-text (now (a .out)) 0 (ascii "0s") (t .ensures) (omega arith))
 
--- src/lib.rt:108:5
 put-units-requires : tie.Need-put-units-requires
-put-units-requires c κs = ?
+put-units-requires c κs = (sym (c .before .before .is-zero .ensures) ∙ c .before .if1 .left, (c .before .before .before .before .pre .0, omega arith))
 
--- src/lib.rt:101:1
 same-length-2 : tie.Need-same-length-2
 same-length-2 c = search needs
 
--- src/lib.rt:101:1
 returns-2 : tie.Need-returns-2
 returns-2 c = search needs
 

@@ -1,46 +1,61 @@
+-- The unit divides the seconds that are left as it divides the milliseconds, and what it writes stands behind the text so far.
+use Prim.Native.Nat.{_+_, _*_, _/_, _%_}
+use mathlib.Core.Path.{_≡_, sym, ap, _∙_}
+use native.Mathlib.Omega.{arith}
+use lib.ListN.{length, take}
+use denote.Ref.{now}
+use Rattle.span.specs.Unit.{second}
+use Rattle.display.specs.Display.{row, counted, partOf, restOf}
+use Rattle.display.specs.Steps.{millisLeft}
+use Rattle.display.proofs.Split.{remains-few, left-out, put-in}
+use Rattle.display.proofs.Steps.{shows-none, shows-part}
 use borrow.Author.Needs.{needs}
 use Rattle.display.proofs.put_unit.Statement.{statement}
 use Rattle.display.proofs.put_unit.Tie as tie
-use Rattle.display.proofs.put_unit.Reads as reads
-use Rattle.display.proofs.put_unit.Lts as lts
-use Rattle.display.proofs.is_left_out.Reads as is-left-out-reads
-use Rattle.display.proofs.put_count.Reads as put-count-reads
 
--- src/lib.rt:69:16
+some : (c : tie.Else1)
+    → let a = c .before .before .before .before .before .before .args in
+    let w = row (a .whole) (record { text = now (a .unit); size = a .size }) in
+    let seconds = a .size / second in
+    (partOf w (millisLeft (a .left)) ≡ counted (a .left .secs / seconds) (now (a .unit))) × (restOf w (millisLeft (a .left)) ≡ a .left .secs % seconds * second + a .left .millis)
+some c =
+    let a = c .before .before .before .before .before .before .args in
+    let p = c .before .before .before .before .before .before .pre in
+    put-in (a .left .secs) (a .left .millis) (a .size) (p .0) (p .1 .0) (p .1 .1 .0) (a .whole) (now (a .unit)) (sym (c .before .is-left-out .ensures) ∙ c .if1 .left)
+
 rem-rest : tie.Need-rem-rest
 rem-rest c = search needs
 
--- src/lib.rt:70:27
 mul-is-left-out : tie.Need-mul-is-left-out
-mul-is-left-out c = ?
+mul-is-left-out c = let a = c .before .before .before .args in let p = c .before .before .before .pre in omega (arith, remains-few (a .left .secs) (a .left .millis) (a .size) (p .0) (p .1 .0) (p .1 .1 .0))
 
--- src/lib.rt:70:27
 add-is-left-out : tie.Need-add-is-left-out
-add-is-left-out c = ?
+add-is-left-out c = let a = c .before .before .before .before .args in let p = c .before .before .before .before .pre in omega (arith, remains-few (a .left .secs) (a .left .millis) (a .size) (p .0) (p .1 .0) (p .1 .1 .0))
 
--- src/lib.rt:70:8
 is-left-out-requires : tie.Need-is-left-out-requires
 is-left-out-requires c κs = search needs
 
--- src/lib.rt:71:9
 returns : tie.Need-returns
-returns c = ?
+returns c =
+    let a = c .before .before .before .before .before .before .args in
+    let p = c .before .before .before .before .before .before .pre in
+    let none = left-out (a .left .secs) (a .left .millis) (a .size) (p .0) (p .1 .0) (p .1 .1 .0) (a .whole) (now (a .unit)) (sym (c .before .is-left-out .ensures) ∙ c .if1 .taken) in
+    (shows-part (take (a .left .at) (now (a .out))) (sym (none .0)) (shows-none (now (a .out)) (a .left .at) (omega arith)), (sym (none .1), p .0))
 
--- src/lib.rt:73:24
 div-put-count : tie.Need-div-put-count
 div-put-count c = search needs
 
--- src/lib.rt:73:9
 put-count-requires : tie.Need-put-count-requires
-put-count-requires c κs = ?
+put-count-requires c κs = omega (arith, ap length (some (c .before .before) .0))
 
--- src/lib.rt:62:1
 same-length : tie.Need-same-length
 same-length c = search needs
 
--- src/lib.rt:62:1
 returns-2 : tie.Need-returns-2
-returns-2 c = ?
+returns-2 c =
+    let s = some (c .before .before .before .before .before) in
+    let a = c .before .before .before .before .before .before .before .before .before .before .before .args in
+    (shows-part (take (a .left .at) (now (a .out))) (sym (s .0)) (c .before .before .put-count .ensures), (sym (s .1), c .before .before .before .before .before .before .before .before .before .before .before .pre .0))
 
 pub put-unit-spec : {M : Type 1} → statement M
 put-unit-spec =
