@@ -1,3 +1,5 @@
 pub mod Split
 pub mod Bounds
 pub mod Steps
+pub mod Answers
+pub mod Unique

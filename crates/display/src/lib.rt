@@ -121,5 +121,6 @@ pub fn display_duration(duration: Duration, out: &mut [u8]) -> Displaying
     if out.len() < n {
         return Displaying::Refused(utf8::at_start(utf8::NO_ROOM));
     }
-    Displaying::Written(record::put_text(out, 0, &text[..n]))
+    record::put_text(out, 0, &text[..n]);
+    Displaying::Written(n)
 }
