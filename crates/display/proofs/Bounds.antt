@@ -14,7 +14,7 @@ use Rattle.record.proofs.Decimals.{digits-below}
 use Rattle.span.specs.declared.Duration.{Duration}
 use Rattle.span.specs.Unit.{Unit, unit, milli, second, minute, hour, day, week, year}
 use Rattle.display.specs.Display.{nanosASecond, Row, row, rows, isLeftOut, counted, partOf, restOf, written, isZero, textOf, millisOf}
-use Rattle.display.specs.Steps.{longest}
+use Rattle.display.specs.Laws.{longest, TextFew}
 
 -- of a number with at most i + 1 digits
 counted-few : (i v : ℕ) (text : List ℕ) → v < 10 ^ (i + 1) → length (counted v text) ≤ i + 1 + length text
@@ -51,10 +51,19 @@ below-weeks ms h =
     let M = partOf (row false (unit "m" minute)) b in
     let S = partOf (row false (unit "s" second)) c in
     let F = partOf (row false (unit "ms" milli)) e in
-    omega (arith,
-      length-append D (H ++ (M ++ (S ++ (F ++ [])))), length-append H (M ++ (S ++ (F ++ []))), length-append M (S ++ (F ++ [])), length-append S (F ++ []), length-append F [],
-      part-few 14 (unit "d" day) ms (omega arith), part-few 1 (unit "h" hour) a (omega arith), part-few 1 (unit "m" minute) b (omega arith),
-      part-few 1 (unit "s" second) c (omega arith), part-few 2 (unit "ms" milli) e (omega arith))
+    omega (
+      arith,
+      length-append D (H ++ (M ++ (S ++ (F ++ [])))),
+      length-append H (M ++ (S ++ (F ++ []))),
+      length-append M (S ++ (F ++ [])),
+      length-append S (F ++ []),
+      length-append F [],
+      part-few 14 (unit "d" day) ms (omega arith),
+      part-few 1 (unit "h" hour) a (omega arith),
+      part-few 1 (unit "m" minute) b (omega arith),
+      part-few 1 (unit "s" second) c (omega arith),
+      part-few 2 (unit "ms" milli) e (omega arith),
+    )
 
 none-below-weeks : written (drop 2 rows) 0 ≡ []
 unfolding partOf restOf counted
@@ -69,6 +78,6 @@ written-few ms h =
     whole-few 11 (unit "y" year) (drop 1 rows) ms (omega arith) (omega arith) none-below-years
     (whole-few 13 (unit "w" week) (drop 2 rows) ms (omega arith) (omega arith) none-below-weeks (below-weeks ms h))
 
-pub text-few : (d : Duration) → d .secs < 2 ^ 64 → d .nanos < nanosASecond → length (textOf d) ≤ longest
+pub text-few : TextFew
 unfolding textOf
 text-few d h g = either (λ (xs : List ℕ). length xs ≤ longest) (isZero d) (λ e. omega arith) (λ e. written-few (millisOf d) (omega arith))

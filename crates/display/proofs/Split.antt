@@ -8,6 +8,7 @@ use mathlib.Core.Path.{_≡_, ap, sym, _∙_}
 use Rattle.scan.specs.Ascii.{ascii}
 use Rattle.span.specs.Unit.{unit, milli, second}
 use Rattle.display.specs.Display.{Row, row, isLeftOut, counted, partOf, restOf}
+use Rattle.display.specs.Steps.{rowBy}
 
 module _ (secs millis size : ℕ) (few : millis < second) (large : second ≤ size) (exact : size % second ≡ 0) where
   size-is : size ≡ second * (size / second)
@@ -40,7 +41,7 @@ module _ (secs millis size : ℕ) (few : millis < second) (large : second ≤ si
     ms = secs * second + millis
 
     abbrev w : Row
-    w = row whole (record { text = text; size = size })
+    w = rowBy whole size text
 
     pub left-out : isLeftOut whole (secs % (size / second) * second + millis) ≡ true → (partOf w ms ≡ []) × (restOf w ms ≡ ms)
     unfolding partOf restOf

@@ -1,2 +1,3 @@
 pub mod Display
 pub mod Steps
+pub mod Laws

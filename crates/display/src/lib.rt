@@ -7,8 +7,9 @@ ghost use mathlib.Core.Path.{_≡_};
 ghost use Prim.Native.Nat.{_+_, _%_, _≤_, _<_};
 ghost use lib.ListN.{length, take};
 ghost use Rattle.span.specs.Unit.{second};
-ghost use Rattle.display.specs.Display.{nanosASecond, row, isLeftOut, counted, partOf, restOf, isZero, textOf, displayingOf, leftBy};
-ghost use Rattle.display.specs.Steps.{Shows, millisLeft, longest};
+ghost use Rattle.display.specs.Display.{nanosASecond, isLeftOut, counted, partOf, restOf, isZero, textOf, displayingOf, leftBy};
+ghost use Rattle.display.specs.Steps.{Shows, rowBy, millisLeft};
+ghost use Rattle.display.specs.Laws.{longest};
 
 // How many bytes of a duration's text were written, or why none were.
 pub enum Displaying {
@@ -61,9 +62,9 @@ fn put_count(count: u64, unit: &[u8], out: &mut [u8], at: usize) -> usize
 // Writes what a unit of whole seconds writes of what is left.
 fn put_unit(left: Left, size: u64, whole: bool, unit: &[u8], out: &mut [u8]) -> Left
     requires { ⌜ left .millis < second ⌝ ∗ ⌜ second ≤ size ⌝ ∗ ⌜ size % second ≡ 0 ⌝ }
-    requires { ⌜ left .at + length (partOf (row whole (record { text = now unit; size = size })) (millisLeft left)) ≤ length (now out) ⌝ }
-    ensures { λ r. ⌜ Shows (take (left .at) (now (out .entry)) ++ partOf (row whole (record { text = now (unit .entry); size = size })) (millisLeft left)) (r .at) (now (out .exit)) ⌝ }
-    ensures { λ r. ⌜ millisLeft r ≡ restOf (row whole (record { text = now (unit .entry); size = size })) (millisLeft left) ⌝ ∗ ⌜ r .millis < second ⌝ }
+    requires { ⌜ left .at + length (partOf (rowBy whole size (now unit)) (millisLeft left)) ≤ length (now out) ⌝ }
+    ensures { λ r. ⌜ Shows (take (left .at) (now (out .entry)) ++ partOf (rowBy whole size (now (unit .entry))) (millisLeft left)) (r .at) (now (out .exit)) ⌝ }
+    ensures { λ r. ⌜ millisLeft r ≡ restOf (rowBy whole size (now (unit .entry))) (millisLeft left) ⌝ ∗ ⌜ r .millis < second ⌝ }
 {
     let seconds = size / Duration::SECOND;
     let rest = left.secs % seconds;

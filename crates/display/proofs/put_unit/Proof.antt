@@ -5,8 +5,8 @@ use native.Mathlib.Omega.{arith}
 use lib.ListN.{length, take}
 use denote.Ref.{now}
 use Rattle.span.specs.Unit.{second}
-use Rattle.display.specs.Display.{row, counted, partOf, restOf}
-use Rattle.display.specs.Steps.{millisLeft}
+use Rattle.display.specs.Display.{counted, partOf, restOf}
+use Rattle.display.specs.Steps.{rowBy, millisLeft}
 use Rattle.display.proofs.Split.{remains-few, left-out, put-in}
 use Rattle.display.proofs.Steps.{shows-none, shows-part}
 use borrow.Author.Needs.{needs}
@@ -15,7 +15,7 @@ use Rattle.display.proofs.put_unit.Tie as tie
 
 some : (c : tie.Else1)
     → let a = c .before .before .before .before .before .before .args in
-    let w = row (a .whole) (record { text = now (a .unit); size = a .size }) in
+    let w = rowBy (a .whole) (a .size) (now (a .unit)) in
     let seconds = a .size / second in
     (partOf w (millisLeft (a .left)) ≡ counted (a .left .secs / seconds) (now (a .unit))) × (restOf w (millisLeft (a .left)) ≡ a .left .secs % seconds * second + a .left .millis)
 some c =
