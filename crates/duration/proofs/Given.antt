@@ -30,11 +30,11 @@ use Rattle.decimal.specs.Laws.{nearestOf, Infinite, Nan, Numeral, Spelled, InEx
 use Rattle.decimal.proofs.Given.{decimal-given, decided-exact}
 use Rattle.span.specs.declared.Duration.{Duration}
 use Rattle.span.specs.Unit.{second, nanosAMilli}
-use Rattle.span.specs.Spans.{twoTo64, nanosOf, durationAt}
+use Rattle.span.specs.Spans.{isZero, twoTo64, nanosOf, durationAt}
 use Rattle.units.specs.Units.{isUnitText, unitSum, lasting, unitsOf}
 use Rattle.duration.specs.declared.Timing.{Timing}
 use Rattle.duration.specs.declared.Timing.the-variants.{Lasts, Refused}
-use Rattle.duration.specs.Duration.{emptyText, zeroDuration, notDuration, outsideExact, outOfRange, secondsRead, isZero, unitsRead, decimalRead, durationRead, timingOf}
+use Rattle.duration.specs.Duration.{emptyText, zeroDuration, notDuration, outsideExact, outOfRange, secondsRead, unitsRead, decimalRead, durationRead, timingOf}
 use Rattle.duration.specs.Refusals.{Empty, ZeroText, Read, secondsOf, InTime, Nothing, ZeroDuration, NotDuration, OutsideExact, OutOfRange, SecondsAre, UnitsAre, TimingGiven}
 
 -- the seconds of a decimal

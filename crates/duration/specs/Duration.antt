@@ -1,6 +1,6 @@
 -- What a duration's text is read as: document 01, "Durations are seconds and nanoseconds", in the order of its refusals.
 use Prim.Native.Nat.{ℕ}
-use mathlib.Core.Bool.{Bool, cond, _&&_}
+use mathlib.Core.Bool.{cond}
 use mathlib.Core.List.{List}
 use lib.Dec.{eqb}
 use lib.ListN.{length}
@@ -14,10 +14,9 @@ use Rattle.decimal.specs.declared.Number.{Number}
 use Rattle.decimal.specs.declared.Decimal.{Decimal}
 use Rattle.decimal.specs.declared.Decimal.the-variants.{NotDecimal, Named, Exact, Outside}
 use Rattle.decimal.specs.Value.{longest, decimalOf}
-use Rattle.span.specs.declared.Duration.{Duration}
 use Rattle.span.specs.declared.Timed.{Timed}
 use Rattle.span.specs.declared.Timed.the-variants as timed
-use Rattle.span.specs.Spans.{fromSecs}
+use Rattle.span.specs.Spans.{isZero, fromSecs}
 use Rattle.units.specs.declared.Units.{Units}
 use Rattle.units.specs.declared.Units.the-variants.{Sum, NotUnits}
 use Rattle.units.specs.Units.{unitsOf}
@@ -48,9 +47,6 @@ timingBy timed.Refused = Refused outOfRange
 
 abbrev pub secondsRead : Number → Timing
 secondsRead n = timingBy (fromSecs (n .value))
-
-abbrev pub isZero : Duration → Bool
-isZero d = eqb (d .secs) 0 && eqb (d .nanos) 0
 
 abbrev pub unitsRead : Units → Timing
 unitsRead (Sum d) = cond (isZero d) (Refused zeroDuration) (Lasts d)

@@ -12,7 +12,7 @@ ghost use Rattle.utf8.specs.Answers.{atStart};
 ghost use Rattle.decimal.specs.Value.{decimalOf};
 ghost use Rattle.units.specs.Units.{unitsOf};
 ghost use Rattle.duration.specs.declared.Timing.the-variants.{Refused};
-ghost use Rattle.duration.specs.Duration.{outOfRange, outsideExact, secondsRead, isZero, unitsRead, decimalRead, timingOf};
+ghost use Rattle.duration.specs.Duration.{outOfRange, outsideExact, secondsRead, unitsRead, decimalRead, timingOf};
 
 // Document 01's refusals of a duration: it is empty, is zero, is none, is outside the exact range, or is negative or too long.
 pub const EMPTY: usize = 50;
@@ -49,13 +49,6 @@ fn seconds(n: Number) -> Timing
     Timing::Lasts(d)
 }
 
-// Whether a duration is zero.
-fn is_zero(d: Duration) -> bool
-    ensures { λ r. ⌜ r ≡ isZero d ⌝ }
-{
-    d.secs == 0 && d.nanos == 0
-}
-
 // Parts with units.
 fn unit_text(s: &[u8]) -> Timing
     ensures { λ r. ⌜ r ≡ unitsRead (unitsOf (now (s .entry))) ⌝ }
@@ -64,7 +57,7 @@ fn unit_text(s: &[u8]) -> Timing
     let Units::Sum(d) = u else {
         return refused(NOT_A_DURATION);
     };
-    if is_zero(d) {
+    if span::is_zero(d) {
         return refused(ZERO);
     }
     Timing::Lasts(d)

@@ -67,18 +67,18 @@ room-left (suc i) n h g =
     let s : suc i + 1 ≡ suc (i + 1) = omega arith in
     (omega arith, rw e (omega (arith, rw s at g, pow-suc 10 (i + 1))))
 
-few : (i n : ℕ) → n < 10 ^ (i + 1) → length (decimalText n) ≤ i + 1
-few zero n h = rw (digits-one n (omega arith)) (omega arith)
-few (suc i) n h =
+pub digits-below : (i n : ℕ) → n < 10 ^ (i + 1) → length (decimalText n) ≤ i + 1
+digits-below zero n h = rw (digits-one n (omega arith)) (omega arith)
+digits-below (suc i) n h =
     rw (digits-of n)
     (digits-case (λ ds. length ds ≤ suc i + 1) (ltb n 10) decimalText n (λ e. omega arith)
     (λ e.
     let t = ltb-false n 10 e in
     let r : suc i - 1 + 1 ≡ i + 1 = omega arith in
-    omega (arith, few i (n / 10) (rw r at (room-left (suc i) n t h .1)), length-append (decimalText (n / 10)) (signOf (n % 10) ∷ []))))
+    omega (arith, digits-below i (n / 10) (rw r at (room-left (suc i) n t h .1)), length-append (decimalText (n / 10)) (signOf (n % 10) ∷ []))))
 
 pub digits-few : DigitsFew
-digits-few n h = few (mostDigits - 1) n (omega arith)
+digits-few n h = digits-below (mostDigits - 1) n (omega arith)
 
 -- what is written at a place stands before what followed it
 drop-set : (xs : List ℕ) (i a : ℕ) → i < length xs → drop i (set xs i a) ≡ a ∷ drop (i + 1) xs

@@ -1,10 +1,12 @@
 -- A number of seconds as a duration: document 01, "A decimal text's f64 is seconds, rounded to the nearest nanosecond, ties to even".
 use Prim.Native.Nat.{ℕ, _*_, _/_, _%_}
-use mathlib.Core.Bool.{false, cond, _&&_}
+use mathlib.Core.Bool.{Bool, false, cond, _&&_}
+use lib.Dec.{eqb}
 use lib.IntN.{pos, negsuc}
 use lib.Ieee.{Float, fin, lt, le}
 use lib.Ieee.Nearest.{closest}
 use lib.Ieee.Positive.{num, den}
+use Rattle.span.specs.Unit.{nanosASecond}
 use Rattle.span.specs.declared.Duration.{Duration}
 use Rattle.span.specs.declared.Timed.{Timed}
 use Rattle.span.specs.declared.Timed.the-variants.{Lasts, Refused}
@@ -16,9 +18,6 @@ leastTimed = fin false 1 (negsuc 30)
 abbrev pub twoTo64 : Float
 twoTo64 = fin false 1 (pos 64)
 
-abbrev pub nanosASecond : ℕ
-nanosASecond = 1000000000
-
 -- the nanoseconds nearest to x seconds, a tie to the even number: x is num x / den x
 abbrev pub nanosOf : Float → ℕ
 nanosOf x = closest (num x * nanosASecond) (den x)
@@ -29,3 +28,7 @@ durationAt n = record { secs = n / nanosASecond; nanos = n % nanosASecond }
 -- a NaN, what is below zero, and what is 2 ^ 64 or more, an infinity among them, are refused
 abbrev pub fromSecs : Float → Timed
 fromSecs x = cond (lt x twoTo64 && le (fin false 0 (pos 0)) x) (Lasts (durationAt (nanosOf x))) Refused
+
+-- no time at all
+abbrev pub isZero : Duration → Bool
+isZero d = eqb (d .secs) 0 && eqb (d .nanos) 0

@@ -30,6 +30,9 @@ year = 365 * day
 abbrev pub nanosAMilli : ℕ
 nanosAMilli = 1000000
 
+abbrev pub nanosASecond : ℕ
+nanosASecond = second * nanosAMilli
+
 -- a unit: its text, and its length in milliseconds
 pub record Unit : Type 0 where
   pub text : List ℕ

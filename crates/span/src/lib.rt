@@ -6,7 +6,8 @@ ghost use lib.Dec.{T};
 ghost use lib.Ieee.{le, lt};
 ghost use lib.Ieee.Exact.{HasValue};
 ghost use lib.Ieee.Nearest.{closest};
-ghost use Rattle.span.specs.Spans.{nanosASecond, fromSecs, durationAt, leastTimed, twoTo64};
+ghost use Rattle.span.specs.Spans.{isZero, fromSecs, durationAt, leastTimed, twoTo64};
+ghost use Rattle.span.specs.Unit.{nanosASecond};
 
 // A duration: seconds, and nanoseconds of which a second has less than a billion.
 pub struct Duration {
@@ -29,6 +30,13 @@ impl Duration {
     pub const WEEK: u64 = 7 * Self::DAY;
 
     pub const YEAR: u64 = 365 * Self::DAY;
+}
+
+// Whether a duration is zero.
+pub fn is_zero(duration: Duration) -> bool
+    ensures { λ r. ⌜ r ≡ isZero duration ⌝ }
+{
+    duration.secs == 0 && duration.nanos == 0
 }
 
 // A duration, or none where the seconds are negative, too many or no number.

@@ -1,0 +1,3 @@
+pub mod Display
+pub mod Steps
+pub mod Laws
