@@ -4,3 +4,4 @@ pub mod Steps
 pub mod Answers
 pub mod Given
 pub mod Unique
+pub mod Reach

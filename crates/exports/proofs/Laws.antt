@@ -32,10 +32,18 @@ use Rattle.string.proofs.Bounds as unquoting-bounds
 use Rattle.string.proofs.Bounds.{unquoting-bound}
 use Rattle.utf8.specs.Answers.{placeAt, textLimit, tooLong, notUtf8, admitted, characterAt, encodingOf}
 use Rattle.exports.specs.Number.{notationCode, parseCode}
+use Rattle.duration.specs.declared.Timing.{Timing}
+use Rattle.duration.specs.declared.Timing.the-variants as timing
+use Rattle.duration.specs.Duration.{timingOf}
+use Rattle.display.specs.declared.Displaying.{Displaying}
+use Rattle.display.specs.declared.Displaying.the-variants as displaying
+use Rattle.display.specs.Display.{displayingOf}
+use Rattle.display.proofs.Reach.{Bounded as Shown, displaying-bound}
+use Rattle.exports.specs.Duration.{durationCode, displayingCode}
 use Rattle.exports.specs.Packed.{refusedFrom, packedOf}
 use Rattle.exports.specs.String.{escapeCode, innerFrom, unquoteCode}
 use Rattle.exports.specs.Utf8.{validateCode, characterCode, charAtCode, encodeCode}
-use Rattle.exports.specs.Laws.{NothingLost, looksRefused, isRefused, ValidateTold, isIllFormed, CharAtTold, isUnwritten, EncodeTold, isNotEscaped, EscapeTold, isNoNumber, ParseTold, isInner, UnquoteTold}
+use Rattle.exports.specs.Laws.{NothingLost, looksRefused, isRefused, ValidateTold, isIllFormed, CharAtTold, isUnwritten, EncodeTold, isNotEscaped, EscapeTold, isNoNumber, ParseTold, isNoDuration, DurationTold, isNotDisplayed, DisplayTold, isInner, UnquoteTold}
 use Rattle.utf8.proofs.Bounds.{Bounded, admitted-bound, Within, character-within, AtMostFour, encoding-bound}
 
 pub nothing-lost : NothingLost
@@ -83,6 +91,20 @@ escape-told room xs = go (escapingOf room xs) (escaping-bound room xs)
     go : (e : Escaping) → escaping-bounds.Bounded e → looksRefused (escapeCode e) ≡ isNotEscaped e
     go (escaping.Written n) h = small n h
     go (escaping.Refused r) h = packed r
+
+pub duration-told : DurationTold
+duration-told xs = go (timingOf xs)
+  where
+    go : (t : Timing) → looksRefused (durationCode t) ≡ isNoDuration t
+    go (timing.Lasts d) = refl
+    go (timing.Refused r) = packed r
+
+pub display-told : DisplayTold
+display-told room d h = go (displayingOf room d) (displaying-bound room d)
+  where
+    go : (e : Displaying) → Shown room e → looksRefused (displayingCode e) ≡ isNotDisplayed e
+    go (displaying.Written n) b = below n (omega arith)
+    go (displaying.Refused r) b = packed r
 
 pub parse-told : ParseTold
 parse-told xs = go (parsingOf xs)

@@ -25,6 +25,10 @@ use Rattle.exports.proofs.simmerpath_unquote_string.Kinds as unquote-st
 use Rattle.exports.proofs.simmerpath_unquote_string.Reads as unquote-string-reads
 use Rattle.exports.proofs.simmerpath_parse_str_radix.Kinds as parse-str-radix
 use Rattle.exports.proofs.simmerpath_parse_str_radix.Reads as parse-str-radix-reads
+use Rattle.exports.proofs.simmerpath_parse_duration.Kinds as parse-duration
+use Rattle.exports.proofs.simmerpath_parse_duration.Reads as parse-duration-reads
+use Rattle.exports.proofs.simmerpath_display_duration.Kinds as display-duration
+use Rattle.exports.proofs.simmerpath_display_duration.Reads as display-duration-reads
 
 pub same-simmerpath-utf8-validate : OneAnswer validate.ps validate.r validate-reads.Post
 same-simmerpath-utf8-validate κs a x y e f p q = p ∙ sym q
@@ -76,3 +80,18 @@ same-simmerpath-parse-str-radix κs a x y e f p q = p .0 ∙ sym (q .0)
 
 pub same-simmerpath-parse-str-radix-bits : OneContent parse-str-radix.ps parse-str-radix.r parse-str-radix-reads.Post (λ κs e. now (e .1 .0))
 same-simmerpath-parse-str-radix-bits κs a x y e f p q = p .1 ∙ sym (q .1)
+
+pub same-simmerpath-parse-duration : OneAnswer parse-duration.ps parse-duration.r parse-duration-reads.Post
+same-simmerpath-parse-duration κs a x y e f p q = p .0 ∙ sym (q .0)
+
+pub same-simmerpath-parse-duration-secs : OneContent parse-duration.ps parse-duration.r parse-duration-reads.Post (λ κs e. now (e .1 .0))
+same-simmerpath-parse-duration-secs κs a x y e f p q = p .1 .0 ∙ sym (q .1 .0)
+
+pub same-simmerpath-parse-duration-nanos : OneContent parse-duration.ps parse-duration.r parse-duration-reads.Post (λ κs e. now (e .1 .1 .0))
+same-simmerpath-parse-duration-nanos κs a x y e f p q = p .1 .1 ∙ sym (q .1 .1)
+
+pub same-simmerpath-display-duration : OneAnswer display-duration.ps display-duration.r display-duration-reads.Post
+same-simmerpath-display-duration κs a x y e f p q = p .0 ∙ sym (q .0)
+
+pub same-simmerpath-display-duration-out : OneContent display-duration.ps display-duration.r display-duration-reads.Post (λ κs e. now (e .1 .1 .0))
+same-simmerpath-display-duration-out κs a x y e f p q = p .1 ∙ sym (q .1)

@@ -1,5 +1,5 @@
 -- What a caller in C may rely on to read an answer, as statements; `proofs/Laws` has their proofs.
-use Prim.Native.Nat.{ℕ}
+use Prim.Native.Nat.{ℕ, _<_}
 use mathlib.Core.Bool.{Bool, true, false, _&&_, _||_, not}
 use mathlib.Core.List.{List}
 use mathlib.Core.Path.{_≡_}
@@ -25,6 +25,14 @@ use Rattle.string.specs.Laws.{isRead}
 use Rattle.utf8.specs.declared.Reading.{Reading}
 use Rattle.utf8.specs.Answers.{textLimit, admitted, characterAt, encodingOf}
 use Rattle.exports.specs.Number.{parseCode}
+use Rattle.span.specs.declared.Duration.{Duration}
+use Rattle.duration.specs.declared.Timing.{Timing}
+use Rattle.duration.specs.declared.Timing.the-variants as timing
+use Rattle.duration.specs.Duration.{timingOf}
+use Rattle.display.specs.declared.Displaying.{Displaying}
+use Rattle.display.specs.declared.Displaying.the-variants as displaying
+use Rattle.display.specs.Display.{displayingOf}
+use Rattle.exports.specs.Duration.{durationCode, displayingCode}
 use Rattle.exports.specs.Packed.{refusedFrom, packedOf, Packable}
 use Rattle.exports.specs.String.{escapeCode, innerFrom, unquoteCode}
 use Rattle.exports.specs.Utf8.{validateCode, charAtCode, encodeCode}
@@ -79,6 +87,23 @@ isNoNumber (parsing.Refused r) = true
 
 abbrev pub ParseTold : Type 0
 ParseTold = (xs : List ℕ) → let p = parsingOf xs in looksRefused (parseCode p) ≡ isNoNumber p
+
+-- of `parse_duration` and of `display_duration`, which writes less than bit 63 of bytes,
+abbrev pub isNoDuration : Timing → Bool
+isNoDuration (timing.Lasts d) = false
+isNoDuration (timing.Refused r) = true
+
+abbrev pub DurationTold : Type 0
+DurationTold = (xs : List ℕ) → let t = timingOf xs in looksRefused (durationCode t) ≡ isNoDuration t
+
+abbrev pub isNotDisplayed : Displaying → Bool
+isNotDisplayed (displaying.Written n) = false
+isNotDisplayed (displaying.Refused r) = true
+
+abbrev pub DisplayTold : Type 0
+DisplayTold =
+    (room : ℕ) (d : Duration) → room < refusedFrom →
+    let e = displayingOf room d in looksRefused (displayingCode e) ≡ isNotDisplayed e
 
 -- and of `unquote_string`, where it takes another answer for a text in the literal itself from bit 32 on
 abbrev pub isInner : Unquoting → Bool

@@ -3,4 +3,5 @@ pub mod Utf8
 pub mod Token
 pub mod String
 pub mod Number
+pub mod Duration
 pub mod Laws

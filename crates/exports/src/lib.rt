@@ -1,8 +1,11 @@
 // The C functions over the library: each answers with one number, and writes what else it gives to what is lent.
 // A refusal is packed into the number: bit 63, document 01's number, the byte offset and the character number.
 use decimal::Notation;
+use display::Displaying;
+use duration::Timing;
 use escape::Escaping;
 use number::Parsing;
+use span::Duration;
 use string::Unquoting;
 use token::Display;
 use token::Keyword;
@@ -25,6 +28,9 @@ ghost use Rattle.token.specs.Label.{isLabel};
 ghost use Rattle.utf8.specs.Text.{charNumber};
 ghost use Rattle.utf8.specs.Answers.{textLimit, atStart, admitted, encodingOf, leftBy};
 ghost use Rattle.exports.specs.Number.{notationCode, parseCode, parseLeft};
+ghost use Rattle.duration.specs.Duration.{timingOf};
+ghost use Rattle.display.specs.Display.{textOf, displayingOf, leftBy as writtenBy};
+ghost use Rattle.exports.specs.Duration.{durationCode, secsLeft, nanosLeft, durationOf, displayingCode};
 ghost use Rattle.exports.specs.Packed.{numberLimit, packedOf, Packable};
 ghost use Rattle.exports.specs.String.{escapeCode, readingOf, unquoteCode};
 ghost use Rattle.exports.specs.Token.{keywordCode, displayCode, flag, classesCode};
@@ -254,5 +260,36 @@ pub extern "C" fn simmerpath_parse_str_radix(text: &[u8], bits: &mut u64) -> u64
             notation_code(notation)
         }
         Parsing::Refused(r) => packed(r),
+    }
+}
+
+// 0 for a duration, whose seconds and nanoseconds it writes; or refusal 1, 2 or 50 to 54.
+#[no_mangle]
+pub extern "C" fn simmerpath_parse_duration(text: &[u8], secs: &mut u64, nanos: &mut u32) -> u64
+    ensures { λ r. ⌜ r ≡ durationCode (timingOf (now (text .entry))) ⌝ }
+    ensures { λ _. ⌜ now (secs .exit) ≡ secsLeft (timingOf (now (text .entry))) (now (secs .entry)) ⌝ }
+    ensures { λ _. ⌜ now (nanos .exit) ≡ nanosLeft (timingOf (now (text .entry))) (now (nanos .entry)) ⌝ }
+{
+    let t = duration::parse_duration(text);
+    match t {
+        Timing::Lasts(d) => {
+            *secs = d.secs;
+            *nanos = d.nanos;
+            0
+        }
+        Timing::Refused(r) => packed(r),
+    }
+}
+
+// How many bytes of a duration's text were written at the front of a lent buffer, or refusal 54 or 3.
+#[no_mangle]
+pub extern "C" fn simmerpath_display_duration(secs: u64, nanos: u32, out: &mut [u8]) -> u64
+    ensures { λ r. ⌜ r ≡ displayingCode (displayingOf (length (now (out .entry))) (durationOf secs nanos)) ⌝ }
+    ensures { λ _. ⌜ now (out .exit) ≡ writtenBy (displayingOf (length (now (out .entry))) (durationOf secs nanos)) (textOf (durationOf secs nanos)) (now (out .entry)) ⌝ }
+{
+    let d = display::display_duration(Duration { secs, nanos }, out);
+    match d {
+        Displaying::Written(n) => n as u64,
+        Displaying::Refused(r) => packed(r),
     }
 }

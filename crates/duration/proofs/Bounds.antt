@@ -1,0 +1,61 @@
+-- How far the refusals of a duration reach: they are those of its text's admission, 1 and 2, at places within it, and 50 to 54, at none.
+use Prim.Native.Nat.{ℕ}
+use native.Mathlib.Omega.{arith}
+use mathlib.Core.Bool.{Bool, true, false, cond, _&&_}
+use mathlib.Core.List.{List}
+use lib.Dec.{eqb}
+use lib.IntN.{pos}
+use lib.Ieee.{fin, lt, le}
+use lib.ListN.{length}
+use Rattle.scan.specs.Ascii.{ascii}
+use Rattle.scan.specs.Text.{sameText}
+use Rattle.scan.proofs.Choice.{either}
+use Rattle.utf8.specs.declared.Admission.{Admission}
+use Rattle.utf8.specs.declared.Admission.the-variants as admission
+use Rattle.utf8.specs.Answers.{admitted}
+use Rattle.utf8.proofs.Bounds as within
+use Rattle.decimal.specs.declared.Decimal.{Decimal}
+use Rattle.decimal.specs.declared.Decimal.the-variants.{NotDecimal, Named, Exact, Outside}
+use Rattle.decimal.specs.Value.{longest, decimalOf}
+use Rattle.span.specs.declared.Timed.{Timed}
+use Rattle.span.specs.declared.Timed.the-variants as timed
+use Rattle.span.specs.Spans.{isZero, fromSecs}
+use Rattle.units.specs.declared.Units.{Units}
+use Rattle.units.specs.declared.Units.the-variants.{Sum, NotUnits}
+use Rattle.units.specs.Units.{unitsOf}
+use Rattle.duration.specs.declared.Timing.{Timing}
+use Rattle.duration.specs.declared.Timing.the-variants.{Lasts, Refused}
+use Rattle.duration.specs.Duration.{timingBy, unitsRead, decimalRead, durationRead, timingFor, timingOf}
+
+abbrev pub Bounded : Timing → Type 0
+Bounded (Lasts d) = Unit {0}
+Bounded (Refused r) = within.Placed 54 longest r
+
+timed-bound : (t : Timed) → Bounded (timingBy t)
+timed-bound (timed.Lasts d) = tt
+timed-bound timed.Refused = omega arith
+
+units-bound : (u : Units) → Bounded (unitsRead u)
+units-bound (Sum d) = either Bounded (isZero d) (λ e. omega arith) (λ e. tt)
+units-bound NotUnits = omega arith
+
+decimal-bound : (xs : List ℕ) (d : Decimal) → Bounded (decimalRead xs d)
+decimal-bound xs NotDecimal = units-bound (unitsOf xs)
+decimal-bound xs (Named n) = omega arith
+decimal-bound xs (Exact n) = timed-bound (fromSecs (n .value))
+decimal-bound xs (Outside true) = omega arith
+decimal-bound xs (Outside false) = omega arith
+
+read-bound : (xs : List ℕ) → Bounded (durationRead xs)
+unfolding durationRead
+read-bound xs =
+    either Bounded (eqb (length xs) 0) (λ e. omega arith)
+    (λ e. either Bounded (sameText xs (ascii "0")) (λ e. omega arith) (λ e. decimal-bound xs (decimalOf xs)))
+
+pub timing-bound : (xs : List ℕ) → Bounded (timingOf xs)
+unfolding timingOf
+timing-bound xs = go (admitted longest xs) (within.admitted-bound longest xs)
+  where
+    go : (a : Admission) → within.Bounded longest a → Bounded (timingFor a xs)
+    go (admission.Admitted n) h = read-bound xs
+    go (admission.Refused r) h = omega (arith, h .number, h .byte, h .character)
