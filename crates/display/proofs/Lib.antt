@@ -3,4 +3,6 @@ pub mod Bounds
 pub mod Steps
 pub mod Answers
 pub mod Given
+pub mod Parts
+pub mod Denotes
 pub mod Unique
