@@ -1,14 +1,16 @@
--- What holds of writing a duration, as statements: document 01's rows 54 and 3 for it, each given exactly when, and how long a text is.
--- Their proofs stand in `proofs/Given` and `proofs/Bounds`.
-use Prim.Native.Nat.{ℕ, _^_, _≤_, _<_}
+-- What holds of writing a duration, as statements: document 01's rows 54 and 3 for it, each given exactly when, how long a text is, and
+-- what it denotes. Their proofs stand in `proofs/Given`, `proofs/Bounds` and `proofs/Denotes`.
+use Prim.Native.Nat.{ℕ, _%_, _^_, _≤_, _<_}
+use mathlib.Core.List.{[]}
 use mathlib.Core.Logic.{_↔_}
 use mathlib.Core.Path.{_≡_}
 use lib.ListN.{length}
 use Rattle.utf8.specs.Answers.{atStart, noRoom}
 use Rattle.span.specs.declared.Duration.{Duration}
 use Rattle.display.specs.declared.Displaying.the-variants.{Written, Refused}
-use Rattle.span.specs.Unit.{nanosASecond}
-use Rattle.display.specs.Display.{overRange, textOf, displayingOf}
+use Rattle.span.specs.Unit.{units, nanosAMilli, nanosASecond}
+use Rattle.units.specs.Units.{behind, sumBy, lasting}
+use Rattle.display.specs.Display.{overRange, millisOf, textOf, displayingOf}
 
 -- 54 "nanoseconds over range in writing"
 abbrev pub OverRange : Duration → Type 0
@@ -31,3 +33,11 @@ longest = 30
 
 abbrev pub TextFew : Type 0
 TextFew = (d : Duration) → d .secs < 2 ^ 64 → d .nanos < nanosASecond → length (textOf d) ≤ longest
+
+-- every text that is written is a unit text, and its parts amount to the duration's milliseconds, counting each number for what it is
+abbrev pub Denotes : Type 0
+Denotes = (d : Duration) → (behind units (textOf d) ≡ []) × (sumBy (λ v. v) units (textOf d) ≡ millisOf d)
+
+-- so it denotes the duration again, where that is a whole number of milliseconds
+abbrev pub DenotesAgain : Type 0
+DenotesAgain = (d : Duration) → d .nanos < nanosASecond → d .nanos % nanosAMilli ≡ 0 → lasting (sumBy (λ v. v) units (textOf d)) ≡ d

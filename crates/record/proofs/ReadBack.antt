@@ -94,14 +94,17 @@ some : (xs : List ℕ) (y : ℕ) → eqb (length (xs ++ y ∷ [])) 0 ≡ false
 some [] y = refl
 some (x ∷ xs) y = eqb·suc-zero (length (xs ++ y ∷ []))
 
-digits-some : (n : ℕ) → eqb (length (decimalText n)) 0 ≡ false
+pub digits-some : (n : ℕ) → eqb (length (decimalText n)) 0 ≡ false
 digits-some n =
     rw (digits-of n)
     (digits-case (λ ds. eqb (length ds) 0 ≡ false) (ltb n 10) decimalText n (λ e. refl) (λ e. some (decimalText (n / 10)) (signOf (n % 10))))
 
+pub digits-all : (n : ℕ) → runLength (isIn Digit) (decimalText n) ≡ length (decimalText n)
+unfolding decimalText
+digits-all n = digits-run n n (omega arith)
+
 pub decimal-reads-back : DecimalReadsBack
 unfolding decimalRead isDecimal
 decimal-reads-back n h =
-    let all : runLength (isIn Digit) (decimalText n) ≡ length (decimalText n) = unfold decimalText in digits-run n n (omega arith) in
-    let whole : runEnd (isIn Digit) (decimalText n) 0 ≡ length (decimalText n) = omega arith in
+    let whole : runEnd (isIn Digit) (decimalText n) 0 ≡ length (decimalText n) = omega (arith, digits-all n) in
     simp (digits-some n, eq-eqb _ _ whole, decimal-value n, lt-ltb n (2 ^ 64) h)
