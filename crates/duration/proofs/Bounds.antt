@@ -1,11 +1,9 @@
 -- How far the refusals of a duration reach: they are those of its text's admission, 1 and 2, at places within it, and 50 to 54, at none.
 use Prim.Native.Nat.{ℕ}
 use native.Mathlib.Omega.{arith}
-use mathlib.Core.Bool.{Bool, true, false, cond, _&&_}
+use mathlib.Core.Bool.{true, false}
 use mathlib.Core.List.{List}
 use lib.Dec.{eqb}
-use lib.IntN.{pos}
-use lib.Ieee.{fin, lt, le}
 use lib.ListN.{length}
 use Rattle.scan.specs.Ascii.{ascii}
 use Rattle.scan.specs.Text.{sameText}

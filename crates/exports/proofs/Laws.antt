@@ -103,7 +103,7 @@ pub display-told : DisplayTold
 display-told room d h = go (displayingOf room d) (displaying-bound room d)
   where
     go : (e : Displaying) → Shown room e → looksRefused (displayingCode e) ≡ isNotDisplayed e
-    go (displaying.Written n) b = below n (omega arith)
+    go (displaying.Written n) b = lt-leb refusedFrom n (omega arith)
     go (displaying.Refused r) b = packed r
 
 pub parse-told : ParseTold
