@@ -1,10 +1,16 @@
 -- Every row holds of the functions too: of whatever the promises allow, since what they promise is what the definitions say.
-use Prim.Native.Nat.{ℕ, _≤_}
+use Prim.Native.Nat.{ℕ, _≤_, _<_}
 use mathlib.Core.Bool.{true}
-use mathlib.Core.List.{List}
-use mathlib.Core.Path.{_≡_, refl}
+use native.Mathlib.Omega.{arith}
+use mathlib.Core.List.{List, _++_}
+use mathlib.Core.Path.{_≡_, refl, ap, ap₂, _∙_}
 use lib.Dec.{leb}
-use lib.ListN.{length}
+use lib.ListN.{length, take, drop}
+use lib.Seq.{take-at}
+use contract.Lifetimes.{Lfts}
+use borrow.Fn.Kinds.{Dens, resT, endedOf}
+use denote.Ref.{now}
+use denote.Triple.Clauses.{AtExit}
 use borrow.Author.Tests.{leb-true}
 use Rattle.utf8.specs.declared.Reading.{Reading}
 use Rattle.utf8.specs.Answers.{textLimit}
@@ -12,16 +18,79 @@ use Rattle.utf8.specs.Laws.{isAscii}
 use Rattle.utf8.proofs.Ascii.{ascii-text}
 use Rattle.string.specs.Laws.{isRead}
 use Rattle.string.proofs.Calls.{Read, read-calls}
-use Rattle.cases.specs.Cases.{Case, literal, cases, Shown, Each}
+use Rattle.span.specs.declared.Duration.{Duration}
+use Rattle.span.specs.Unit.{nanosASecond}
+use Rattle.duration.specs.declared.Timing.{Timing}
+use Rattle.duration.specs.Duration.{timingOf}
+use Rattle.duration.proofs.parse_duration.Kinds as parse
+use Rattle.duration.proofs.parse_duration.Reads as parse-reads
+use Rattle.display.specs.declared.Displaying.{Displaying}
+use Rattle.display.specs.declared.Displaying.the-variants.{Written}
+use Rattle.display.specs.Display.{textOf, displayingOf, leftBy}
+use Rattle.display.proofs.Answers.{fits}
+use Rattle.display.proofs.display_duration.Kinds as display
+use Rattle.display.proofs.display_duration.Reads as display-reads
+use Rattle.cases.specs.Cases.{Case, literal, timed, written, cases, Shown, Each}
 use Rattle.cases.proofs.Shown.{all-shown}
+
+-- a call of `parse_duration` on a text, and one of `display_duration` on a duration with a buffer of so many bytes, that keep their promises
+pub record Timed (xs : List ℕ) : Type 0 where
+  pub κs : Lfts 1
+  pub args : Dens κs parse.ps
+  pub result : resT parse.r κs .Denot
+  pub exit : AtExit (endedOf 1 parse.ps parse.r) κs
+  pub post : parse-reads.Post κs args result exit
+  pub of-text : now (args .0) ≡ xs
+
+pub record Displayed (d : Duration) (room : ℕ) : Type 0 where
+  pub κs : Lfts 1
+  pub args : Dens κs display.ps
+  pub result : resT display.r κs .Denot
+  pub exit : AtExit (endedOf 1 display.ps display.r) κs
+  pub post : display-reads.Post κs args result exit
+  pub of-duration : args .0 ≡ d
+  pub in-room : length (now (args .1 .0)) ≡ room
 
 -- calls of `unquote_string` and `part` on the literal are accepted, in any buffer that the text fits, and hand the text back
 abbrev pub Called : Case → Type 0
 Called (literal r xs ys) = (room : ℕ) (zs : List ℕ) (c : Read r xs room zs) → length ys ≤ room → (isRead (c .result) ≡ true) × (zs ≡ ys)
+Called (timed xs t) = (c : Timed xs) → c .result ≡ t
+Called (written d ys) = (room : ℕ) (c : Displayed d room) → length ys ≤ room → d .nanos < nanosASecond → (c .result ≡ Written (length ys)) × (take (length ys) (now (c .exit .1 .0)) ≡ ys)
 
 literal-called : (r : Reading) (xs ys : List ℕ) → Shown (literal r xs ys) → isAscii xs ≡ true → leb (length xs) textLimit ≡ true → Called (literal r xs ys)
 literal-called r xs ys s a l room zs c h =
     read-calls c ys s (ascii-text xs a .0) (leb-true (length xs) textLimit l) h
 
+timed-called : (xs : List ℕ) (t : Timing) → Shown (timed xs t) → Called (timed xs t)
+timed-called xs t s c = c .post ∙ ap timingOf (c .of-text) ∙ s
+
+written-called : (d : Duration) (ys : List ℕ) → Shown (written d ys) → Called (written d ys)
+written-called d ys s room c h few = (answer, ap (take (length ys)) content ∙ take-at ys (drop (length ys) (now (c .args .1 .0))) (length ys) refl)
+  where
+    answer : c .result ≡ Written (length ys)
+    answer = c .post .0 ∙ ap₂ displayingOf (c .in-room) (c .of-duration) ∙ fits d few room (omega (arith, ap length s)) ∙ ap (λ (zs : List ℕ). Written (length zs)) s
+
+    content : now (c .exit .1 .0) ≡ ys ++ drop (length ys) (now (c .args .1 .0))
+    content = c .post .1 ∙ ap₂ (λ (e : Displaying) (zs : List ℕ). leftBy e zs (now (c .args .1 .0))) answer (ap textOf (c .of-duration) ∙ s)
+
 pub all-called : Each Called cases
-all-called = let s = all-shown in (literal-called _ _ _ (s .0) refl refl, (literal-called _ _ _ (s .1 .0) refl refl, tt))
+all-called =
+    let s = all-shown in (
+      literal-called _ _ _ (s .0) refl refl,
+      (
+        literal-called _ _ _ (s .1 .0) refl refl,
+        (
+          timed-called _ _ (s .1 .1 .0),
+          (
+            timed-called _ _ (s .1 .1 .1 .0),
+            (
+              timed-called _ _ (s .1 .1 .1 .1 .0),
+              (
+                timed-called _ _ (s .1 .1 .1 .1 .1 .0),
+                (written-called _ _ (s .1 .1 .1 .1 .1 .1 .0), (written-called _ _ (s .1 .1 .1 .1 .1 .1 .1 .0), tt)),
+              ),
+            ),
+          ),
+        ),
+      ),
+    )
