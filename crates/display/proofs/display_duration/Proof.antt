@@ -38,10 +38,10 @@ returns-2 c =
     (ap Refused (c .at-start2 .ensures) ∙ sym (no-room (a .duration) (omega arith) (length (now (a .out))) (omega (arith, n))), refl)
 
 array-share-prefix-text : tie.Need-array-share-prefix-text
-array-share-prefix-text c = inside (c .before .before .before)
+array-share-prefix-text c = omega (arith, inside (c .before .before .before))
 
 slice-aggregate-put-text : tie.Need-slice-aggregate-put-text
-slice-aggregate-put-text c = sym (length-take-le _ _ (inside (c .before .before .before .before)))
+slice-aggregate-put-text c = let p = c .before .before .before .before .put-duration in omega (arith, length-take-le (p .result) (p .last .1 .0) (inside (c .before .before .before .before)))
 
 put-text-requires : tie.Need-put-text-requires
 put-text-requires c κs = search needs
