@@ -55,7 +55,7 @@ returns-3 c =
     let t = c .before .before .before .before .before .before .before .put-duration .ensures in
     let room : length (textOf (a .duration)) ≤ length (now (a .out)) = omega (arith, t .size) in (
       ap Written (sym (t .size)) ∙ sym (fits (a .duration) (omega arith) (length (now (a .out))) room),
-      c .before .before .put-text .ensures .1 ∙ rw (t .holds, ← t .size) (put-front (now (a .out)) (textOf (a .duration)) room),
+      c .before .before .put-text .ensures .1 ∙ put-front (now (a .out)) (t .holds) (t .size) room,
     )
 
 pub display-duration-spec : {M : Type 1} → statement M
