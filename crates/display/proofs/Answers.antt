@@ -26,6 +26,6 @@ module _ (d : Duration) (few : d .nanos < nanosASecond) where
   fits room h = rw (lt-leb nanosASecond (d .nanos) few, le-leb (length (textOf d)) room h)
 
 -- a text that fits, put at the front
-pub put-front : (d text : List ℕ) → length text ≤ length d → putAt d 0 text ≡ text ++ drop (length text) d
+pub put-front : (d : List ℕ) {xs text : List ℕ} {n : ℕ} → xs ≡ text → length text ≡ n → length text ≤ length d → putAt d 0 xs ≡ text ++ drop n d
 unfolding putAt
-put-front d text h = rw (zero-add, le-leb (length text) (length d) h)
+put-front d {xs} {text} {n} e s h = rw (e, ← s, zero-add, le-leb (length text) (length d) h)

@@ -23,9 +23,12 @@ counted-few i v text h =
     either (λ (xs : List ℕ). length xs ≤ i + 1 + length text) (eqb v 0) (λ e. omega arith)
     (λ e. omega (arith, length-append (decimalText v) text, digits-below i v h))
 
-part-few : (i : ℕ) (u : Unit) (ms : ℕ) → ms / u .size < 10 ^ (i + 1) → length (partOf (row false u) ms) ≤ i + 1 + length (u .text)
-unfolding partOf
-part-few i u ms h = counted-few i (ms / u .size) (u .text) h
+-- a unit that is written also with a remainder, before rows that write at most n bytes of that
+also-few : (i n : ℕ) (u : Unit) (ws : List Row) (ms : ℕ) → ms / u .size < 10 ^ (i + 1) → length (written ws (ms % u .size)) ≤ n
+    → length (written (row false u ∷ ws) ms) ≤ i + 1 + length (u .text) + n
+unfolding partOf restOf
+also-few i n u ws ms h more =
+    omega (arith, length-append (counted (ms / u .size) (u .text)) (written ws (ms % u .size)), counted-few i (ms / u .size) (u .text) h, more)
 
 -- a unit that is written only where nothing remains, before rows that write nothing of nothing
 whole-few : (i : ℕ) (u : Unit) (ws : List Row) (ms : ℕ) → ms / u .size < 10 ^ (i + 1) → i + 1 + length (u .text) ≤ longest
@@ -40,30 +43,12 @@ whole-few i u ws ms h s none more = go (eqb (ms % u .size) 0) refl
     go false e = more
 
 below-weeks : (ms : ℕ) → ms < 2 ^ 64 * second → length (written (drop 2 rows) ms) ≤ longest
-unfolding restOf
 below-weeks ms h =
-    let a = ms % day in
-    let b = a % hour in
-    let c = b % minute in
-    let e = c % second in
-    let D = partOf (row false (unit "d" day)) ms in
-    let H = partOf (row false (unit "h" hour)) a in
-    let M = partOf (row false (unit "m" minute)) b in
-    let S = partOf (row false (unit "s" second)) c in
-    let F = partOf (row false (unit "ms" milli)) e in
-    omega (
-      arith,
-      length-append D (H ++ (M ++ (S ++ (F ++ [])))),
-      length-append H (M ++ (S ++ (F ++ []))),
-      length-append M (S ++ (F ++ [])),
-      length-append S (F ++ []),
-      length-append F [],
-      part-few 14 (unit "d" day) ms (omega arith),
-      part-few 1 (unit "h" hour) a (omega arith),
-      part-few 1 (unit "m" minute) b (omega arith),
-      part-few 1 (unit "s" second) c (omega arith),
-      part-few 2 (unit "ms" milli) e (omega arith),
-    )
+    also-few 14 14 (unit "d" day) (drop 3 rows) ms (omega arith)
+    (also-few 1 11 (unit "h" hour) (drop 4 rows) _ (omega arith)
+    (also-few 1 8 (unit "m" minute) (drop 5 rows) _ (omega arith)
+    (also-few 1 5 (unit "s" second) (drop 6 rows) _ (omega arith)
+    (also-few 2 0 (unit "ms" milli) [] _ (omega arith) (omega arith)))))
 
 none-below-weeks : written (drop 2 rows) 0 ≡ []
 unfolding partOf restOf counted

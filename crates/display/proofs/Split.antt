@@ -11,44 +11,41 @@ use Rattle.display.specs.Display.{Row, row, isLeftOut, counted, partOf, 
 use Rattle.display.specs.Steps.{rowBy}
 
 module _ (secs millis size : ℕ) (few : millis < second) (large : second ≤ size) (exact : size % second ≡ 0) where
-  size-is : size ≡ second * (size / second)
+  abbrev ms : ℕ
+  ms = secs * second + millis
+
+  abbrev seconds : ℕ
+  seconds = size / second
+
+  size-is : size ≡ second * seconds
   size-is = omega arith
 
-  pub seconds-some : 0 < size / second
-  seconds-some = omega arith
-
-  pub quotient : (secs * second + millis) / size ≡ secs / (size / second)
+  quotient : ms / size ≡ secs / seconds
   quotient =
-      let front : (secs * second + millis) / second ≡ secs = omega arith in
-      ap (λ (n : ℕ). (secs * second + millis) / n) size-is ∙ sym (div-div-eq-div-mul (secs * second + millis) second (size / second)) ∙ ap (λ (n : ℕ). n / (size / second)) front
+      let front : ms / second ≡ secs = omega arith in
+      ap (λ (n : ℕ). ms / n) size-is ∙ sym (div-div-eq-div-mul ms second seconds) ∙ ap (λ (n : ℕ). n / seconds) front
 
-  pub remains : (secs * second + millis) % size ≡ secs % (size / second) * second + millis
+  remains : ms % size ≡ secs % seconds * second + millis
   remains =
-      let q = secs / (size / second) in
-      let taken : q * size ≡ second * (q * (size / second)) = ap (λ (n : ℕ). q * n) size-is ∙ mul-left-comm q second (size / second) in
-      mod-eq-sub-div-mul (secs * second + millis) size
-      ∙ ap (λ (n : ℕ). secs * second + millis - n) (ap (λ (n : ℕ). n * size) quotient ∙ taken)
-      ∙ left (q * (size / second)) (secs % (size / second)) (div-add-mod' secs (size / second))
+      let q = secs / seconds in
+      let taken : q * size ≡ second * (q * seconds) = ap (λ (n : ℕ). q * n) size-is ∙ mul-left-comm q second seconds in
+      mod-eq-sub-div-mul ms size ∙ ap (λ (n : ℕ). ms - n) (ap (λ (n : ℕ). n * size) quotient ∙ taken) ∙ left (q * seconds) (secs % seconds) (div-add-mod' secs seconds)
     where
-      left : (p r : ℕ) → p + r ≡ secs → secs * second + millis - second * p ≡ r * second + millis
+      left : (p r : ℕ) → p + r ≡ secs → ms - second * p ≡ r * second + millis
       left p r h = omega arith
 
-  pub remains-few : secs % (size / second) * second + millis < size
-  remains-few = let h : secs % (size / second) < size / second = mod-lt secs seconds-some in omega arith
+  pub remains-few : secs % seconds * second + millis < size
+  remains-few = let h : secs % seconds < seconds = mod-lt secs (omega arith) in omega arith
 
   module _ (whole : Bool) (text : List ℕ) where
-    abbrev ms : ℕ
-    ms = secs * second + millis
-
     abbrev w : Row
     w = rowBy whole size text
 
-    pub left-out : isLeftOut whole (secs % (size / second) * second + millis) ≡ true → (partOf w ms ≡ []) × (restOf w ms ≡ ms)
+    pub left-out : isLeftOut whole (secs % seconds * second + millis) ≡ true → (partOf w ms ≡ []) × (restOf w ms ≡ ms)
     unfolding partOf restOf
     left-out e = (rw (remains, e), rw (remains, e))
 
-    pub put-in : isLeftOut whole (secs % (size / second) * second + millis) ≡ false
-        → (partOf w ms ≡ counted (secs / (size / second)) text) × (restOf w ms ≡ secs % (size / second) * second + millis)
+    pub put-in : isLeftOut whole (secs % seconds * second + millis) ≡ false → (partOf w ms ≡ counted (secs / seconds) text) × (restOf w ms ≡ secs % seconds * second + millis)
     unfolding partOf restOf
     put-in e = (rw (remains, e, quotient), rw (remains, e))
 

@@ -48,6 +48,7 @@ pub counted-some : (v : ℕ) (text : List ℕ) → (v ≡ 0 → ⊥) → counted
 unfolding counted
 counted-some v text h = rw (ne-eqb v 0 h)
 
+-- what stands before `at` is written of a text, and the rows write the rest; the list stays as long as it was
 pub record Goes (text : List ℕ) (size : ℕ) (ws : List Row) (ms at : ℕ) (d : List ℕ) : Type 0 where
   pub same : length d ≡ size
   pub inside : at ≤ length d

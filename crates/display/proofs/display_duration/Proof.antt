@@ -38,10 +38,10 @@ returns-2 c =
     (ap Refused (c .at-start2 .ensures) ∙ sym (no-room (a .duration) (omega arith) (length (now (a .out))) (omega (arith, n))), refl)
 
 array-share-prefix-text : tie.Need-array-share-prefix-text
-array-share-prefix-text c = inside (c .before .before .before)
+array-share-prefix-text c = omega (arith, inside (c .before .before .before))
 
 slice-aggregate-put-text : tie.Need-slice-aggregate-put-text
-slice-aggregate-put-text c = sym (length-take-le _ _ (inside (c .before .before .before .before)))
+slice-aggregate-put-text c = let p = c .before .before .before .before .put-duration in omega (arith, length-take-le (p .result) (p .last .1 .0) (inside (c .before .before .before .before)))
 
 put-text-requires : tie.Need-put-text-requires
 put-text-requires c κs = search needs
@@ -55,7 +55,7 @@ returns-3 c =
     let t = c .before .before .before .before .before .before .before .put-duration .ensures in
     let room : length (textOf (a .duration)) ≤ length (now (a .out)) = omega (arith, t .size) in (
       ap Written (sym (t .size)) ∙ sym (fits (a .duration) (omega arith) (length (now (a .out))) room),
-      c .before .before .put-text .ensures .1 ∙ rw (t .holds, ← t .size) (put-front (now (a .out)) (textOf (a .duration)) room),
+      c .before .before .put-text .ensures .1 ∙ put-front (now (a .out)) (t .holds) (t .size) room,
     )
 
 pub display-duration-spec : {M : Type 1} → statement M

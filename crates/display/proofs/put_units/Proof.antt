@@ -1,11 +1,14 @@
 -- At each unit the text so far and what the rest of the rows writes are the text; under a second, the milliseconds are all that is left.
+use Prim.Native.Nat.{ℕ}
 use mathlib.Core.Bool.{false}
+use mathlib.Core.List.{List}
 use mathlib.Core.Path.{_≡_, refl, sym, ap, _∙_}
 use native.Mathlib.Omega.{arith}
 use lib.ListN.{length, take, drop}
 use denote.Ref.{now}
 use Rattle.scan.specs.Ascii.{ascii}
 use Rattle.span.specs.Unit.{unit, milli}
+use Rattle.display.specs.declared.Left.{Left}
 use Rattle.display.specs.Display.{row, rows, counted, partOf, millisOf, textOf}
 use Rattle.display.specs.Steps.{millisLeft}
 use Rattle.display.proofs.Bounds.{text-few}
@@ -16,27 +19,30 @@ use Rattle.display.proofs.put_units.Statement.{statement}
 use Rattle.display.proofs.put_units.Tie as tie
 
 -- the text, at the start and behind each unit
+abbrev Behind : tie.Start → ℕ → Left → List ℕ → Type 0
+Behind c n left d = Goes (textOf (c .args .duration)) (length (now (c .args .out))) (drop n rows) (millisLeft left) (left .at) d
+
 start : (c : tie.Start) → Goes (textOf (c .args .duration)) (length (now (c .args .out))) rows (millisOf (c .args .duration)) 0 (now (c .args .out))
 start c =
     let d = c .args .duration in
     record { same = refl; inside = omega arith; room = omega (arith, text-few d (omega arith) (c .pre .1 .0)); holds = text-written d (c .pre .0) }
 
-years : (c : tie.After-put-unit) → Goes (textOf (c .before .before .before .before .before .args .duration)) (length (now (c .before .before .before .before .before .args .out))) (drop 1 rows) (millisLeft (c .put-unit .result)) (c .put-unit .result .at) (c .put-unit .last .1 .1 .1 .1 .0)
+years : (c : tie.After-put-unit) → Behind (c .before .before .before .before .before) 1 (c .put-unit .result) (c .put-unit .last .1 .1 .1 .1 .0)
 years c = goes-on (start (c .before .before .before .before .before)) (c .put-unit .kept .1 .1 .1 .1 .0) (c .put-unit .ensures .0) (c .put-unit .ensures .1 .0)
 
-weeks : (c : tie.After-put-unit2) → Goes (textOf (c .before .before .before .before .before .before .before .before .before .before .args .duration)) (length (now (c .before .before .before .before .before .before .before .before .before .before .args .out))) (drop 2 rows) (millisLeft (c .put-unit2 .result)) (c .put-unit2 .result .at) (c .put-unit2 .last .1 .1 .1 .1 .0)
+weeks : (c : tie.After-put-unit2) → Behind (c .before .before .before .before .before .before .before .before .before .before) 2 (c .put-unit2 .result) (c .put-unit2 .last .1 .1 .1 .1 .0)
 weeks c = goes-on (years (c .before .before .before .before .before)) (c .put-unit2 .kept .1 .1 .1 .1 .0) (c .put-unit2 .ensures .0) (c .put-unit2 .ensures .1 .0)
 
-days : (c : tie.After-put-unit3) → Goes (textOf (c .before .before .before .before .before .before .before .before .before .before .before .before .before .before .before .args .duration)) (length (now (c .before .before .before .before .before .before .before .before .before .before .before .before .before .before .before .args .out))) (drop 3 rows) (millisLeft (c .put-unit3 .result)) (c .put-unit3 .result .at) (c .put-unit3 .last .1 .1 .1 .1 .0)
+days : (c : tie.After-put-unit3) → Behind (c .before .before .before .before .before .before .before .before .before .before .before .before .before .before .before) 3 (c .put-unit3 .result) (c .put-unit3 .last .1 .1 .1 .1 .0)
 days c = goes-on (weeks (c .before .before .before .before .before)) (c .put-unit3 .kept .1 .1 .1 .1 .0) (c .put-unit3 .ensures .0) (c .put-unit3 .ensures .1 .0)
 
-hours : (c : tie.After-put-unit4) → Goes (textOf (c .before .before .before .before .before .before .before .before .before .before .before .before .before .before .before .before .before .before .before .before .args .duration)) (length (now (c .before .before .before .before .before .before .before .before .before .before .before .before .before .before .before .before .before .before .before .before .args .out))) (drop 4 rows) (millisLeft (c .put-unit4 .result)) (c .put-unit4 .result .at) (c .put-unit4 .last .1 .1 .1 .1 .0)
+hours : (c : tie.After-put-unit4) → Behind (c .before .before .before .before .before .before .before .before .before .before .before .before .before .before .before .before .before .before .before .before) 4 (c .put-unit4 .result) (c .put-unit4 .last .1 .1 .1 .1 .0)
 hours c = goes-on (days (c .before .before .before .before .before)) (c .put-unit4 .kept .1 .1 .1 .1 .0) (c .put-unit4 .ensures .0) (c .put-unit4 .ensures .1 .0)
 
-minutes : (c : tie.After-put-unit5) → Goes (textOf (c .before .before .before .before .before .before .before .before .before .before .before .before .before .before .before .before .before .before .before .before .before .before .before .before .before .args .duration)) (length (now (c .before .before .before .before .before .before .before .before .before .before .before .before .before .before .before .before .before .before .before .before .before .before .before .before .before .args .out))) (drop 5 rows) (millisLeft (c .put-unit5 .result)) (c .put-unit5 .result .at) (c .put-unit5 .last .1 .1 .1 .1 .0)
+minutes : (c : tie.After-put-unit5) → Behind (c .before .before .before .before .before .before .before .before .before .before .before .before .before .before .before .before .before .before .before .before .before .before .before .before .before) 5 (c .put-unit5 .result) (c .put-unit5 .last .1 .1 .1 .1 .0)
 minutes c = goes-on (hours (c .before .before .before .before .before)) (c .put-unit5 .kept .1 .1 .1 .1 .0) (c .put-unit5 .ensures .0) (c .put-unit5 .ensures .1 .0)
 
-seconds : (c : tie.After-put-unit6) → Goes (textOf (c .before .before .before .before .before .before .before .before .before .before .before .before .before .before .before .before .before .before .before .before .before .before .before .before .before .before .before .before .before .before .args .duration)) (length (now (c .before .before .before .before .before .before .before .before .before .before .before .before .before .before .before .before .before .before .before .before .before .before .before .before .before .before .before .before .before .before .args .out))) (drop 6 rows) (millisLeft (c .put-unit6 .result)) (c .put-unit6 .result .at) (c .put-unit6 .last .1 .1 .1 .1 .0)
+seconds : (c : tie.After-put-unit6) → Behind (c .before .before .before .before .before .before .before .before .before .before .before .before .before .before .before .before .before .before .before .before .before .before .before .before .before .before .before .before .before .before) 6 (c .put-unit6 .result) (c .put-unit6 .last .1 .1 .1 .1 .0)
 seconds c = goes-on (minutes (c .before .before .before .before .before)) (c .put-unit6 .kept .1 .1 .1 .1 .0) (c .put-unit6 .ensures .0) (c .put-unit6 .ensures .1 .0)
 
 millis : (c : tie.After-put-unit6) → partOf (row false (unit "ms" milli)) (millisLeft (c .put-unit6 .result)) ≡ counted (c .put-unit6 .result .millis) (ascii "ms")
