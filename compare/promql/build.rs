@@ -9,7 +9,10 @@ use std::path::{Path, PathBuf};
 const DOCUMENTS: &str = "../../shared/docs";
 
 /// The folders of the Rust's sources, and the files of each.
-const FOLDERS: [(&str, &[&str]); 2] = [("parser", &["lex", "token"]), ("util", &["number", "string"])];
+const FOLDERS: [(&str, &[&str]); 2] = [
+    ("parser", &["lex", "token"]),
+    ("util", &["duration", "number", "string"]),
+];
 
 /// The names of the kinds, in order from the number of their line on. The numbers are those of document 01, section Kinds;
 /// those of the Rust's crate come from its grammar, which is not among the documents. The names that bound the operators
@@ -50,10 +53,20 @@ fn main() {
             });
             write(&copies.join(format!("{file}.rs")), text);
         }
-        let modules = files.iter().map(|file| format!("pub mod {file};\n"));
+        let modules = files.iter().map(|file| module(file));
         write(&copies.join("mod.rs"), modules.collect::<String>());
     }
     write(&out.join("token_map.rs"), token_map());
+}
+
+/// The module of a file; with what the file needs that Rust 1.63 has not.
+fn module(file: &str) -> String {
+    match file {
+        "duration" => {
+            format!("pub mod {file} {{ use crate::newer::*; include!(\"{file}.rs\"); }}\n")
+        }
+        _ => format!("pub mod {file};\n"),
+    }
 }
 
 /// The module `token_map`.

@@ -23,6 +23,13 @@ extern "C" {
         room: usize,
     ) -> u64;
     fn simmerpath_parse_str_radix(text: *const u8, len: usize, bits: *mut u64) -> u64;
+    fn simmerpath_parse_duration(
+        text: *const u8,
+        len: usize,
+        secs: *mut u64,
+        nanos: *mut u32,
+    ) -> u64;
+    fn simmerpath_display_duration(secs: u64, nanos: u32, out: *mut u8, len: usize) -> u64;
 }
 
 /// How many guards stand on each side of a list.
@@ -218,6 +225,32 @@ pub fn parse_str_radix(text: &mut Lent<u8>, bits: &mut Lent<u64>) -> Outcome<u64
         written: bits.contents()[0],
         untouched: text.is_untouched() && bits.is_guarded(),
     }
+}
+
+/// Zero for the duration of a text, which is written to the first cells of `secs` and `nanos`.
+pub fn parse_duration(
+    text: &mut Lent<u8>,
+    secs: &mut Lent<u64>,
+    nanos: &mut Lent<u32>,
+) -> Outcome<(u64, u32)> {
+    secs.restore();
+    nanos.restore();
+    // Safety: the pointer and the length are those of one list, and the others have a first cell, or a guard in its place.
+    let answer =
+        unsafe { simmerpath_parse_duration(text.start(), text.len(), secs.start(), nanos.start()) };
+    Outcome {
+        answer,
+        written: (secs.contents()[0], nanos.contents()[0]),
+        untouched: text.is_untouched() && secs.is_guarded() && nanos.is_guarded(),
+    }
+}
+
+/// How many bytes the text of a duration has; they are written to the front.
+pub fn display_duration(secs: u64, nanos: u32, out: &mut Lent<u8>) -> Outcome<&[u8]> {
+    out.restore();
+    // Safety: the pointer and the length are those of one list.
+    let answer = unsafe { simmerpath_display_duration(secs, nanos, out.start(), out.len()) };
+    out.written(answer)
 }
 
 /// The text that an answer hands back, of the literal or of the buffer; none where it is refused.

@@ -88,6 +88,24 @@ impl Input for u16 {
     }
 }
 
+impl Input for (u64, u32) {
+    const NAMES: &'static str = "durations";
+
+    fn shown(&self) -> String {
+        format!("{} seconds, {} nanoseconds", self.0, self.1)
+    }
+
+    /// The leading bits of each number, and the number before it.
+    fn smaller(&self) -> Box<dyn Iterator<Item = Self::Owned> + '_> {
+        let &(secs, nanos) = self;
+        let leading = (1..u64::BITS).rev().map(move |bits| secs >> bits);
+        let lower = leading.chain(secs.checked_sub(1));
+        let lower = lower.filter(move |&lower| lower < secs);
+        let sooner = lower.map(move |secs| (secs, nanos));
+        Box::new(sooner.chain(self.1.smaller().map(move |nanos| (secs, nanos))))
+    }
+}
+
 /// The whole of a text of `len` bytes, its halves, their halves, and so on to its bytes.
 fn parts(len: usize) -> impl Iterator<Item = Range<usize>> {
     let sizes = iter::successors(Some(len), |size| Some(size / 2));

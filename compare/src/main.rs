@@ -7,6 +7,8 @@
 mod comparison;
 #[cfg(feature = "go")]
 mod documented;
+#[cfg(feature = "promql")]
+mod duration;
 mod ffi;
 mod input;
 mod literal;
@@ -30,6 +32,8 @@ const OPERATIONS: &[fn(u64, usize) -> u64] = &[
     string::run,
     #[cfg(feature = "promql")]
     number::run,
+    #[cfg(feature = "promql")]
+    duration::run,
     #[cfg(feature = "go")]
     documented::run,
 ];

@@ -2,6 +2,8 @@
 
 use std::fmt::{self, Display, Formatter};
 
+#[cfg(feature = "promql")]
+pub mod duration;
 #[cfg(feature = "go")]
 pub mod go;
 pub mod literal;
@@ -15,7 +17,7 @@ pub mod utf8;
 
 /// A text has at most this many bytes.
 pub const MOST_BYTES: usize = 65_535;
-/// A number text has at most this many bytes.
+/// A number text, or a duration text, has at most this many bytes.
 pub const MOST_NUMBER_BYTES: usize = 256;
 
 /// The number of the refusal of a text that is too long.

@@ -6,6 +6,7 @@ use std::collections::BTreeSet;
 use std::iter;
 use std::ops::Range;
 
+pub mod durations;
 pub mod escapes;
 pub mod literals;
 pub mod numbers;

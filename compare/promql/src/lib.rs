@@ -9,9 +9,23 @@ mod parser {
 }
 
 /// The Rust's `src/util`, of which we use a part.
-#[allow(dead_code)]
+#[allow(dead_code, unexpected_cfgs, unused_imports)]
 mod util {
     include!(concat!(env!("OUT_DIR"), "/util/mod.rs"));
+}
+
+/// What the Rust's files use of its library that Rust 1.63 has not yet. A newer library's own comes before it.
+#[allow(dead_code)]
+mod newer {
+    pub trait IsMultipleOf {
+        fn is_multiple_of(self, of: Self) -> bool;
+    }
+
+    impl IsMultipleOf for u128 {
+        fn is_multiple_of(self, of: Self) -> bool {
+            self % of == 0
+        }
+    }
 }
 
 use parser::lex;
@@ -19,7 +33,8 @@ use parser::token::{self, TokenType};
 use std::cell::Cell;
 use std::panic::{self, UnwindSafe};
 use std::sync::Once;
-use util::{number, string};
+use std::time::Duration;
+use util::{duration, number, string};
 
 /// The kind of a word of the table.
 pub fn keyword(word: &str) -> Option<u16> {
@@ -80,6 +95,16 @@ pub fn unquote(literal: &str) -> Unquoted {
 /// The value of a number text, or what is said of a bad one; none where the Rust panics.
 pub fn number(text: &str) -> Option<Result<f64, String>> {
     quietly(|| number::parse_str_radix(text))
+}
+
+/// The duration of a text, or what is said of a bad one; none where the Rust panics.
+pub fn duration(text: &str) -> Option<Result<Duration, String>> {
+    quietly(|| duration::parse_duration(text))
+}
+
+/// The text of a duration.
+pub fn display_duration(duration: Duration) -> String {
+    duration::display_duration(&duration)
 }
 
 thread_local! {

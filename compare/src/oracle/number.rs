@@ -9,7 +9,7 @@ use super::utf8::admitted_within;
 use super::{Answer, MOST_NUMBER_BYTES};
 
 /// The number of the refusal of a decimal outside the exact range.
-const NOT_EXACT: u8 = 53;
+pub(super) const NOT_EXACT: u8 = 53;
 /// The number of the refusal of what is not a number text.
 const NOT_A_NUMBER: u8 = 60;
 /// The number of the refusal of hex or octal outside a signed 64-bit integer.
@@ -126,7 +126,7 @@ fn negates_least(bare: &str, value: Option<f64>) -> bool {
 }
 
 /// Whether a decimal that the Rust has a value for is infinity or NaN by name, zero, or an exact value.
-fn is_exact(decimal: &str) -> bool {
+pub(super) fn is_exact(decimal: &str) -> bool {
     let named = decimal.contains('n');
     let (mantissa, exponent) = decimal.split_once('e').unwrap_or((decimal, "0"));
     let (whole, part) = mantissa.split_once('.').unwrap_or((mantissa, ""));

@@ -134,13 +134,17 @@ pub fn fixed() -> impl Iterator<Item = Vec<u8>> {
     short()
         .chain(sequences(&BYTES, 6))
         .chain(texts.map(String::into_bytes))
-        .chain(SAMPLES.iter().flat_map(|sample| near(sample.as_bytes())))
+        .chain(
+            SAMPLES
+                .iter()
+                .flat_map(|sample| near(sample.as_bytes(), &PIECES)),
+        )
         .chain(not_utf8())
-        .chain(padded())
+        .chain(padded(&SAMPLES))
 }
 
 /// Decimals in many spellings, exact ones and others.
-fn decimals() -> impl Iterator<Item = String> {
+pub(super) fn decimals() -> impl Iterator<Item = String> {
     let scales = || (-24..=24).chain(FAR);
     let values = DIGITS
         .iter()
@@ -158,7 +162,7 @@ fn decimals() -> impl Iterator<Item = String> {
 }
 
 /// The decimal of some digits times 10^scale, with zeros before and behind them, and a point before so many of the last.
-fn spelled(digits: &str, scale: i64, zeros: [usize; 2], point: Option<usize>) -> String {
+pub(super) fn spelled(digits: &str, scale: i64, zeros: [usize; 2], point: Option<usize>) -> String {
     let [before, behind] = zeros.map(|count| "0".repeat(count));
     let mut text = [&before, digits, &behind].concat();
     let mut exponent = scale - behind.len() as i64;
@@ -205,7 +209,7 @@ fn integer(value: u128) -> [[String; 2]; 4] {
 }
 
 /// The names in every case, with each sign.
-fn names() -> impl Iterator<Item = String> {
+pub(super) fn names() -> impl Iterator<Item = String> {
     NAMES.iter().flat_map(|name| {
         (0..1 << name.len()).flat_map(move |upper| {
             let cased = name.chars().enumerate().map(|(place, c)| {
@@ -233,14 +237,14 @@ fn characters() -> impl Iterator<Item = String> {
 }
 
 /// The text with a byte removed and doubled, and with each piece in its place and before it, at each place.
-fn near(text: &[u8]) -> Vec<Vec<u8>> {
+pub(super) fn near(text: &[u8], pieces: &[&str]) -> Vec<Vec<u8>> {
     let mut texts = vec![text.to_vec()];
     for place in 0..=text.len() {
         let part = place..text.len().min(place + 1);
         let doubled = text[part.clone()].repeat(2);
         texts.push(replaced(text, part.clone(), &[]));
         texts.push(replaced(text, part.clone(), &doubled));
-        for piece in PIECES {
+        for piece in pieces {
             texts.push(replaced(text, part.clone(), piece.as_bytes()));
             texts.push(replaced(text, place..place, piece.as_bytes()));
         }
@@ -296,10 +300,10 @@ fn not_utf8() -> impl Iterator<Item = Vec<u8>> {
     })
 }
 
-/// The samples, filled up to lengths around the limit; whole, and with a byte that is wrong.
-fn padded() -> impl Iterator<Item = Vec<u8>> {
-    (MOST_NUMBER_BYTES - 6..=MOST_NUMBER_BYTES + 2).flat_map(|length| {
-        SAMPLES.iter().flat_map(move |sample| {
+/// Samples, filled up to lengths around the limit; whole, and with a byte that is wrong.
+pub(super) fn padded(samples: &'static [&str]) -> impl Iterator<Item = Vec<u8>> {
+    (MOST_NUMBER_BYTES - 6..=MOST_NUMBER_BYTES + 2).flat_map(move |length| {
+        samples.iter().flat_map(move |sample| {
             let missing = length - sample.len();
             let filled = [
                 " ".repeat(missing) + sample,
@@ -336,7 +340,7 @@ fn round(random: &mut Random) -> Vec<Vec<u8>> {
     ];
     let mut texts = Vec::new();
     for number in numbers {
-        texts.push(spoiled(random, number.as_bytes()));
+        texts.push(spoiled(random, number.as_bytes(), &PIECES));
         texts.push(dressed(random, &number).into_bytes());
         texts.push(number.into_bytes());
     }
@@ -349,7 +353,7 @@ fn round(random: &mut Random) -> Vec<Vec<u8>> {
 }
 
 /// Up to so many decimal digits; one in 16 times up to 120.
-fn digits(random: &mut Random, most: usize) -> String {
+pub(super) fn digits(random: &mut Random, most: usize) -> String {
     let most = if random.below(16) == 0 { 120 } else { most };
     let count = random.below(most + 1);
     let digit = |_| char::from(random.one_of(b"0123456789"));
@@ -357,7 +361,7 @@ fn digits(random: &mut Random, most: usize) -> String {
 }
 
 /// A decimal with digits in any number, with or without a point and an exponent.
-fn any_decimal(random: &mut Random) -> String {
+pub(super) fn any_decimal(random: &mut Random) -> String {
     let sign = random.one_of(&SIGNS[..3]);
     let whole = digits(random, 18);
     let point = random.one_of(&["", "."]);
@@ -371,7 +375,7 @@ fn any_decimal(random: &mut Random) -> String {
 }
 
 /// A decimal with a value in or near the exact range, in any spelling.
-fn any_exact(random: &mut Random) -> String {
+pub(super) fn any_exact(random: &mut Random) -> String {
     let near = (1 << 53) - 8 + random.below(16) as u64;
     let number = random.number() >> (8 + random.below(56));
     let digits = random.one_of(&[near, number, number]).to_string();
@@ -407,12 +411,12 @@ fn dressed(random: &mut Random, text: &str) -> String {
 }
 
 /// The text with up to three bytes changed, removed, or put in.
-fn spoiled(random: &mut Random, text: &[u8]) -> Vec<u8> {
+pub(super) fn spoiled(random: &mut Random, text: &[u8], pieces: &[&str]) -> Vec<u8> {
     let mut spoiled = text.to_vec();
     for _ in 0..1 + random.below(3) {
         let place = random.below(spoiled.len() + 1);
         let end = spoiled.len().min(place + random.below(2));
-        let piece = random.one_of(&PIECES).as_bytes();
+        let piece = random.one_of(pieces).as_bytes();
         let byte = &[random.byte()][..];
         let bytes = random.one_of(&[&[][..], byte, piece, piece]);
         spoiled = replaced(&spoiled, place..end, bytes);
