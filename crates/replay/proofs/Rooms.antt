@@ -27,6 +27,7 @@ op-alike op.Unquote bytes l = ap (unquotingAnswer Crate bytes) (unquote-alike Cr
 op-alike op.UnquoteDoc bytes l = ap (unquotingAnswer Documented bytes) (unquote-alike Documented bytes l)
 op-alike op.Escape bytes l = ap (escapingAnswer bytes) (escape-alike bytes l)
 op-alike op.Number bytes l = refl
+op-alike op.Duration bytes l = refl
 op-alike op.Unknown bytes l = refl
 
 pub room-enough : RoomEnough

@@ -14,6 +14,7 @@ use Rattle.utf8.specs.declared.Admission.the-variants.{Admitted, Refused}
 use Rattle.utf8.specs.declared.Reading.the-variants.{Crate, Documented}
 use Rattle.utf8.specs.Answers.{textLimit, admitted}
 use Rattle.number.specs.Number.{parsingOf}
+use Rattle.duration.specs.Duration.{timingOf}
 use Rattle.record.specs.declared.Decoded.{Decoded}
 use Rattle.record.specs.declared.Decoded.the-variants as decoding
 use Rattle.record.specs.declared.Room.{Room}
@@ -31,6 +32,7 @@ use Rattle.replay.specs.Lines.{badRecord, okLine, refusal}
 use Rattle.replay.specs.Tokens.{keywordAnswer, labelAnswer, displayAnswer}
 use Rattle.replay.specs.Strings.{escapeAnswer, unquoteAnswer}
 use Rattle.replay.specs.Numbers.{numberAnswer}
+use Rattle.replay.specs.Durations.{durationAnswer}
 
 -- `utf8`: the number of characters
 unfoldable pub utf8Answer : Admission → List ℕ
@@ -55,6 +57,7 @@ ops =
     ∷ named "unquotedoc" op.UnquoteDoc
     ∷ named "escape" op.Escape
     ∷ named "number" op.Number
+    ∷ named "duration" op.Duration
     ∷ []
 
 -- the op that a name is for
@@ -75,6 +78,7 @@ opAnswer op.Unquote bytes room = unquoteAnswer Crate room bytes
 opAnswer op.UnquoteDoc bytes room = unquoteAnswer Documented room bytes
 opAnswer op.Escape bytes room = escapeAnswer room bytes
 opAnswer op.Number bytes room = numberAnswer (parsingOf bytes)
+opAnswer op.Duration bytes room = durationAnswer (timingOf bytes)
 opAnswer op.Unknown bytes room = badRecord
 
 -- no answer needs more room than `mostRoom`

@@ -4,4 +4,5 @@ pub mod Rooms
 pub mod Tokens
 pub mod Strings
 pub mod Numbers
+pub mod Durations
 pub mod Answer

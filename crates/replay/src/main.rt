@@ -1,5 +1,6 @@
 // Answers recorded inputs: reads records from standard input, a line each, and writes a line each.
 // The lines are read in `lines`, and answered in `ops`; the other modules have what an op asks and what it says.
+mod durations;
 mod lines;
 mod numbers;
 mod ops;

@@ -1,5 +1,6 @@
 // The answer to a line, which is written to a lent list: what a record asks, by its op, or `bad record`.
 // An op is a function, a variant of `Op`, and a line of `op_of` and of `dispatch`, as of `ops` and of `opAnswer` in specs/Answer.
+use crate::durations;
 use crate::numbers;
 use crate::says;
 use crate::strings;
@@ -30,6 +31,7 @@ enum Op {
     UnquoteDoc,
     Escape,
     Number,
+    Duration,
     Unknown,
 }
 
@@ -81,6 +83,7 @@ fn op_of(name: &[u8]) -> Op
     ensures { λ r. ⌜ r ≡ opOf (now (name .entry)) ⌝ }
 {
     let mut op = Op::Unknown;
+    op = if_named(name, b"duration", Op::Duration, op);
     op = if_named(name, b"number", Op::Number, op);
     op = if_named(name, b"escape", Op::Escape, op);
     op = if_named(name, b"unquotedoc", Op::UnquoteDoc, op);
@@ -107,6 +110,7 @@ fn dispatch(name: &[u8], bytes: &[u8], text: &mut [u8], out: &mut [u8]) -> usize
         Op::UnquoteDoc => strings::unquote(bytes, Reading::Documented, text, out),
         Op::Escape => strings::escape(bytes, text, out),
         Op::Number => numbers::number(bytes, out),
+        Op::Duration => durations::duration(bytes, out),
         Op::Unknown => says::bad_record(out),
     }
 }

@@ -36,7 +36,7 @@ pub fn bad_record(out: &mut [u8]) -> usize
 }
 
 // Writes a number and what follows it.
-fn put_number(out: &mut [u8], at: usize, n: usize, after: &[u8]) -> usize
+pub fn put_number(out: &mut [u8], at: usize, n: usize, after: &[u8]) -> usize
     requires { ⌜ at + mostDigits + length (now after) ≤ length (now out) ⌝ }
     ensures { λ r. ⌜ Says (take at (now (out .entry)) ++ numbered n (now (after .entry))) r (now (out .exit)) ⌝ }
     ensures { λ r. ⌜ r ≤ at + mostDigits + length (now (after .entry)) ⌝ }

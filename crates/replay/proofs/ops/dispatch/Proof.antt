@@ -57,6 +57,12 @@ number-requires c κs = search needs
 enum-told-9 : tie.Need-enum-told-9
 enum-told-9 c = search needs
 
+duration-requires : tie.Need-duration-requires
+duration-requires c κs = search needs
+
+enum-told-10 : tie.Need-enum-told-10
+enum-told-10 c = search needs
+
 bad-record-requires : tie.Need-bad-record-requires
 bad-record-requires c κs = search needs
 
@@ -124,7 +130,13 @@ same-length-13 : tie.Need-same-length-13
 same-length-13 c = search needs
 
 returns-9 : tie.Need-returns-9
-returns-9 c = rw (← c .before .before .before .before .before .before .op-of .ensures, c .before .before .before .before .enum-told9 .given .1) (c .before .before .bad-record .ensures)
+returns-9 c = rw (← c .before .before .before .before .before .before .op-of .ensures, c .before .before .before .before .enum-told9 .given .1) (c .before .before .duration .ensures)
+
+same-length-14 : tie.Need-same-length-14
+same-length-14 c = search needs
+
+returns-10 : tie.Need-returns-10
+returns-10 c = rw (← c .before .before .before .before .before .before .op-of .ensures, c .before .before .before .before .enum-told10 .given .1) (c .before .before .bad-record .ensures)
 
 pub dispatch-spec : {M : Type 1} → statement M
 dispatch-spec =
@@ -148,6 +160,8 @@ dispatch-spec =
     enum-told-8
     number-requires
     enum-told-9
+    duration-requires
+    enum-told-10
     bad-record-requires
     same-length
     returns
@@ -170,4 +184,6 @@ dispatch-spec =
     same-length-12
     returns-8
     same-length-13
-    returns-9)
+    returns-9
+    same-length-14
+    returns-10)

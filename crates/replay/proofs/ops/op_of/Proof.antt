@@ -51,16 +51,23 @@ slice-aggregate-if-named-8 c = search needs
 if-named-requires-8 : tie.Need-if-named-requires-8
 if-named-requires-8 c κs = search needs
 
+slice-aggregate-if-named-9 : tie.Need-slice-aggregate-if-named-9
+slice-aggregate-if-named-9 c = search needs
+
+if-named-requires-9 : tie.Need-if-named-requires-9
+if-named-requires-9 c κs = search needs
+
 returns : tie.Need-returns
 returns c =
-    let c7 = c .before .before in
+    let c8 = c .before .before in
+    let c7 = c8 .before .before in
     let c6 = c7 .before .before in
     let c5 = c6 .before .before in
     let c4 = c5 .before .before in
     let c3 = c4 .before .before in
     let c2 = c3 .before .before in
     let c1 = c2 .before .before in
-    rw (c .if-named8 .ensures, c7 .if-named7 .ensures, c6 .if-named6 .ensures, c5 .if-named5 .ensures, c4 .if-named4 .ensures, c3 .if-named3 .ensures, c2 .if-named2 .ensures, c1 .if-named .ensures)
+    rw (c .if-named9 .ensures, c8 .if-named8 .ensures, c7 .if-named7 .ensures, c6 .if-named6 .ensures, c5 .if-named5 .ensures, c4 .if-named4 .ensures, c3 .if-named3 .ensures, c2 .if-named2 .ensures, c1 .if-named .ensures)
 
 pub op-of-spec : {M : Type 1} → statement M
 op-of-spec =
@@ -82,4 +89,6 @@ op-of-spec =
     if-named-requires-7
     slice-aggregate-if-named-8
     if-named-requires-8
+    slice-aggregate-if-named-9
+    if-named-requires-9
     returns)
