@@ -1,6 +1,7 @@
 //! Writes the replay program's recorded inputs, `record inputs`, and the answers of the Rust and of Go, `record answers`.
 //! A record is `OP HEX` or `OP HEX ROOM`. Both lists are the same in every run.
 
+mod duration;
 mod number;
 mod string;
 mod token;
@@ -22,6 +23,8 @@ fn answer(line: &str) -> String {
         "unquote" => Some(string::unquote(&input, room)),
         "unquotedoc" => Some(string::unquotedoc(&input, room)),
         "number" => Some(number::number(&input)),
+        "duration" => Some(duration::duration(&input)),
+        "durwrite" => duration::durwrite(&input, room),
         _ => None,
     });
     answer.unwrap_or_else(|| "bad record".to_string())
@@ -60,6 +63,7 @@ fn main() -> ExitCode {
         token::inputs(),
         string::inputs(),
         number::inputs(),
+        duration::inputs(),
     ]
     .concat();
     for line in lines {
