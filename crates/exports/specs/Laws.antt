@@ -88,7 +88,7 @@ isNoNumber (parsing.Refused r) = true
 abbrev pub ParseTold : Type 0
 ParseTold = (xs : List ℕ) → let p = parsingOf xs in looksRefused (parseCode p) ≡ isNoNumber p
 
--- of `parse_duration` and of `display_duration`, which writes less than bit 63 of bytes,
+-- of `parse_duration`, of `display_duration` in a buffer of less than 2^63 bytes,
 abbrev pub isNoDuration : Timing → Bool
 isNoDuration (timing.Lasts d) = false
 isNoDuration (timing.Refused r) = true

@@ -4,7 +4,7 @@ use Prim.Native.String.{String}
 use mathlib.Core.List.{List, [], _∷_}
 use Rattle.scan.specs.Ascii.{ascii}
 
--- how many milliseconds each has: "a year is 365 days"
+-- how many milliseconds each has; a year has 365 days, as in the Rust
 abbrev pub milli : ℕ
 milli = 1
 
