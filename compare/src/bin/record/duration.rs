@@ -1,7 +1,7 @@
 //! The records of reading durations.
 
+use crate::filled;
 use compare::oracle::duration;
-use compare::oracle::MOST_NUMBER_BYTES;
 use compare::texts::hex;
 
 /// Lines written by hand: records in every form, and lines that are no record.
@@ -203,10 +203,6 @@ fn line(operation: &str, bytes: &[u8]) -> String {
 /// Texts as long as the limit, and a byte longer: with many digits in a part, with many zeros that an exponent makes up for,
 /// and with a long exponent.
 fn long() -> [String; 10] {
-    let filled = |front: &str, fill: &str, back: &str| {
-        let count = MOST_NUMBER_BYTES - front.len() - back.len();
-        [front, &fill.repeat(count), back].concat()
-    };
     [
         filled("", "0", ""),
         filled("", "0", "5m"),

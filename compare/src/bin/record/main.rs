@@ -7,6 +7,7 @@ mod string;
 mod token;
 mod utf8;
 
+use compare::oracle::MOST_NUMBER_BYTES;
 use compare::texts::from_hex;
 use std::env;
 use std::process::ExitCode;
@@ -38,6 +39,12 @@ fn record(line: &str) -> Option<(&str, Vec<u8>, u64)> {
         [operation, hex, room] => Some((operation, from_hex(hex)?, decimal(room.as_bytes())?)),
         _ => None,
     }
+}
+
+/// The longest text of a number or a duration with these ends, filled between them.
+fn filled(front: &str, fill: &str, back: &str) -> String {
+    let count = (MOST_NUMBER_BYTES - front.len() - back.len()) / fill.len();
+    [front, &fill.repeat(count), back].concat()
 }
 
 /// The value of decimal digits, where a `u64` holds it.

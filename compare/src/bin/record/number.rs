@@ -1,7 +1,7 @@
 //! The records of the reading of numbers.
 
+use crate::filled;
 use compare::oracle::number::{self, Notation};
-use compare::oracle::MOST_NUMBER_BYTES;
 use compare::texts::hex;
 use compare::texts::numbers::{NO_WHITE_SPACE, WHITE_SPACE};
 
@@ -186,10 +186,6 @@ fn line(text: &[u8]) -> String {
 /// Texts as long as the limit, and a byte longer: with many digits, with many zeros that an exponent makes up for, with a long
 /// exponent, and white space.
 fn long() -> [String; 9] {
-    let filled = |front: &str, fill: &str, back: &str| {
-        let count = (MOST_NUMBER_BYTES - front.len() - back.len()) / fill.len();
-        [front, &fill.repeat(count), back].concat()
-    };
     [
         filled("", "9", ""),
         filled("0.", "0", "1e250"),
