@@ -14,7 +14,7 @@ use Rattle.record.specs.Hex.{hexText}
 use Rattle.record.specs.Put.{putAt, pastAt}
 use Rattle.record.proofs.Hex.{hexed-length}
 use Rattle.record.proofs.Writes.{put-stands}
-use Rattle.replay.specs.Lines.{Says, hexBetween}
+use Rattle.replay.specs.Lines.{Says, hexLine}
 
 module _ (d : List ℕ) (at : ℕ) (xs : List ℕ) {e : List ℕ} {r : ℕ} (p : (r ≡ pastAt d at xs) × (e ≡ putAt d at xs)) (h : at + length xs ≤ length d) where
   pub past-text : r ≡ at + length xs
@@ -28,10 +28,10 @@ module _ (d : List ℕ) (at : ℕ) (xs : List ℕ) {e : List ℕ} {r : ℕ} (p :
 pub says-on : {text d e : List ℕ} {at r : ℕ} (more : List ℕ) → Says text at d → Says (take at d ++ more) r e → Says (text ++ more) r e
 says-on more s t = record { counts = t .counts; holds = t .holds ∙ ap (λ (f : List ℕ). f ++ more) (s .holds) }
 
--- two digits for each of the bytes that a text may have, what stands before them, and what follows them; none are written as `-`
-pub hex-few : (most : ℕ) (front xs ys : List ℕ) → length xs ≤ most → 0 < most → length (hexBetween front xs ys) ≤ length front + most * 2 + length ys
+-- `ok `, two digits for each of the bytes that a text may have, and what follows them; none are written as `-`
+pub hex-few : (most : ℕ) (xs ys : List ℕ) → length xs ≤ most → 0 < most → length (hexLine xs ys) ≤ 3 + most * 2 + length ys
 unfolding hexText
-hex-few most front xs ys h p = omega (arith, length-append (front ++ hexText xs) ys, length-append front (hexText xs), digits xs h)
+hex-few most xs ys h p = omega (arith, length-append (hexText xs) ys, digits xs h)
   where
     digits : (xs : List ℕ) → length xs ≤ most → length (hexText xs) ≤ most * 2
     digits [] h = omega arith

@@ -19,13 +19,9 @@ numbered n after = decimalText n ++ after
 abbrev pub okLine : ℕ → List ℕ
 okLine n = ascii "ok " ++ numbered n (ascii "\n")
 
--- a text in hex, what stands before it, and what follows it
-abbrev pub hexBetween : List ℕ → List ℕ → List ℕ → List ℕ
-hexBetween front text after = front ++ hexText text ++ after
-
 -- `ok HEX`, and what follows it
 abbrev pub hexLine : List ℕ → List ℕ → List ℕ
-hexLine text after = hexBetween (ascii "ok ") text after
+hexLine text after = ascii "ok " ++ hexText text ++ after
 
 unfoldable pub refusal : Refusal → List ℕ
 refusal r =

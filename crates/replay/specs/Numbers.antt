@@ -1,4 +1,4 @@
--- What `number` is answered with: how a number is written, and the bits of its f64 in hex, or the refusal.
+-- What `number` is answered with: the bits of a number's f64 in hex, and how it is written, or the refusal.
 use Prim.Native.Nat.{ℕ, zero, suc, _*_, _/_, _%_, _^_}
 use mathlib.Core.List.{List, [], _∷_}
 use Rattle.scan.specs.Ascii.{ascii}
@@ -8,7 +8,7 @@ use Rattle.decimal.specs.declared.Number.{Number}
 use Rattle.decimal.specs.Value.{bitsOf}
 use Rattle.number.specs.declared.Parsing.{Parsing}
 use Rattle.number.specs.declared.Parsing.the-variants.{Value, Refused}
-use Rattle.replay.specs.Lines.{hexBetween, refusal}
+use Rattle.replay.specs.Lines.{hexLine, refusal}
 
 -- the last so many bytes of a number, the most significant first
 abbrev pub lastBytes : ℕ → ℕ → List ℕ
@@ -18,21 +18,21 @@ lastBytes (suc i) n = n / 2 ^ (i * 8) % 256 ∷ lastBytes i n
 abbrev pub bytesOf : ℕ → List ℕ
 bytesOf n = lastBytes 8 n
 
--- two digits a byte, and LF
-abbrev pub bitsEnd : ℕ
-bitsEnd = 17
+-- `ok `, and two digits a byte
+abbrev pub bitsFront : ℕ
+bitsFront = 19
 
-abbrev pub bitsLine : List ℕ → ℕ → List ℕ
-bitsLine front bits = hexBetween front (bytesOf bits) (ascii "\n")
+abbrev pub bitsLine : ℕ → List ℕ → List ℕ
+bitsLine bits after = hexLine (bytesOf bits) after
 
-abbrev pub frontOf : Notation → List ℕ
-frontOf Decimal = ascii "ok decimal "
-frontOf Hex = ascii "ok hex "
-frontOf Octal = ascii "ok octal "
+abbrev pub afterOf : Notation → List ℕ
+afterOf Decimal = ascii " decimal\n"
+afterOf Hex = ascii " hex\n"
+afterOf Octal = ascii " octal\n"
 
--- `ok NOTATION BITS`
+-- `ok BITS NOTATION`
 unfoldable pub valueAnswer : Number → List ℕ
-valueAnswer n = bitsLine (frontOf (n .notation)) (bitsOf (n .value))
+valueAnswer n = bitsLine (bitsOf (n .value)) (afterOf (n .notation))
 
 unfoldable pub numberAnswer : Parsing → List ℕ
 numberAnswer (Value n) = valueAnswer n

@@ -9,7 +9,7 @@ ghost use lib.ListN.{length};
 ghost use Rattle.number.specs.Number.{parsingOf};
 ghost use Rattle.replay.specs.Sizes.{mostAnswer};
 ghost use Rattle.replay.specs.Lines.{Says};
-ghost use Rattle.replay.specs.Numbers.{bitsEnd, bytesOf, bitsLine, valueAnswer, numberAnswer};
+ghost use Rattle.replay.specs.Numbers.{bitsFront, bytesOf, bitsLine, valueAnswer, numberAnswer};
 
 // How many values a byte has.
 const BYTE: u64 = 256;
@@ -41,16 +41,16 @@ fn bytes_of(n: u64) -> [u8; BYTES]
     ]
 }
 
-// The bits of a float behind what says how it is written.
-fn ok_bits(front: &[u8], bits: u64, out: &mut [u8]) -> usize
-    requires { ⌜ length (now front) + bitsEnd ≤ length (now out) ⌝ }
-    ensures { λ r. ⌜ Says (bitsLine (now (front .entry)) bits) r (now (out .exit)) ⌝ }
+// The bits of a float, and what says how it is written.
+fn ok_bits(bits: u64, after: &[u8], out: &mut [u8]) -> usize
+    requires { ⌜ bitsFront + length (now after) ≤ length (now out) ⌝ }
+    ensures { λ r. ⌜ Says (bitsLine bits (now (after .entry))) r (now (out .exit)) ⌝ }
 {
     let bytes = bytes_of(bits);
-    says::hex_between(front, &bytes, b"\n", out)
+    says::ok_hex(&bytes, after, out)
 }
 
-// `ok NOTATION BITS`.
+// `ok BITS NOTATION`.
 fn ok_value(n: Number, out: &mut [u8]) -> usize
     requires { ⌜ mostAnswer ≤ length (now out) ⌝ }
     ensures { λ r. ⌜ Says (valueAnswer n) r (now (out .exit)) ⌝ }
@@ -58,13 +58,13 @@ fn ok_value(n: Number, out: &mut [u8]) -> usize
     let bits = decimal::bits_of(n.value);
     let notation = n.notation;
     match notation {
-        Notation::Decimal => ok_bits(b"ok decimal ", bits, out),
-        Notation::Hex => ok_bits(b"ok hex ", bits, out),
-        Notation::Octal => ok_bits(b"ok octal ", bits, out),
+        Notation::Decimal => ok_bits(bits, b" decimal\n", out),
+        Notation::Hex => ok_bits(bits, b" hex\n", out),
+        Notation::Octal => ok_bits(bits, b" octal\n", out),
     }
 }
 
-// `number`: how a number is written, and the bits of its value.
+// `number`: the bits of a number's value, and how it is written.
 pub fn number(bytes: &[u8], out: &mut [u8]) -> usize
     requires { ⌜ mostAnswer ≤ length (now out) ⌝ }
     ensures { λ r. ⌜ Says (numberAnswer (parsingOf (now (bytes .entry)))) r (now (out .exit)) ⌝ }

@@ -9,7 +9,7 @@ ghost use lib.ListN.{length, take};
 ghost use Rattle.utf8.specs.Answers.{noRoom};
 ghost use Rattle.record.specs.Decimal.{mostDigits};
 ghost use Rattle.replay.specs.Sizes.{mostAnswer};
-ghost use Rattle.replay.specs.Lines.{Says, badRecord, numbered, okLine, hexBetween, hexLine, refusal};
+ghost use Rattle.replay.specs.Lines.{Says, badRecord, numbered, okLine, hexLine, refusal};
 
 // No answer is longer: `ok `, an escaped text in hex, and LF.
 const MOST_ANSWER: usize = 262_144;
@@ -54,22 +54,14 @@ pub fn ok_number(n: usize, out: &mut [u8]) -> usize
     put_number(out, at, n, b"\n")
 }
 
-// A text in hex, what stands before it, and what follows it.
-pub fn hex_between(front: &[u8], text: &[u8], after: &[u8], out: &mut [u8]) -> usize
-    requires { ⌜ length (hexBetween (now front) (now text) (now after)) ≤ length (now out) ⌝ }
-    ensures { λ r. ⌜ Says (hexBetween (now (front .entry)) (now (text .entry)) (now (after .entry))) r (now (out .exit)) ⌝ }
-{
-    let hex = record::put_text(out, 0, front);
-    let next = record::put_hex(out, hex, text);
-    record::put_text(out, next, after)
-}
-
 // `ok HEX` and what follows it.
 pub fn ok_hex(text: &[u8], after: &[u8], out: &mut [u8]) -> usize
     requires { ⌜ length (hexLine (now text) (now after)) ≤ length (now out) ⌝ }
     ensures { λ r. ⌜ Says (hexLine (now (text .entry)) (now (after .entry))) r (now (out .exit)) ⌝ }
 {
-    hex_between(b"ok ", text, after, out)
+    let hex = record::put_text(out, 0, b"ok ");
+    let next = record::put_hex(out, hex, text);
+    record::put_text(out, next, after)
 }
 
 // `refused NUMBER BYTE CHARACTER`.

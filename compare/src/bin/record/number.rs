@@ -199,10 +199,10 @@ fn long() -> [String; 9] {
     ]
 }
 
-/// The answer to `number`: the notation and the bits of a number.
+/// The answer to `number`: the bits of a number and its notation.
 pub fn number(text: &[u8]) -> String {
     match number::number(text) {
-        Ok(number) => format!("ok {} {:016x}", word(number.notation), number.bits),
+        Ok(number) => format!("ok {:016x} {}", number.bits, word(number.notation)),
         Err(refused) => refused.to_string(),
     }
 }

@@ -50,7 +50,7 @@ ok-hex-requires c κs =
     let e = c .before .before .before .before .e .given in
     let size = length-take-le (e .0 .0) (p .last .1 .0) (front (c .before .before .before) .0) in
     let few : e .0 .0 ≤ mostRoom = rw (sym (p .ensures .0) ∙ e .1) at (escaping-bound (length (now (a .text))) (now (a .bytes))) in
-    omega (arith, hex-few mostRoom (ascii "ok ") (take (e .0 .0) (p .last .1 .0)) (ascii "\n") (omega arith) (omega arith))
+    omega (arith, hex-few mostRoom (take (e .0 .0) (p .last .1 .0)) (ascii "\n") (omega arith) (omega arith))
 
 enum-known-e-2 : tie.Need-enum-known-e-2
 enum-known-e-2 c = search needs

@@ -39,7 +39,7 @@ module _ (c : tie.After-part) where
   room =
       let u = c .before .before .before .before .unquote-string in
       let few = part-few (start .args .reading) literal (length (now (start .args .text))) (u .last .1 .1 .0) (u .result) (u .ensures .0) in
-      omega (arith, hex-few mostRoom (ascii "ok ") (now (c .part .result)) (ascii "\n") (rw (c .part .ensures) few) (omega arith))
+      omega (arith, hex-few mostRoom (now (c .part .result)) (ascii "\n") (rw (c .part .ensures) few) (omega arith))
 
   value : isRead (c .before .before .before .before .unquote-string .result) ≡ true → now (c .part .result) ≡ unquoted (start .args .reading) literal
   value t =

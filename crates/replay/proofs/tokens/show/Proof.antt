@@ -43,7 +43,7 @@ slice-aggregate-ok-text c = sym (length-take-le _ _ (front (c .before) .0))
 ok-text-requires : tie.Need-ok-text-requires
 ok-text-requires c κs =
     let k = c .before .before .before .before .before .before .before .before .before .before .before .args .kind in
-    rw (front (c .before .before) .1) (omega (arith, hex-few textSize (ascii "ok ") (displayOf k) (flagsOf k) (short k) (omega arith)))
+    rw (front (c .before .before) .1) (omega (arith, hex-few textSize (displayOf k) (flagsOf k) (short k) (omega arith)))
 
 enum-told : tie.Need-enum-told
 enum-told c = search needs
