@@ -1,7 +1,6 @@
 -- The bytes are those of the bits, and there is room for their digits.
 use Rattle.replay.proofs.Pieces.{hex-few}
 use Rattle.replay.specs.Numbers.{bytesOf}
-use Rattle.scan.specs.Ascii.{ascii}
 use denote.Ref.{now}
 use native.Mathlib.Omega.{arith}
 use borrow.Author.Needs.{needs}

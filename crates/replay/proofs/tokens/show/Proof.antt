@@ -2,7 +2,6 @@
 use Rattle.replay.proofs.Display.{shown-front}
 use Rattle.replay.proofs.Pieces.{hex-few}
 use Rattle.replay.specs.Tokens.{flagsOf, kindAnswer}
-use Rattle.scan.specs.Ascii.{ascii}
 use Rattle.token.specs.DisplayRows.{textSize}
 use Rattle.token.proofs.Displays.{short}
 use Rattle.token.specs.Display.{displayOf, leftBy}
