@@ -2,4 +2,5 @@ pub mod Pieces
 pub mod Display
 pub mod Escapes
 pub mod Unquotes
+pub mod Writes
 pub mod Rooms

@@ -14,6 +14,7 @@ use Rattle.replay.specs.Answer.{opAnswer, RoomEnough}
 use Rattle.replay.proofs.Display.{display-alike}
 use Rattle.replay.proofs.Escapes.{escape-alike}
 use Rattle.replay.proofs.Unquotes.{unquote-alike}
+use Rattle.replay.proofs.Writes.{durwrite-alike}
 
 pub large-alike : (r s : ℕ) → mostRoom ≤ r → mostRoom ≤ s → Alike r s
 large-alike r s h k = record { fits = λ need l. le-leb need r (omega arith) ∙ sym (le-leb need s (omega arith)) }
@@ -28,6 +29,7 @@ op-alike op.UnquoteDoc bytes l = ap (unquotingAnswer Documented bytes) (unquote-
 op-alike op.Escape bytes l = ap (escapingAnswer bytes) (escape-alike bytes l)
 op-alike op.Number bytes l = refl
 op-alike op.Duration bytes l = refl
+op-alike op.DurWrite bytes l = durwrite-alike l bytes
 op-alike op.Unknown bytes l = refl
 
 pub room-enough : RoomEnough

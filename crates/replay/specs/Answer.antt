@@ -32,7 +32,7 @@ use Rattle.replay.specs.Lines.{badRecord, okLine, refusal}
 use Rattle.replay.specs.Tokens.{keywordAnswer, labelAnswer, displayAnswer}
 use Rattle.replay.specs.Strings.{escapeAnswer, unquoteAnswer}
 use Rattle.replay.specs.Numbers.{numberAnswer}
-use Rattle.replay.specs.Durations.{durationAnswer}
+use Rattle.replay.specs.Durations.{durationAnswer, durwriteAnswer}
 
 -- `utf8`: the number of characters
 unfoldable pub utf8Answer : Admission → List ℕ
@@ -58,6 +58,7 @@ ops =
     ∷ named "escape" op.Escape
     ∷ named "number" op.Number
     ∷ named "duration" op.Duration
+    ∷ named "durwrite" op.DurWrite
     ∷ []
 
 -- the op that a name is for
@@ -79,6 +80,7 @@ opAnswer op.UnquoteDoc bytes room = unquoteAnswer Documented room bytes
 opAnswer op.Escape bytes room = escapeAnswer room bytes
 opAnswer op.Number bytes room = numberAnswer (parsingOf bytes)
 opAnswer op.Duration bytes room = durationAnswer (timingOf bytes)
+opAnswer op.DurWrite bytes room = durwriteAnswer room bytes
 opAnswer op.Unknown bytes room = badRecord
 
 -- no answer needs more room than `mostRoom`

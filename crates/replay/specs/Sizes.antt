@@ -24,3 +24,7 @@ mostAnswer = 262144
 -- a kind is a number of 16 bits
 abbrev pub largestKind : ℕ
 largestKind = 65535
+
+-- a duration's nanoseconds are a number of 32 bits
+abbrev pub largestNanos : ℕ
+largestNanos = 4294967295

@@ -32,6 +32,7 @@ enum Op {
     Escape,
     Number,
     Duration,
+    DurWrite,
     Unknown,
 }
 
@@ -83,6 +84,7 @@ fn op_of(name: &[u8]) -> Op
     ensures { λ r. ⌜ r ≡ opOf (now (name .entry)) ⌝ }
 {
     let mut op = Op::Unknown;
+    op = if_named(name, b"durwrite", Op::DurWrite, op);
     op = if_named(name, b"duration", Op::Duration, op);
     op = if_named(name, b"number", Op::Number, op);
     op = if_named(name, b"escape", Op::Escape, op);
@@ -111,6 +113,7 @@ fn dispatch(name: &[u8], bytes: &[u8], text: &mut [u8], out: &mut [u8]) -> usize
         Op::Escape => strings::escape(bytes, text, out),
         Op::Number => numbers::number(bytes, out),
         Op::Duration => durations::duration(bytes, out),
+        Op::DurWrite => durations::durwrite(bytes, text, out),
         Op::Unknown => says::bad_record(out),
     }
 }

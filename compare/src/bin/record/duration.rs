@@ -1,8 +1,10 @@
-//! The records of reading durations.
+//! The records of the functions on durations.
 
-use crate::filled;
-use compare::oracle::duration;
+use crate::{decimal, filled};
+use compare::oracle::duration::{self, displayed};
+use compare::oracle::{Answer, NO_ROOM};
 use compare::texts::hex;
+use std::str;
 
 /// Lines written by hand: records in every form, and lines that are no record.
 const BY_HAND: &[&str] = &[
@@ -16,6 +18,15 @@ const BY_HAND: &[&str] = &[
     "duration 356d x",
     "durations 356d",
     "Duration 356d",
+    "durwrite -",
+    "durwrite - 0",
+    "durwrite",
+    "durwrite ",
+    "durwrite 3",
+    "durwrite 302030 18446744073709551616",
+    "durwrite 302030 x",
+    "durwrites 302030",
+    "durWrite 302030",
 ];
 
 /// Texts of units: each unit, their order, numbers at their bounds, and what is nearly such a text; then decimals: their
@@ -187,17 +198,172 @@ const TEXTS: &[&[u8]] = &[
     b"1s\xed\xa0\x80",
 ];
 
+/// Seconds and nanoseconds: what is under a millisecond, each unit with a little less and more, units together, the greatest,
+/// nanoseconds above what is written.
+const PAIRS: &[(u64, u32)] = &[
+    (0, 0),
+    (0, 1),
+    (0, 999_999),
+    (0, 1_000_000),
+    (0, 1_000_001),
+    (0, 1_999_999),
+    (0, 9_000_000),
+    (0, 10_000_000),
+    (0, 99_999_999),
+    (0, 100_000_000),
+    (0, 999_000_000),
+    (0, 999_999_999),
+    (0, 1_000_000_000),
+    (0, 1_000_000_001),
+    (0, u32::MAX),
+    (1, 0),
+    (1, 1),
+    (1, 999_999),
+    (1, 1_000_000),
+    (1, 999_999_999),
+    (1, 1_000_000_000),
+    (9, 0),
+    (10, 0),
+    (59, 999_999_999),
+    (60, 0),
+    (60, 1),
+    (60, 1_000_000),
+    (61, 0),
+    (90, 0),
+    (120, 0),
+    (3_599, 0),
+    (3_599, 999_999_999),
+    (3_600, 0),
+    (3_600, 1_000_000),
+    (3_601, 0),
+    (3_660, 0),
+    (3_661, 1_000_000),
+    (5_400, 0),
+    (7_200, 0),
+    (86_399, 0),
+    (86_399, 999_999_999),
+    (86_400, 0),
+    (86_400, 1_000_000),
+    (86_401, 0),
+    (86_460, 0),
+    (90_000, 0),
+    (90_061, 1_000_000),
+    (172_800, 0),
+    (604_799, 0),
+    (604_799, 999_999_999),
+    (604_800, 0),
+    (604_800, 999_999),
+    (604_800, 1_000_000),
+    (604_801, 0),
+    (691_200, 0),
+    (1_209_600, 0),
+    (6_048_000, 0),
+    (7_776_000, 0),
+    (31_449_600, 0),
+    (31_535_999, 0),
+    (31_535_999, 999_999_999),
+    (31_536_000, 0),
+    (31_536_000, 1),
+    (31_536_000, 999_999),
+    (31_536_000, 1_000_000),
+    (31_536_001, 0),
+    (31_622_400, 0),
+    (32_140_800, 0),
+    (63_072_000, 0),
+    (220_752_000, 0),
+    (220_752_001, 0),
+    (4_294_967_295, 0),
+    (4_294_967_296, 0),
+    (9_007_199_254_740_992, 0),
+    (9_007_199_254_740_993, 0),
+    (18_446_744_073_707_280_000, 0),
+    (18_446_744_073_709_440_000, 0),
+    (18_446_744_073_709_526_400, 0),
+    (18_446_744_073_709_551_614, 999_999_999),
+    (u64::MAX, 0),
+    (u64::MAX, 999_999),
+    (u64::MAX, 1_000_000),
+    (u64::MAX, 999_999_999),
+    (u64::MAX, 1_000_000_000),
+    (u64::MAX, u32::MAX),
+];
+
+/// Seconds and nanoseconds that are written in several rooms.
+const IN_ROOMS: &[(u64, u32)] = &[
+    (0, 0),
+    (0, 999_999),
+    (0, 1_000_000_000),
+    (300, 0),
+    (31_536_000, 0),
+    (90_061, 1_000_000),
+];
+
+/// Those that are written in the greatest rooms that are too little, just enough, and one more.
+const LONGEST: (u64, u32) = (18_446_744_073_709_502_399, 999_999_999);
+
+/// Inputs of `durwrite` that are no two numbers, or nearly none.
+const NO_PAIRS: &[&[u8]] = &[
+    b"0",
+    b"0 ",
+    b" 0",
+    b" ",
+    b" 0 0",
+    b"0  0",
+    b"0 0 ",
+    b"0 0 0",
+    b"0\t0",
+    b"0 0\n",
+    b"0,0",
+    b"+1 0",
+    b"1 -0",
+    b"1 x",
+    b"1. 0",
+    b"0x1 0",
+    "\u{661} 0".as_bytes(),
+    b"00 00",
+    b"007 0001000000",
+    b"00000000000000000000000000000001 0",
+    b"18446744073709551616 0",
+    b"18446744073709551616 1000000000",
+    b"0 4294967296",
+    b"0 18446744073709551615",
+    b"0 18446744073709551616",
+    b"0 \xff",
+];
+
 /// The recorded lines.
 pub fn inputs() -> Vec<String> {
     let mut lines: Vec<String> = BY_HAND.iter().map(|line| line.to_string()).collect();
     lines.extend(TEXTS.iter().map(|text| line("duration", text)));
     lines.extend(long().map(|text| line("duration", text.as_bytes())));
+    lines.extend(PAIRS.iter().map(|&pair| pair_line(pair)));
+    for &pair in IN_ROOMS {
+        lines.extend((0..=needed(pair) + 1).map(|room| room_line(pair, room)));
+    }
+    let needed = needed(LONGEST);
+    lines.extend([needed - 1, needed, needed + 1].map(|room| room_line(LONGEST, room)));
+    lines.extend(NO_PAIRS.iter().map(|pair| line("durwrite", pair)));
     lines
 }
 
 /// The record of an operation on these bytes.
 fn line(operation: &str, bytes: &[u8]) -> String {
     format!("{operation} {}", hex(bytes))
+}
+
+/// The record that writes seconds and nanoseconds.
+fn pair_line((secs, nanos): (u64, u32)) -> String {
+    line("durwrite", format!("{secs} {nanos}").as_bytes())
+}
+
+/// The record that writes them in a room.
+fn room_line(pair: (u64, u32), room: usize) -> String {
+    format!("{} {room}", pair_line(pair))
+}
+
+/// How many bytes the text of seconds and nanoseconds has; none where it is refused.
+fn needed((secs, nanos): (u64, u32)) -> usize {
+    displayed(secs, nanos).map_or(0, |text| text.len())
 }
 
 /// Texts as long as the limit, and a byte longer: with many digits in a part, with many zeros that an exponent makes up for,
@@ -223,4 +389,16 @@ pub fn duration(text: &[u8]) -> String {
         Ok(duration) => format!("ok {} {}", duration.as_secs(), duration.subsec_nanos()),
         Err(refused) => refused.to_string(),
     }
+}
+
+/// The answer to `durwrite`: the text of seconds and nanoseconds; none where the input is not these.
+pub fn durwrite(pair: &[u8], room: u64) -> Option<String> {
+    let (secs, nanos) = str::from_utf8(pair).ok()?.split_once(' ')?;
+    let nanos = decimal(nanos.as_bytes())?.try_into().ok()?;
+    let answer = match displayed(decimal(secs.as_bytes())?, nanos) {
+        Ok(text) if text.len() as u64 > room => Answer::refused(NO_ROOM).to_string(),
+        Ok(text) => format!("ok {}", hex(text.as_bytes())),
+        Err(refused) => refused.to_string(),
+    };
+    Some(answer)
 }

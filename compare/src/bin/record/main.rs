@@ -25,6 +25,7 @@ fn answer(line: &str) -> String {
         "unquotedoc" => Some(string::unquotedoc(&input, room)),
         "number" => Some(number::number(&input)),
         "duration" => Some(duration::duration(&input)),
+        "durwrite" => duration::durwrite(&input, room),
         _ => None,
     });
     answer.unwrap_or_else(|| "bad record".to_string())

@@ -63,6 +63,12 @@ duration-requires c κs = search needs
 enum-told-10 : tie.Need-enum-told-10
 enum-told-10 c = search needs
 
+durwrite-requires : tie.Need-durwrite-requires
+durwrite-requires c κs = search needs
+
+enum-told-11 : tie.Need-enum-told-11
+enum-told-11 c = search needs
+
 bad-record-requires : tie.Need-bad-record-requires
 bad-record-requires c κs = search needs
 
@@ -135,8 +141,17 @@ returns-9 c = rw (← c .before .before .before .before .before .before .op-of .
 same-length-14 : tie.Need-same-length-14
 same-length-14 c = search needs
 
+same-length-15 : tie.Need-same-length-15
+same-length-15 c = search needs
+
 returns-10 : tie.Need-returns-10
-returns-10 c = rw (← c .before .before .before .before .before .before .op-of .ensures, c .before .before .before .before .enum-told10 .given .1) (c .before .before .bad-record .ensures)
+returns-10 c = rw (← c .before .before .before .before .before .before .before .before .before .op-of .ensures, c .before .before .before .before .before .before .before .enum-told10 .given .1) (c .before .before .before .before .durwrite .ensures)
+
+same-length-16 : tie.Need-same-length-16
+same-length-16 c = search needs
+
+returns-11 : tie.Need-returns-11
+returns-11 c = rw (← c .before .before .before .before .before .before .op-of .ensures, c .before .before .before .before .enum-told11 .given .1) (c .before .before .bad-record .ensures)
 
 pub dispatch-spec : {M : Type 1} → statement M
 dispatch-spec =
@@ -162,6 +177,8 @@ dispatch-spec =
     enum-told-9
     duration-requires
     enum-told-10
+    durwrite-requires
+    enum-told-11
     bad-record-requires
     same-length
     returns
@@ -186,4 +203,7 @@ dispatch-spec =
     same-length-13
     returns-9
     same-length-14
-    returns-10)
+    same-length-15
+    returns-10
+    same-length-16
+    returns-11)
