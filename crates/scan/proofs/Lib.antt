@@ -4,6 +4,7 @@ pub mod Tests
 pub mod Below
 pub mod Classes
 pub mod Runs
+pub mod Edges
 pub mod Same
 pub mod Stores
 pub mod One
