@@ -1,0 +1,4 @@
+pub mod Turns
+pub mod Strings
+pub mod Comments
+pub mod Unique

@@ -1,0 +1,55 @@
+-- Where a string ends: behind its closing sign, or where it is refused, which is behind a backslash or at the end; the two signs are ASCII.
+-- By induction on the bytes that are left. What follows a string changes nothing, since it is read up to its closing sign alone.
+use Prim.Native.Nat.{ℕ, zero, suc, _+_, _<_}
+use native.Mathlib.Numerals.{add-one}
+use native.Mathlib.Omega.{arith}
+use mathlib.Core.Bool.{Bool, true, false, cond, true≢false}
+use mathlib.Core.List.{List, [], _∷_, _++_}
+use mathlib.Core.Path.{_≡_, refl, sym, subst}
+use lib.Dec.{eqb}
+use lib.ListN.{length, drop}
+use Rattle.scan.specs.Byte.{end, peekAt, backslash}
+use Rattle.scan.specs.Edge.{Edge, first, last}
+use Rattle.scan.proofs.Choice.{either}
+use Rattle.scan.proofs.Edges.{edge-past, one-ascii}
+use Rattle.quoted.specs.declared.Quoted.{Quoted}
+use Rattle.quoted.specs.declared.Quoted.the-variants.{Closed}
+use Rattle.quoted.specs.Quoted.{isEscape, quotedFrom}
+use Rattle.quoted.specs.Laws.{Lies, StringWithin, StringSeam}
+use Rattle.quoted.proofs.Turns.{past-end, escaped-turn, plain-turn}
+
+-- behind an ASCII byte is an edge
+past : (xs : List ℕ) (n y : ℕ) → y < 0x80 → eqb (peekAt xs n) y ≡ true → Edge xs (n + 1)
+past xs n y h e = rw add-one (edge-past (one-ascii y h) xs n e)
+
+module _ (symbol : ℕ) (xs : List ℕ) (a : symbol < 0x80) where
+  -- from n on, with k bytes left, where an escape is begun at an edge alone
+  lies : (k n : ℕ) (escaped : Bool) → n + k ≡ length xs → (escaped ≡ true → Edge xs n) → Lies xs (quotedFrom symbol escaped n (drop n xs))
+  lies zero n escaped e h =
+      rw (past-end symbol n xs escaped (omega arith)) (either (Lies xs) escaped h (λ f. subst (Edge xs) (omega arith) last))
+  lies (suc k) n true e h =
+      rw (escaped-turn symbol n xs end (omega arith))
+      (either (Lies xs) (isEscape symbol (peekAt xs n)) (λ f. lies k (n + 1) false (omega arith) (λ g. absurd (true≢false (sym g)))) (λ f. h refl))
+  lies (suc k) n false e h =
+      rw (plain-turn symbol n xs end (omega arith))
+      (either (Lies xs) (eqb (peekAt xs n) symbol) (λ f. (omega arith, past xs n symbol a f))
+      (λ f. lies k (n + 1) (eqb (peekAt xs n) backslash) (omega arith) (past xs n backslash (omega arith))))
+
+pub string-within : StringWithin
+string-within symbol xs a = lies symbol xs a (length xs) 0 false (omega arith) (λ e. first)
+
+-- what each arm of a choice keeps, the choice keeps
+kept : (b : Bool) {u v w z r : Quoted} → (u ≡ r → w ≡ r) → (v ≡ r → z ≡ r) → cond b u v ≡ r → cond b w z ≡ r
+kept true f g = f
+kept false f g = g
+
+-- a string that is closed stays so
+closed-stays : (symbol : ℕ) (xs ys : List ℕ) (escaped : Bool) (n r : ℕ) → quotedFrom symbol escaped n xs ≡ Closed r → quotedFrom symbol escaped n (xs ++ ys) ≡ Closed r
+unfolding quotedFrom
+closed-stays symbol [] ys true n r h = cc
+closed-stays symbol [] ys false n r h = cc
+closed-stays symbol (x ∷ xs) ys true n r h = kept (isEscape symbol x) (closed-stays symbol xs ys false (n + 1) r) (λ e. e) h
+closed-stays symbol (x ∷ xs) ys false n r h = kept (eqb x symbol) (λ e. e) (closed-stays symbol xs ys (eqb x backslash) (n + 1) r) h
+
+pub string-seam : StringSeam
+string-seam symbol xs ys n = closed-stays symbol xs ys false 0 n
