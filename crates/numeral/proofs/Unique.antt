@@ -1,0 +1,8 @@
+-- Any two answers that the promise of the public function allows are equal: both equal the definition.
+use mathlib.Core.Path.{sym, _∙_}
+use Rattle.scan.proofs.One.{OneAnswer}
+use Rattle.numeral.proofs.scan_number.Kinds as scan-number
+use Rattle.numeral.proofs.scan_number.Reads as scan-number-reads
+
+pub same-scan-number : OneAnswer scan-number.ps scan-number.r scan-number-reads.Post
+same-scan-number κs a x y e f p q = p ∙ sym q

@@ -1,0 +1,142 @@
+-- What begins with a digit or a point takes one byte at least, and ends within the bytes, behind one that is ASCII: each part of a number, and
+-- each byte that goes on with a duration, leads from such a place to another.
+use Prim.Native.Nat.{ℕ, zero, suc, _+_, _<_, _≤_}
+use Prim.Native.Char.{code}
+use native.Mathlib.Omega.{arith}
+use native.Mathlib.Numerals.{add-one}
+use mathlib.Core.Bool.{Bool, true, false, cond, _||_}
+use mathlib.Core.List.{List}
+use mathlib.Core.Path.{_≡_, refl}
+use lib.Dec.{eqb}
+use lib.ListN.{length, drop}
+use Rattle.scan.specs.declared.Class.{Class}
+use Rattle.scan.specs.declared.Class.the-variants.{Digit, HexDigit}
+use Rattle.scan.specs.Byte.{peekAt, lowered, isWithin, isAlpha, isDigit, isIn}
+use Rattle.scan.specs.Edge.{Edge, first, behind, AsciiAlone}
+use Rattle.scan.specs.Run.{runEnd}
+use Rattle.scan.proofs.Choice.{either, and-right}
+use Rattle.scan.proofs.Classes.{end-in-none}
+use Rattle.scan.proofs.Edges.{edge-past, edge-run, one-ascii, within-ascii, or-ascii, digit-ascii, hex-ascii, alpha-ascii}
+use Rattle.scan.proofs.Runs.{goes-on, run-stops}
+use Rattle.sign.specs.Sign.{isSign, pastSign}
+use Rattle.sign.proofs.Places.{sign-ascii}
+use Rattle.numeral.specs.declared.Part.{Part}
+use Rattle.numeral.specs.declared.Part.the-variants.{Unit}
+use Rattle.numeral.specs.declared.Turn.{Turn}
+use Rattle.numeral.specs.declared.Turn.the-variants.{On, Ends, Fails}
+use Rattle.numeral.specs.declared.Numeral.{Numeral}
+use Rattle.numeral.specs.Numeral.{isHex, fractionEnd, mantissaEnd, exponentEnd, numberEnd, isFirstUnit, turnOf, turned, partOf, durationFrom, numeralOf}
+use Rattle.numeral.specs.Laws.{taken, NumeralWithin}
+use Rattle.numeral.proofs.Turns.{on-ascii, on-inside, duration-at}
+
+-- the bytes that a number is told by are ASCII: its digits, its point, the letter of its exponent
+digits-ascii : AsciiAlone (isIn Digit)
+unfolding isIn
+digits-ascii = digit-ascii
+
+hex-digits-ascii : AsciiAlone (isIn HexDigit)
+unfolding isIn
+hex-digits-ascii = hex-ascii
+
+pub point-ascii : AsciiAlone (λ c. eqb c (code "."))
+point-ascii = one-ascii (code ".") (omega arith)
+
+pub letter-ascii : AsciiAlone (λ c. eqb (lowered c) (code "e"))
+unfolding lowered
+letter-ascii c =
+    either (λ n. eqb n (code "e") ≡ true → c < 0x80) (isWithin (code "A") (code "Z") c) (λ u e. within-ascii (code "A") (code "Z") (omega arith) c u) (λ u. one-ascii (code "e") (omega arith) c)
+
+module _ (xs : List ℕ) where
+  pub past : {p : ℕ → Bool} → AsciiAlone p → (at : ℕ) → p (peekAt xs at) ≡ true → Edge xs (at + 1)
+  past a at e = rw add-one (edge-past a xs at e)
+
+  fraction-edge : (k : Class) → AsciiAlone (isIn k) → (at : ℕ) → Edge xs at → Edge xs (fractionEnd k xs at)
+  unfolding fractionEnd
+  fraction-edge k a at h = either (Edge xs) (eqb (peekAt xs at) (code ".")) (λ e. edge-run (isIn k) a xs (at + 1) (past point-ascii at e)) (λ e. h)
+
+  mantissa-edge : (k : Class) → AsciiAlone (isIn k) → (from : ℕ) → Edge xs from → Edge xs (mantissaEnd k xs from)
+  mantissa-edge k a from h = fraction-edge k a (runEnd (isIn k) xs from) (edge-run (isIn k) a xs from h)
+
+  pub sign-edge : (at : ℕ) → Edge xs at → Edge xs (pastSign xs at)
+  sign-edge at h = either (Edge xs) (isSign (peekAt xs at)) (edge-past sign-ascii xs at) (λ e. h)
+
+  exponent-edge : (at : ℕ) → Edge xs at → Edge xs (exponentEnd xs at)
+  unfolding exponentEnd
+  exponent-edge at h =
+      either (Edge xs) (eqb (lowered (peekAt xs at)) (code "e"))
+      (λ e. edge-run (isIn Digit) digits-ascii xs (pastSign xs (at + 1)) (sign-edge (at + 1) (past letter-ascii at e)))
+      (λ e. h)
+
+  pub hex-edge : isHex xs ≡ true → Edge xs 2
+  unfolding isHex
+  hex-edge e =
+      edge-past (or-ascii (one-ascii (code "x") (omega arith)) (one-ascii (code "X") (omega arith))) xs 1 (and-right (eqb (peekAt xs 0) (code "0")) (eqb (peekAt xs 1) (code "x") || eqb (peekAt xs 1) (code "X")) e)
+
+  -- where a number has all its digits but those of its exponent
+  abbrev pub digitsEnd : ℕ
+  digitsEnd = cond (isHex xs) (mantissaEnd HexDigit xs 2) (mantissaEnd Digit xs 0)
+
+  pub digits-edge : Edge xs digitsEnd
+  digits-edge = either (Edge xs) (isHex xs) (λ e. mantissa-edge HexDigit hex-digits-ascii 2 (hex-edge e)) (λ e. mantissa-edge Digit digits-ascii 0 first)
+
+  pub number-edge : Edge xs (numberEnd xs)
+  unfolding numberEnd
+  number-edge = exponent-edge digitsEnd digits-edge
+
+  -- no part of a number goes back
+  fraction-on : (k : Class) (at : ℕ) → at ≤ fractionEnd k xs at
+  unfolding fractionEnd
+  fraction-on k at = either (λ n. at ≤ n) (eqb (peekAt xs at) (code ".")) (λ e. omega arith) (λ e. omega arith)
+
+  sign-on : (at : ℕ) → at ≤ pastSign xs at
+  sign-on at = either (λ n. at ≤ n) (isSign (peekAt xs at)) (λ e. omega arith) (λ e. omega arith)
+
+  exponent-on : (at : ℕ) → at ≤ exponentEnd xs at
+  unfolding exponentEnd
+  exponent-on at = either (λ n. at ≤ n) (eqb (lowered (peekAt xs at)) (code "e")) (λ e. omega (arith, sign-on (at + 1))) (λ e. omega arith)
+
+  -- and one that begins with a digit or a point has a byte
+  mantissa-byte : isDigit (peekAt xs 0) || eqb (peekAt xs 0) (code ".") ≡ true → 1 ≤ mantissaEnd Digit xs 0
+  unfolding isIn fractionEnd
+  mantissa-byte b = go (isDigit (peekAt xs 0)) refl b
+    where
+      go : (d : Bool) → isDigit (peekAt xs 0) ≡ d → d || eqb (peekAt xs 0) (code ".") ≡ true → 1 ≤ mantissaEnd Digit xs 0
+      go true d t = omega (arith, goes-on (isIn Digit) (end-in-none Digit) xs 0 d, fraction-on Digit (runEnd (isIn Digit) xs 0))
+      go false d t = rw (run-stops (isIn Digit) xs 0 d, t) (omega arith)
+
+  number-byte : isDigit (peekAt xs 0) || eqb (peekAt xs 0) (code ".") ≡ true → 1 ≤ numberEnd xs
+  unfolding numberEnd
+  number-byte b =
+      let m : 1 ≤ digitsEnd = either (λ n. 1 ≤ n) (isHex xs) (λ e. omega (arith, fraction-on HexDigit (runEnd (isIn HexDigit) xs 2))) (λ e. mantissa-byte b) in
+      omega (arith, m, exponent-on digitsEnd)
+
+  -- what ends at n or behind it, at such a place; so does a duration that was read through to n
+  abbrev Within : ℕ → Numeral → Type 0
+  Within n r = (n ≤ taken r) × Edge xs (taken r)
+
+  turn-within : (p : Part) (n : ℕ) → Edge xs n → ((q : Part) → n < length xs → Edge xs (n + 1) → Within (n + 1) (durationFrom q (n + 1) (drop (n + 1) xs)))
+      → Within n (durationFrom p n (drop n xs))
+  turn-within p n h next = rw (duration-at p xs n refl) (go (turnOf p (peekAt xs n)) refl)
+    where
+      go : (t : Turn) → turnOf p (peekAt xs n) ≡ t → Within n (turned t n (durationFrom (partOf t) (n + 1) (drop (n + 1) xs)))
+      go (On q) e = let r = next q (on-inside p q xs n e) (rw add-one (behind n (on-ascii q (peekAt xs n) p e))) in (omega (arith, r .0), r .1)
+      go Ends e = (omega arith, h)
+      go Fails e = (omega arith, h)
+
+  duration-within : (k : ℕ) (p : Part) (n : ℕ) → length xs ≤ n + k → Edge xs n → Within n (durationFrom p n (drop n xs))
+  duration-within zero p n l h = turn-within p n h (λ q i g. absurd (omega arith))
+  duration-within (suc k) p n l h = turn-within p n h (λ q i g. duration-within k q (n + 1) (omega arith) g)
+
+pub numeral-within : NumeralWithin
+unfolding numeralOf
+numeral-within xs b =
+    let P : Numeral → Type 0 = Within xs 1 in
+    let n = numberEnd xs in
+    let c = peekAt xs n in
+    let here : (1 ≤ n) × Edge xs n = (number-byte xs b, number-edge xs) in
+    either P (eqb c (code ".")) (λ e. here)
+    (λ e. either P (isAlpha c)
+    (λ a. either P (isFirstUnit c)
+    (λ u. let r = duration-within xs (length xs) Unit (n + 1) (omega arith) (past xs alpha-ascii n a) in (omega (arith, r .0), r .1))
+    (λ u. here))
+    (λ a. here))

@@ -1,0 +1,41 @@
+-- Each way out knows whether the mark of a hexadecimal number stands there, and takes the steps of the definition.
+use mathlib.Core.Path.{sym}
+use Rattle.numeral.specs.Numeral.{numberEnd}
+use borrow.Author.Needs.{needs}
+use Rattle.numeral.proofs.number_end.Statement.{statement}
+use Rattle.numeral.proofs.number_end.Tie as tie
+
+is-hex-requires : tie.Need-is-hex-requires
+is-hex-requires c κs = search needs
+
+mantissa-end-requires : tie.Need-mantissa-end-requires
+mantissa-end-requires c κs = search needs
+
+exponent-end-requires : tie.Need-exponent-end-requires
+exponent-end-requires c κs = search needs
+
+returns : tie.Need-returns
+unfolding numberEnd
+returns c = search (sym (c .before .before .before .is-hex .ensures), c .before .before .if1 .taken, sym (c .before .mantissa-end .ensures), c .exponent-end .ensures)
+
+mantissa-end-requires-2 : tie.Need-mantissa-end-requires-2
+mantissa-end-requires-2 c κs = search needs
+
+exponent-end-requires-2 : tie.Need-exponent-end-requires-2
+exponent-end-requires-2 c κs = search needs
+
+returns-2 : tie.Need-returns-2
+unfolding numberEnd
+returns-2 c = search (sym (c .before .before .before .is-hex .ensures), c .before .before .if1 .left, sym (c .before .mantissa-end2 .ensures), c .exponent-end2 .ensures)
+
+pub number-end-spec : {M : Type 1} → statement M
+number-end-spec =
+    tie.close
+    (tie.spec
+    is-hex-requires
+    mantissa-end-requires
+    exponent-end-requires
+    returns
+    mantissa-end-requires-2
+    exponent-end-requires-2
+    returns-2)

@@ -1,0 +1,159 @@
+// Numbers and durations in a query: where the one or the other ends that bytes begin with. What it says is read by `number`, and by
+// `duration`.
+use scan::Class;
+ghost use mathlib.Core.Path.{_≡_};
+ghost use lib.ListN.{drop};
+ghost use Rattle.numeral.specs.Numeral.{isHex, fractionEnd, exponentEnd, mantissaEnd, numberEnd, isUnit, stopOf, turnOf, durationFrom, numeralOf};
+
+// What bytes begin with: a number or a duration of so many bytes, or neither, where so many were taken.
+pub enum Numeral {
+    Number(usize),
+    Duration(usize),
+    Neither(usize),
+}
+
+// What a duration was read through to: a unit, a unit and an s, or digits.
+pub enum Part {
+    Unit,
+    Second,
+    Digits,
+}
+
+// What a byte does to a duration: it goes on with it, or stands behind its end, or is not to stand there.
+pub enum Turn {
+    On(Part),
+    Ends,
+    Fails,
+}
+
+// Whether bytes begin with the mark of a hexadecimal number.
+fn is_hex(s: &[u8]) -> bool
+    ensures { λ r. ⌜ r ≡ isHex (now (s .entry)) ⌝ }
+{
+    let mark = scan::peek(s, 1);
+    scan::peek(s, 0) == b'0' as usize && (mark == b'x' as usize || mark == b'X' as usize)
+}
+
+// The place past a point and the digits behind it, where one stands.
+fn fraction_end(k: Class, s: &[u8], at: usize) -> usize
+    ensures { λ r. ⌜ r ≡ fractionEnd k (now (s .entry)) at ⌝ }
+{
+    if scan::peek(s, at) == b'.' as usize {
+        scan::run_end(k, s, at + 1)
+    } else {
+        at
+    }
+}
+
+// The place past an exponent, where one stands.
+fn exponent_end(s: &[u8], at: usize) -> usize
+    ensures { λ r. ⌜ r ≡ exponentEnd (now (s .entry)) at ⌝ }
+{
+    if scan::lowered(scan::peek(s, at)) == b'e' as usize {
+        scan::run_end(Class::Digit, s, sign::past_sign(s, at + 1))
+    } else {
+        at
+    }
+}
+
+// The place past digits of a class, and past those behind a point.
+fn mantissa_end(k: Class, s: &[u8], from: usize) -> usize
+    ensures { λ r. ⌜ r ≡ mantissaEnd k (now (s .entry)) from ⌝ }
+{
+    fraction_end(k, s, scan::run_end(k, s, from))
+}
+
+// Where the number ends that bytes begin with.
+fn number_end(s: &[u8]) -> usize
+    ensures { λ r. ⌜ r ≡ numberEnd (now (s .entry)) ⌝ }
+{
+    if is_hex(s) {
+        return exponent_end(s, mantissa_end(Class::HexDigit, s, 2));
+    }
+    exponent_end(s, mantissa_end(Class::Digit, s, 0))
+}
+
+// A unit that any part of a duration may have.
+fn is_unit(c: usize) -> bool
+    ensures { λ r. ⌜ r ≡ isUnit c ⌝ }
+{
+    c == b's' as usize
+        || (c == b'm' as usize
+            || (c == b'h' as usize || (c == b'd' as usize || c == b'w' as usize)))
+}
+
+// What a byte that is no digit does to a duration, by what it was read through to.
+fn stop_of(part: Part, c: usize) -> Turn
+    ensures { λ r. ⌜ r ≡ stopOf part c ⌝ }
+{
+    match part {
+        Part::Digits => {
+            if is_unit(c) {
+                return Turn::On(Part::Unit);
+            }
+            return Turn::Fails;
+        }
+        Part::Unit => {
+            if c == b's' as usize {
+                return Turn::On(Part::Second);
+            }
+        }
+        Part::Second => {}
+    }
+    if scan::is_alpha(c) {
+        Turn::Fails
+    } else {
+        Turn::Ends
+    }
+}
+
+// What a byte does to a duration.
+fn turn_of(part: Part, c: usize) -> Turn
+    ensures { λ r. ⌜ r ≡ turnOf part c ⌝ }
+{
+    if scan::is_digit(c) {
+        return Turn::On(Part::Digits);
+    }
+    stop_of(part, c)
+}
+
+// The duration whose first unit stands before `from`.
+fn duration(s: &[u8], from: usize) -> Numeral
+    ensures { λ r. ⌜ r ≡ durationFrom Part.Unit from (drop from (now (s .entry))) ⌝ }
+{
+    let mut part = Part::Unit;
+    let mut n = from;
+    loop {
+        let t = turn_of(part, scan::peek(s, n));
+        match t {
+            Turn::On(next) => {
+                part = next;
+                n += 1;
+            }
+            Turn::Ends => {
+                return Numeral::Duration(n);
+            }
+            Turn::Fails => {
+                return Numeral::Neither(n);
+            }
+        }
+    }
+}
+
+// What bytes begin with that are begun by a digit, or by a point and a digit.
+pub fn scan_number(s: &[u8]) -> Numeral
+    ensures { λ r. ⌜ r ≡ numeralOf (now (s .entry)) ⌝ }
+{
+    let n = number_end(s);
+    let c = scan::peek(s, n);
+    if c == b'.' as usize {
+        return Numeral::Neither(n);
+    }
+    if !scan::is_alpha(c) {
+        return Numeral::Number(n);
+    }
+    if c == b'y' as usize || is_unit(c) {
+        return duration(s, n + 1);
+    }
+    Numeral::Neither(n)
+}
