@@ -17,7 +17,7 @@ use Rattle.scan.proofs.Edges.{edge-within, alpha-ascii}
 use Rattle.scan.proofs.Runs.{run-within, run-append, peek-append}
 use Rattle.sign.specs.Sign.{isSign, pastSign}
 use Rattle.numeral.specs.declared.Part.{Part}
-use Rattle.numeral.specs.declared.Part.the-variants.{Unit, Second, Digits}
+use Rattle.numeral.specs.declared.Part.the-variants.{Unit, UnitS, Digits}
 use Rattle.numeral.specs.Numeral.{isHex, fractionEnd, mantissaEnd, exponentEnd, numberEnd, isUnit, isFirstUnit, stopOf, turnOf, turned, partOf, durationFrom, numeralOf}
 use Rattle.numeral.specs.Laws.{NumeralSeam}
 use Rattle.numeral.proofs.Within.{point-ascii, letter-ascii, past, sign-edge, hex-edge, digitsEnd, digits-edge, number-edge}
@@ -99,7 +99,7 @@ number-line xs ys =
 line-ends : (p : Part) (n : ℕ) (ys : List ℕ) → durationFrom p n (code "\n" ∷ ys) ≡ durationFrom p n []
 unfolding durationFrom turnOf stopOf isUnit isAlpha isWithin
 line-ends Unit n ys = refl
-line-ends Second n ys = refl
+line-ends UnitS n ys = refl
 line-ends Digits n ys = refl
 
 duration-line : (p : Part) (n : ℕ) (xs ys : List ℕ) → durationFrom p n (lined xs ys) ≡ durationFrom p n xs

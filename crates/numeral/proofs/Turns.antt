@@ -14,7 +14,7 @@ use Rattle.scan.specs.Edge.{AsciiAlone}
 use Rattle.scan.proofs.Choice.{either}
 use Rattle.scan.proofs.Edges.{ascii-inside, one-ascii, or-ascii, digit-ascii}
 use Rattle.numeral.specs.declared.Part.{Part}
-use Rattle.numeral.specs.declared.Part.the-variants.{Unit, Second, Digits}
+use Rattle.numeral.specs.declared.Part.the-variants.{Unit, UnitS, Digits}
 use Rattle.numeral.specs.declared.Turn.{Turn}
 use Rattle.numeral.specs.declared.Turn.the-variants.{On, Ends, Fails}
 use Rattle.numeral.specs.declared.Numeral.{Numeral}
@@ -37,7 +37,7 @@ module _ (q : Part) (c : ℕ) where
   stop-ascii : (p : Part) → OnAscii (stopOf p c)
   unfolding stopOf
   stop-ascii Unit = either OnAscii (eqb c (code "s")) (λ e o. one-ascii (code "s") (omega arith) c e) (λ e o. not-on (isAlpha c) q o)
-  stop-ascii Second = not-on (isAlpha c) q
+  stop-ascii UnitS = not-on (isAlpha c) q
   stop-ascii Digits = either OnAscii (isUnit c) (λ e o. unit-ascii c e) (λ e o. not-on true q o)
 
   pub on-ascii : (p : Part) → OnAscii (turnOf p c)
@@ -50,7 +50,7 @@ on-inside p q xs n e = ascii-inside xs n (on-ascii q (peekAt xs n) p e)
 end-turned : (p : Part) (n : ℕ) (rest : Numeral) → durationFrom p n [] ≡ turned (turnOf p end) n rest
 unfolding durationFrom turnOf stopOf isUnit isAlpha isWithin
 end-turned Unit n rest = refl
-end-turned Second n rest = refl
+end-turned UnitS n rest = refl
 end-turned Digits n rest = refl
 
 turned-at : (p : Part) (n : ℕ) (xs : List ℕ) (i : ℕ)

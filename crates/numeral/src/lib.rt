@@ -15,7 +15,7 @@ pub enum Numeral {
 // What a duration was read through to: a unit, a unit and an s, or digits.
 pub enum Part {
     Unit,
-    Second,
+    UnitS,
     Digits,
 }
 
@@ -95,10 +95,10 @@ fn stop_of(part: Part, c: usize) -> Turn
         }
         Part::Unit => {
             if c == b's' as usize {
-                return Turn::On(Part::Second);
+                return Turn::On(Part::UnitS);
             }
         }
-        Part::Second => {}
+        Part::UnitS => {}
     }
     if scan::is_alpha(c) {
         Turn::Fails

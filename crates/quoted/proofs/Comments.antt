@@ -32,6 +32,13 @@ line-within xs = omega (arith, run-within (isIn Line) xs 0)
 to-the-end : (xs : List ℕ) → ltb (runEnd (isIn Line) xs 0) (length xs) ≡ false → runEnd (isIn Line) xs 0 ≡ length xs
 to-the-end xs e = omega (arith, ltb-false (runEnd (isIn Line) xs 0) (length xs) e, line-within xs)
 
+-- in any case it ends within the bytes
+pub comment-few : (xs : List ℕ) → commentEnd xs ≤ length xs
+unfolding commentEnd
+comment-few xs =
+    let n = runEnd (isIn Line) xs 0 in
+    either (λ m. m ≤ length xs) (ltb n (length xs)) (λ e. ltb-true n (length xs) e) (λ e. line-within xs)
+
 pub comment-within : CommentWithin
 unfolding commentEnd
 comment-within xs b =

@@ -5,8 +5,8 @@ use mathlib.Core.List.{List, _∷_, _++_}
 use mathlib.Core.Logic.{_⊎_}
 use mathlib.Core.Path.{_≡_}
 use lib.ListN.{length}
-use Rattle.scan.specs.Byte.{end, peekAt}
-use Rattle.scan.specs.Edge.{Edge}
+use Rattle.scan.specs.Byte.{end}
+use Rattle.scan.specs.Edge.{Edge, Bytes}
 use Rattle.quoted.specs.declared.Quoted.{Quoted}
 use Rattle.quoted.specs.declared.Quoted.the-variants.{Closed, Refused}
 use Rattle.quoted.specs.Quoted.{quotedOf, commentEnd}
@@ -24,9 +24,9 @@ StringWithin = (symbol : ℕ) (xs : List ℕ) → symbol < 0x80 → Lies xs (quo
 abbrev pub StringSeam : Type 0
 StringSeam = (symbol : ℕ) (xs ys : List ℕ) (n : ℕ) → quotedOf symbol xs ≡ Closed n → quotedOf symbol (xs ++ ys) ≡ Closed n
 
--- a comment ends within the bytes, behind one that is ASCII or at the end; `end`, which is no byte, would end its line too
+-- a comment ends within the bytes, behind one that is ASCII or at the end
 abbrev pub CommentWithin : Type 0
-CommentWithin = (xs : List ℕ) → ((i : ℕ) → i < length xs → peekAt xs i < end) → Edge xs (commentEnd xs)
+CommentWithin = (xs : List ℕ) → Bytes xs → Edge xs (commentEnd xs)
 
 -- a newline behind the bytes changes nothing, but that a comment that runs to the end takes it in
 abbrev pub CommentSeam : Type 0

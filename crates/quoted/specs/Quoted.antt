@@ -12,7 +12,7 @@ use Rattle.scan.specs.Text.{has}
 use Rattle.quoted.specs.declared.Quoted.{Quoted}
 use Rattle.quoted.specs.declared.Quoted.the-variants.{Closed, Refused}
 
--- 21 "unknown escape", 22 "end after a backslash", 23 "end in a string"
+-- 21 "unknown escape", at the "character after the backslash"; 22 "end after a backslash", 23 "end in a string", at the end
 abbrev pub unknownEscape : ℕ
 unknownEscape = 21
 
@@ -22,7 +22,7 @@ endInEscape = 22
 abbrev pub endInString : ℕ
 endInString = 23
 
--- "A backslash must be followed by that sign or one of `abfnrtv\01234567xuU`."
+-- "A backslash must be followed by that sign or one of `abfnrtv\01234567xuU`. This holds for backquotes too."
 unfoldable pub isEscape : ℕ → ℕ → Bool
 isEscape symbol c = eqb c symbol || has c (ascii "abfnrtv\\01234567xuU")
 
