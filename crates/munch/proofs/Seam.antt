@@ -1,0 +1,235 @@
+-- What a newline behind the bytes does to a step. No word or number goes on with it, a closed string is read up to its closing sign alone, and
+-- each test of the byte behind the first takes a newline as it takes the end, or chooses between refusals: nothing changes. It ends a comment
+-- that nothing ended before. Behind a fill word and white space up to the end, what follows the newline may be a parenthesis.
+use Prim.Native.Nat.{ℕ, suc, _<_, _≤_}
+use Prim.Native.Char.{code}
+use native.Mathlib.Decide.{decLt}
+use native.Mathlib.Nat.{le-of-eq}
+use native.Mathlib.Omega.{arith}
+use mathlib.Core.Bool.{Bool, true, false, cond}
+use mathlib.Core.List.{List, [], _∷_, _++_}
+use mathlib.Core.Logic.{_⊎_, inl, inr}
+use mathlib.Core.Path.{_≡_, refl, sym}
+use lib.Dec.{eqb}
+use lib.ListN.{length, take, List·getD-append, List·getD-eq-default}
+use lib.Seq.{take-append-le}
+use Rattle.scan.specs.declared.Class.{Class}
+use Rattle.scan.specs.declared.Class.the-variants as class
+use Rattle.scan.specs.Byte.{end, peekAt, isWithin, isAlpha, isDigit, isAlphaNumeric, isWord, isIn}
+use Rattle.scan.specs.Run.{runEnd}
+use Rattle.scan.proofs.Choice.{either}
+use Rattle.scan.proofs.Runs.{run-within, run-append, run-inside, peek-append}
+use Rattle.token.specs.declared.Keyword.{Keyword}
+use Rattle.token.specs.declared.Keyword.the-variants as keyword
+use Rattle.numeral.proofs.Seam.{numeral-seam}
+use Rattle.quoted.specs.declared.Quoted.{Quoted}
+use Rattle.quoted.specs.declared.Quoted.the-variants as quoting
+use Rattle.quoted.specs.Quoted.{quotedOf, commentEnd}
+use Rattle.quoted.proofs.Strings.{string-seam}
+use Rattle.quoted.proofs.Comments.{comment-seam}
+use Rattle.munch.specs.declared.Inside.{Inside}
+use Rattle.munch.specs.declared.Inside.the-variants.{Nothing, Braces, Brackets}
+use Rattle.munch.specs.declared.Mode.{Mode}
+use Rattle.munch.specs.declared.Step.{Step}
+use Rattle.munch.specs.declared.Step.the-variants.{Lexeme, Comment, Refused}
+use Rattle.munch.specs.declared.lead.Lead.{Lead}
+use Rattle.munch.specs.declared.lead.Lead.the-variants as lead
+use Rattle.munch.specs.declared.lead.BraceLead.{BraceLead}
+use Rattle.munch.specs.declared.lead.BraceLead.the-variants as brace
+use Rattle.munch.specs.declared.lead.BracketLead.{BracketLead}
+use Rattle.munch.specs.declared.lead.BracketLead.the-variants as bracket
+use Rattle.munch.specs.Kinds.{identifier, lss, lte, gtr, gte}
+use Rattle.munch.specs.Lead.{leadOf, braceLeadOf, bracketLeadOf}
+use Rattle.munch.specs.Munch.{mode, numberStep, dotStep, quotedBy, quotedStep, commentStep, wordStep, equalsStep, bangStep, compareStep, outsideStep, braceWord, braceEquals, braceBang, braceStep, bracketStep, stepIn, munchedBy}
+use Rattle.munch.specs.Word.{isFill, isCalled, ruleBy, isOr, braceRule, kindBy}
+use Rattle.munch.specs.Laws.{Seam, same, grown, called, refused, StepSeam}
+
+-- no word goes on with a newline, and it is no digit, as the end is none
+word-line : isIn class.Word (code "\n") ≡ false
+unfolding isIn isWord isAlphaNumeric isAlpha isWithin
+word-line = refl
+
+brace-word-line : isIn class.AlphaNumeric (code "\n") ≡ false
+unfolding isIn isAlphaNumeric isAlpha isWithin
+brace-word-line = refl
+
+digit-line : isDigit (code "\n") ≡ isDigit end
+unfolding isWithin
+digit-line = refl
+
+abbrev lined : List ℕ → List ℕ → List ℕ
+lined xs ys = xs ++ code "\n" ∷ ys
+
+-- what follows a word of n bytes: a parenthesis behind white space that ends within the bytes stays; up to the end there is none
+module _ (xs ys : List ℕ) (n : ℕ) where
+  called-stays : runEnd (isIn class.Space) xs n < length xs → isCalled (lined xs ys) n ≡ isCalled xs n
+  called-stays h =
+      rw (run-inside (isIn class.Space) xs (code "\n" ∷ ys) n h, List·getD-append xs (code "\n" ∷ ys) end (runEnd (isIn class.Space) xs n) h)
+
+  not-called : runEnd (isIn class.Space) xs n ≡ length xs → isCalled xs n ≡ false
+  not-called e = rw (List·getD-eq-default xs end (le-of-eq (sym e)))
+
+  or-line : n ≤ length xs → isOr (lined xs ys) n ≡ isOr xs n
+  unfolding isOr
+  or-line l = rw (take-append-le n xs (code "\n" ∷ ys) l, peek-append (λ c. eqb c (code " ")) (code "\n") refl xs ys n l)
+
+-- so a word's kind stays, but for that of a fill word
+module _ (look : List ℕ → Keyword) (m : Mode) (xs ys : List ℕ) (n : ℕ) (l : n ≤ length xs) where
+  fill-seam : (k : ℕ) → look (take n xs) ≡ keyword.Kind k → (b : Bool) → isFill k ≡ b → Dec (runEnd (isIn class.Space) xs n < length xs)
+      → Seam look xs (Lexeme (kindBy (ruleBy (keyword.Kind k) xs n)) n m) (Lexeme (kindBy (ruleBy (keyword.Kind k) (lined xs ys) n)) n m)
+  unfolding ruleBy kindBy
+  fill-seam k e false f d = rw f (same (Lexeme k n m))
+  fill-seam k e true f (yes h) = rw (f, called-stays xs ys n h) (same _)
+  fill-seam k e true f (no h) =
+      let g : runEnd (isIn class.Space) xs n ≡ length xs = omega (arith, run-within (isIn class.Space) xs n) in
+      rw (f, not-called xs ys n g)
+      (either (λ r. Seam look xs (Lexeme identifier n m) (Lexeme (kindBy r) n m)) (isCalled (lined xs ys) n) (λ c. called k n m e f g) (λ c. same (Lexeme identifier n m)))
+
+  rule-seam : (w : Keyword) → look (take n xs) ≡ w → Seam look xs (Lexeme (kindBy (ruleBy w xs n)) n m) (Lexeme (kindBy (ruleBy w (lined xs ys) n)) n m)
+  unfolding ruleBy
+  rule-seam (keyword.Kind k) e = fill-seam k e (isFill k) refl (decLt (runEnd (isIn class.Space) xs n) (length xs))
+  rule-seam keyword.Nothing e = rw (take-append-le n xs (code "\n" ∷ ys) l) (same _)
+
+module _ (look : List ℕ → Keyword) (x : ℕ) (xs ys : List ℕ) where
+  abbrev Seamed : Step → Step → Type 0
+  Seamed = Seam look (x ∷ xs)
+
+  abbrev on : List ℕ
+  on = lined (x ∷ xs) ys
+
+  -- the rule of a look-ahead: a test of the byte behind the first that takes a newline as it takes the end chooses as before
+  next-seam : (p : ℕ → Bool) → p (code "\n") ≡ p end → {s t u v : Step} → Seamed s u → Seamed t v → Seamed (cond (p (peekAt (x ∷ xs) 1)) s t) (cond (p (peekAt on 1)) u v)
+  next-seam p e {s} {t} {u} {v} f g = rw (peek-append p (code "\n") e (x ∷ xs) ys 1 (omega arith)) (go (p (peekAt (x ∷ xs) 1)))
+    where
+      go : (b : Bool) → Seamed (cond b s t) (cond b u v)
+      go true = f
+      go false = g
+
+  -- and which of two refusals is chosen does not matter
+  refusals-seam : (b : Bool) (r o q p : ℕ) (s : Step) → Seamed (cond b (Refused r o) (Refused q p)) s
+  refusals-seam b r o q p s = either (λ t. Seamed t s) b (λ e. refused r o s) (λ e. refused q p s)
+
+  -- a run of a class that has no newline
+  run-line : (k : Class) → isIn k (code "\n") ≡ false → runEnd (isIn k) on 1 ≡ runEnd (isIn k) (x ∷ xs) 1
+  run-line k e = run-append (isIn k) (x ∷ xs) (code "\n") ys e 1 (omega arith)
+
+  run-bound : (k : Class) → runEnd (isIn k) (x ∷ xs) 1 ≤ suc (length xs)
+  run-bound k = omega (arith, run-within (isIn k) (x ∷ xs) 1)
+
+  comment-seamed : Seamed (commentStep (x ∷ xs)) (commentStep on)
+  unfolding commentStep
+  comment-seamed = go (comment-seam xs ys)
+    where
+      go : (commentEnd (lined xs ys) ≡ commentEnd xs) ⊎ ((commentEnd xs ≡ length xs) × (commentEnd (lined xs ys) ≡ suc (length xs))) → Seamed (Comment (suc (commentEnd xs))) (Comment (suc (commentEnd (lined xs ys))))
+      go (inl e) = rw e (same _)
+      go (inr e) = rw (e .0, e .1) grown
+
+  module _ (m : Mode) where
+    word-seam : Seamed (wordStep look m (x ∷ xs)) (wordStep look m on)
+    unfolding wordStep
+    word-seam =
+        let n = runEnd (isIn class.Word) (x ∷ xs) 1 in
+        rw (run-line class.Word word-line, take-append-le n (x ∷ xs) (code "\n" ∷ ys) (run-bound class.Word))
+        (rule-seam look m (x ∷ xs) ys n (run-bound class.Word) (look (take n (x ∷ xs))) refl)
+
+    brace-word-seam : Seamed (braceWord m (x ∷ xs)) (braceWord m on)
+    unfolding braceWord braceRule
+    brace-word-seam =
+        let n = runEnd (isIn class.AlphaNumeric) (x ∷ xs) 1 in
+        rw (run-line class.AlphaNumeric brace-word-line, or-line (x ∷ xs) ys n (run-bound class.AlphaNumeric)) (same _)
+
+    number-seam : Seamed (numberStep m (x ∷ xs)) (numberStep m on)
+    unfolding numberStep
+    number-seam = rw (numeral-seam (x ∷ xs) ys) (same _)
+
+    dot-seam : Seamed (dotStep m (x ∷ xs)) (dotStep m on)
+    unfolding dotStep
+    dot-seam = next-seam isDigit digit-line number-seam (refusals-seam (eqb (peekAt (x ∷ xs) 1) end) 15 0 14 1 _)
+
+    quoted-seam : Seamed (quotedStep m (x ∷ xs)) (quotedStep m on)
+    unfolding quotedStep
+    quoted-seam = go (quotedOf x xs) refl
+      where
+        go : (r : Quoted) → quotedOf x xs ≡ r → Seamed (quotedBy m r) (quotedBy m (quotedOf x (lined xs ys)))
+        go (quoting.Closed n) e = rw (string-seam x xs (code "\n" ∷ ys) n e) (same _)
+        go (quoting.Refused r n) e = refused r (suc n) _
+
+    equals-seam : Seamed (equalsStep m (x ∷ xs)) (equalsStep m on)
+    unfolding equalsStep
+    equals-seam = next-seam (λ c. eqb c (code "=")) refl (same _) (next-seam (λ c. eqb c (code "~")) refl (same _) (same _))
+
+    bang-seam : Seamed (bangStep m (x ∷ xs)) (bangStep m on)
+    unfolding bangStep
+    bang-seam = next-seam (λ c. eqb c (code "=")) refl (same _) (refusals-seam (eqb (peekAt (x ∷ xs) 1) end) 13 1 12 1 _)
+
+    compare-seam : (equal alone : ℕ) → Seamed (compareStep equal alone m (x ∷ xs)) (compareStep equal alone m on)
+    unfolding compareStep
+    compare-seam equal alone = next-seam (λ c. eqb c (code "=")) refl (same _) (same _)
+
+    regex-seam : Seamed (braceEquals m (x ∷ xs)) (braceEquals m on)
+    unfolding braceEquals
+    regex-seam = next-seam (λ c. eqb c (code "~")) refl (same _) (same _)
+
+    brace-bang-seam : Seamed (braceBang m (x ∷ xs)) (braceBang m on)
+    unfolding braceBang
+    brace-bang-seam =
+        next-seam (λ c. eqb c (code "=")) refl (same _)
+        (next-seam (λ c. eqb c (code "~")) refl (same _) (refusals-seam (eqb (peekAt (x ∷ xs) 1) end) 13 1 24 1 _))
+
+  module _ (d : ℕ) where
+    outside-seam : (k : Lead) → Seamed (outsideStep look d (x ∷ xs) k) (outsideStep look d on k)
+    unfolding outsideStep
+    outside-seam lead.Letter = word-seam (mode d Nothing)
+    outside-seam lead.White = same _
+    outside-seam lead.Hash = comment-seamed
+    outside-seam lead.Quote = quoted-seam (mode d Nothing)
+    outside-seam (lead.Sign k) = same _
+    outside-seam lead.Digit = number-seam (mode d Nothing)
+    outside-seam lead.Dot = dot-seam (mode d Nothing)
+    outside-seam lead.Equals = equals-seam (mode d Nothing)
+    outside-seam lead.Bang = bang-seam (mode d Nothing)
+    outside-seam lead.Less = compare-seam (mode d Nothing) lte lss
+    outside-seam lead.Greater = compare-seam (mode d Nothing) gte gtr
+    outside-seam lead.LeftParen = same _
+    outside-seam lead.RightParen = same _
+    outside-seam lead.LeftBrace = same _
+    outside-seam lead.RightBrace = same _
+    outside-seam lead.LeftBracket = same _
+    outside-seam lead.RightBracket = same _
+    outside-seam lead.End = same _
+    outside-seam lead.Other = same _
+
+    brace-seam : (k : BraceLead) → Seamed (braceStep d (x ∷ xs) k) (braceStep d on k)
+    unfolding braceStep
+    brace-seam brace.Letter = brace-word-seam (mode d Braces)
+    brace-seam brace.White = same _
+    brace-seam brace.Hash = comment-seamed
+    brace-seam brace.Quote = quoted-seam (mode d Braces)
+    brace-seam brace.Comma = same _
+    brace-seam brace.Equals = regex-seam (mode d Braces)
+    brace-seam brace.Bang = brace-bang-seam (mode d Braces)
+    brace-seam brace.RightBrace = same _
+    brace-seam brace.LeftBrace = same _
+    brace-seam brace.End = same _
+    brace-seam brace.Other = same _
+
+    bracket-seam : (seen fresh : Bool) (k : BracketLead) → Seamed (bracketStep d seen fresh (x ∷ xs) k) (bracketStep d seen fresh on k)
+    unfolding bracketStep
+    bracket-seam seen fresh bracket.Digit = number-seam (mode d (Brackets seen false))
+    bracket-seam seen fresh bracket.White = same _
+    bracket-seam seen fresh bracket.Colon = same _
+    bracket-seam seen fresh bracket.RightBracket = same _
+    bracket-seam seen fresh bracket.LeftBracket = same _
+    bracket-seam seen fresh bracket.End = same _
+    bracket-seam seen fresh bracket.Other = same _
+
+    -- the first byte, and so what it begins, stays
+    inside-seam : (i : Inside) → Seamed (stepIn look d i (x ∷ xs)) (stepIn look d i on)
+    inside-seam Nothing = outside-seam (leadOf x)
+    inside-seam Braces = brace-seam (braceLeadOf x)
+    inside-seam (Brackets seen fresh) = bracket-seam seen fresh (bracketLeadOf x)
+
+pub step-seam : StepSeam
+unfolding munchedBy
+step-seam look m [] ys h = absurd (omega arith)
+step-seam look m (x ∷ xs) ys h = inside-seam look x xs ys (m .depth) (m .inside)

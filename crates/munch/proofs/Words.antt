@@ -1,0 +1,31 @@
+-- The test of the word `or` by its bytes: a word of two bytes is the text `or` where both are its letters, and one of another length is not.
+use Prim.Native.Nat.{ℕ, _≤_}
+use Prim.Native.Char.{code}
+use native.Mathlib.Omega.{arith}
+use mathlib.Core.Bool.{Bool, true, false, _&&_}
+use mathlib.Core.List.{List, [], _∷_, map}
+use mathlib.Core.Path.{_≡_, refl, sym, _∙_}
+use lib.Dec.{eqb}
+use lib.ListN.{length, take, length-map}
+use lib.Seq.{length-take-le}
+use Rattle.scan.specs.Ascii.{ascii}
+use Rattle.scan.specs.Byte.{peekAt, lowered}
+use Rattle.scan.specs.Text.{sameText}
+use Rattle.scan.proofs.Same.{same-not}
+use Rattle.munch.specs.Word.{isOr}
+
+pub or-letters : (xs : List ℕ) → 2 ≤ length xs → isOr xs 2 ≡ eqb (lowered (peekAt xs 0)) (code "o") && (eqb (lowered (peekAt xs 1)) (code "r") && eqb (peekAt xs 2) (code " "))
+unfolding isOr sameText
+or-letters [] h = absurd (omega arith)
+or-letters (a ∷ []) h = absurd (omega arith)
+or-letters (a ∷ b ∷ xs) h = go (eqb (lowered a) (code "o")) (eqb (lowered b) (code "r")) (eqb (peekAt xs 0) (code " "))
+  where
+    go : (x y z : Bool) → (x && (y && true)) && z ≡ x && (y && z)
+    go true true z = refl
+    go true false z = refl
+    go false y z = refl
+
+pub or-other : (xs : List ℕ) (n : ℕ) → n ≤ length xs → (n ≡ 2 → ⊥) → isOr xs n ≡ false
+unfolding isOr
+or-other xs n h d =
+    rw (same-not (map lowered (take n xs)) (ascii "or") (λ e. d (sym (length-map (take n xs) lowered ∙ length-take-le n xs h) ∙ e)))

@@ -1,0 +1,31 @@
+-- The word is the run, and its kind that of its rule.
+use native.Mathlib.Omega.{arith}
+use denote.Ref.{now}
+use Rattle.scan.specs.declared.Class.the-variants.{AlphaNumeric}
+use Rattle.scan.specs.Byte.{isIn}
+use Rattle.scan.proofs.Runs.{run-within}
+use Rattle.munch.specs.Munch.{braceWord}
+use borrow.Author.Needs.{needs}
+use Rattle.munch.proofs.brace_word.Statement.{statement}
+use Rattle.munch.proofs.brace_word.Tie as tie
+
+run-end-requires : tie.Need-run-end-requires
+run-end-requires c κs = search needs
+
+brace-rule-requires : tie.Need-brace-rule-requires
+brace-rule-requires c κs = omega (arith, c .run-end .ensures, run-within (isIn AlphaNumeric) (now (c .before .before .args .s)) 1)
+
+kind-by-requires : tie.Need-kind-by-requires
+kind-by-requires c κs = search needs
+
+lexeme-requires : tie.Need-lexeme-requires
+lexeme-requires c κs = search needs
+
+returns : tie.Need-returns
+unfolding braceWord
+returns c = rw (c .lexeme .ensures, c .before .kind-by .ensures, c .before .before .brace-rule .ensures, c .before .before .before .run-end .ensures)
+
+pub brace-word-spec : {M : Type 1} → statement M
+brace-word-spec =
+    tie.close
+    (tie.spec run-end-requires brace-rule-requires kind-by-requires lexeme-requires returns)

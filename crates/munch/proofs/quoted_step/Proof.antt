@@ -1,0 +1,89 @@
+-- The arms are those of the definition, of the bytes behind the sign; what is taken of these is within them.
+use native.Mathlib.Numerals.{add-one}
+use native.Mathlib.Omega.{arith}
+use mathlib.Core.Path.{_≡_, sym, ap₂, subst, _∙_}
+use denote.Ref.{now}
+use lib.ListN.{drop, length-drop}
+use Rattle.scan.specs.Byte.{end, peekAt}
+use Rattle.scan.proofs.Classes.{getD-any}
+use Rattle.scan.proofs.Edges.{edge-within}
+use Rattle.utf8.proofs.Chars.{rest-of}
+use Rattle.quoted.specs.declared.Quoted.{Quoted}
+use Rattle.quoted.specs.Quoted.{quotedOf}
+use Rattle.quoted.specs.Laws.{Lies}
+use Rattle.quoted.proofs.Strings.{string-within}
+use Rattle.munch.specs.Munch.{quotedStep}
+use Rattle.munch.proofs.Leads.{begun-inside, quote-ascii}
+use borrow.Author.Needs.{needs}
+use Rattle.munch.proofs.quoted_step.Statement.{statement}
+use Rattle.munch.proofs.quoted_step.Tie as tie
+
+shared-slice-read-accept-string : tie.Need-shared-slice-read-accept-string
+shared-slice-read-accept-string c = search (needs, begun-inside quote-ascii (now (c .before .before .args .s)) (c .before .before .pre))
+
+sub-accept-string : tie.Need-sub-accept-string
+sub-accept-string c = search (needs, begun-inside quote-ascii (now (c .before .before .args .s)) (c .before .before .pre))
+
+part-accept-string-start : tie.Need-part-accept-string-start
+part-accept-string-start c = search (needs, begun-inside quote-ascii (now (c .before .before .args .s)) (c .before .before .pre))
+
+part-accept-string-end : tie.Need-part-accept-string-end
+part-accept-string-end c = search (needs, begun-inside quote-ascii (now (c .before .before .args .s)) (c .before .before .pre))
+
+accept-string-requires : tie.Need-accept-string-requires
+accept-string-requires c κs = search needs
+
+-- what the string is, of the bytes behind the sign
+there : (c : tie.After-accept-string) → let s = now (c .before .before .before .before .args .s) in c .accept-string .result ≡ quotedOf (peekAt s 0) (drop 1 s)
+there c =
+    let s = now (c .before .before .before .before .args .s) in
+    c .accept-string .ensures ∙ ap₂ quotedOf (getD-any s 0 0 end (begun-inside quote-ascii s (c .before .before .before .before .pre))) (rest-of s 1)
+
+lies : (c : tie.After-accept-string) {q : Quoted} → c .accept-string .result ≡ q → Lies (drop 1 (now (c .before .before .before .before .args .s))) q
+lies c e =
+    let s = now (c .before .before .before .before .args .s) in
+    subst (Lies (drop 1 s)) (sym (there c) ∙ e) (string-within (peekAt s 0) (drop 1 s) (quote-ascii (peekAt s 0) (c .before .before .before .before .pre)))
+
+enum-known-q : tie.Need-enum-known-q
+enum-known-q c = search needs
+
+add-lexeme : tie.Need-add-lexeme
+add-lexeme c = omega (arith, edge-within (lies (c .before .before .before) (c .before .q .given .1) .1), length-drop 1 (now (c .before .before .before .before .before .before .before .args .s)))
+
+lexeme-requires : tie.Need-lexeme-requires
+lexeme-requires c κs = search needs
+
+enum-known-q-2 : tie.Need-enum-known-q-2
+enum-known-q-2 c = search needs
+
+add-refused : tie.Need-add-refused
+add-refused c = omega (arith, edge-within (lies (c .before .before .before) (c .before .q2 .given .1)), length-drop 1 (now (c .before .before .before .before .before .before .before .args .s)))
+
+refused-requires : tie.Need-refused-requires
+refused-requires c κs = search needs
+
+returns : tie.Need-returns
+unfolding quotedStep
+returns c = c .lexeme .ensures ∙ rw (← there (c .before .before .before .before), c .before .before .q .given .1, add-one)
+
+returns-2 : tie.Need-returns-2
+unfolding quotedStep
+returns-2 c = c .refused .ensures ∙ rw (← there (c .before .before .before .before), c .before .before .q2 .given .1, add-one)
+
+pub quoted-step-spec : {M : Type 1} → statement M
+quoted-step-spec =
+    tie.close
+    (tie.spec
+    shared-slice-read-accept-string
+    sub-accept-string
+    part-accept-string-start
+    part-accept-string-end
+    accept-string-requires
+    enum-known-q
+    add-lexeme
+    lexeme-requires
+    enum-known-q-2
+    add-refused
+    refused-requires
+    returns
+    returns-2)

@@ -1,0 +1,407 @@
+// One step of reading a query: what the bytes that are left begin with, by the mode that those before have led to.
+// What a first byte begins stands in `lead`, the rule that gives a word its kind in `word`.
+mod lead;
+mod word;
+
+use lead::BraceLead;
+use lead::BracketLead;
+use lead::Lead;
+use numeral::Numeral;
+use quoted::Quoted;
+use scan::Class;
+use token::kinds;
+ghost use mathlib.Core.Path.{_≡_};
+ghost use mathlib.Core.Bool.{true};
+ghost use Prim.Native.Nat.{_<_};
+ghost use lib.ListN.{length};
+ghost use Rattle.scan.specs.Byte.{peekAt};
+ghost use Rattle.token.specs.WordRows.{keywordIn};
+ghost use Rattle.munch.specs.Lead.{isQuote, leadOf, braceLeadOf, bracketLeadOf};
+ghost use Rattle.munch.specs.Munch.{mode, deeper, ifNext, numberStep, dotStep, quotedStep, commentStep, wordStep, equalsStep, bangStep, compareStep, leftBracketStep, rightParenStep, endStep, outsideStep, braceWord, braceEquals, braceBang, braceStep, colonStep, bracketStep, munchedBy, munched};
+
+// What is open inside a query's parentheses: nothing, braces, or brackets; of these, whether their colon was seen, and whether they were just
+// opened.
+pub enum Inside {
+    Nothing,
+    Braces,
+    Brackets { seen: bool, fresh: bool },
+}
+
+// How many parentheses are open, and what is in them.
+pub struct Mode {
+    pub depth: usize,
+    pub inside: Inside,
+}
+
+// What the bytes that are left begin with: a lexeme, a byte of white space, a comment, what is refused and where, or nothing.
+pub enum Step {
+    Lexeme {
+        kind: u16,
+        length: usize,
+        mode: Mode,
+    },
+    Space {
+        mode: Mode,
+    },
+    Comment {
+        length: usize,
+    },
+    Refused {
+        number: usize,
+        at: usize,
+    },
+    Finished,
+}
+
+// Document 01's refusals, in its order.
+const UNCLOSED_PAREN: usize = 10;
+
+const REGEX_OUTSIDE: usize = 11;
+
+const AFTER_BANG: usize = 12;
+
+const END_AFTER_BANG: usize = 13;
+
+const AFTER_DOT: usize = 14;
+
+const END_AFTER_DOT: usize = 15;
+
+const UNMATCHED_PAREN: usize = 16;
+
+const UNMATCHED_BRACE: usize = 17;
+
+const UNMATCHED_BRACKET: usize = 18;
+
+const OTHER: usize = 19;
+
+const NEITHER_NUMBER_NOR_DURATION: usize = 20;
+
+const AFTER_BANG_IN_BRACES: usize = 24;
+
+const BRACE_IN_BRACES: usize = 25;
+
+const OTHER_IN_BRACES: usize = 26;
+
+const END_IN_BRACES: usize = 27;
+
+const SECOND_COLON: usize = 28;
+
+const COLON_FIRST: usize = 29;
+
+const BRACKET_IN_BRACKETS: usize = 30;
+
+const OTHER_IN_BRACKETS: usize = 31;
+
+const END_IN_BRACKETS: usize = 32;
+
+// A lexeme of a kind.
+fn lexeme(kind: u16, length: usize, mode: Mode) -> Step
+    ensures { λ r. ⌜ r ≡ Step.Lexeme kind length mode ⌝ }
+{
+    Step::Lexeme { kind, length, mode }
+}
+
+// A refusal at an offset.
+fn refused(number: usize, at: usize) -> Step
+    ensures { λ r. ⌜ r ≡ Step.Refused number at ⌝ }
+{
+    Step::Refused { number, at }
+}
+
+// One parenthesis more, so far as they can be counted.
+fn deeper(depth: usize) -> usize
+    ensures { λ r. ⌜ r ≡ deeper depth ⌝ }
+{
+    if depth < usize::MAX { depth + 1 } else { depth }
+}
+
+// One step where a byte, or the end, follows the first, else another.
+fn if_next(s: &[u8], c: usize, two: Step, one: Step) -> Step
+    ensures { λ r. ⌜ r ≡ ifNext (now (s .entry)) c two one ⌝ }
+{
+    if scan::peek(s, 1) == c { two } else { one }
+}
+
+// A number or a duration.
+fn number_step(s: &[u8], mode: Mode) -> Step
+    ensures { λ r. ⌜ r ≡ numberStep mode (now (s .entry)) ⌝ }
+{
+    let n = numeral::scan_number(s);
+    match n {
+        Numeral::Number(length) => lexeme(kinds::T_NUMBER, length, mode),
+        Numeral::Duration(length) => lexeme(kinds::T_DURATION, length, mode),
+        Numeral::Neither(at) => refused(NEITHER_NUMBER_NOR_DURATION, at),
+    }
+}
+
+// A string.
+fn quoted_step(s: &[u8], mode: Mode) -> Step
+    requires { ⌜ isQuote (peekAt (now s) 0) ≡ true ⌝ }
+    ensures { λ r. ⌜ r ≡ quotedStep mode (now (s .entry)) ⌝ }
+{
+    let q = quoted::accept_string(s[0], &s[1..]);
+    match q {
+        Quoted::Closed(n) => lexeme(kinds::T_STRING, n + 1, mode),
+        Quoted::Refused { number, at } => refused(number, at + 1),
+    }
+}
+
+// A comment.
+fn comment_step(s: &[u8]) -> Step
+    requires { ⌜ 0 < length (now s) ⌝ }
+    ensures { λ r. ⌜ r ≡ commentStep (now (s .entry)) ⌝ }
+{
+    let length = 1 + quoted::comment_end(&s[1..]);
+    Step::Comment { length }
+}
+
+// A word outside braces, by a table of words.
+fn word_step(words: &[u8], s: &[u8], mode: Mode) -> Step
+    requires { ⌜ 0 < length (now s) ⌝ }
+    ensures { λ r. ⌜ r ≡ wordStep (keywordIn (now (words .entry))) mode (now (s .entry)) ⌝ }
+{
+    let n = scan::run_end(Class::Word, s, 1);
+    let own = token::keyword_in(words, &s[..n]);
+    let kind = word::kind_by(word::rule_by(own, s, n));
+    lexeme(kind, n, mode)
+}
+
+// A word in braces.
+fn brace_word(s: &[u8], mode: Mode) -> Step
+    requires { ⌜ 0 < length (now s) ⌝ }
+    ensures { λ r. ⌜ r ≡ braceWord mode (now (s .entry)) ⌝ }
+{
+    let n = scan::run_end(Class::AlphaNumeric, s, 1);
+    let kind = word::kind_by(word::brace_rule(s, n));
+    lexeme(kind, n, mode)
+}
+
+// A mode.
+fn in_mode(depth: usize, inside: Inside) -> Mode
+    ensures { λ r. ⌜ r ≡ mode depth inside ⌝ }
+{
+    Mode { depth, inside }
+}
+
+// A point outside: a digit has to follow.
+fn dot_step(s: &[u8], mode: Mode) -> Step
+    ensures { λ r. ⌜ r ≡ dotStep mode (now (s .entry)) ⌝ }
+{
+    if scan::is_digit(scan::peek(s, 1)) {
+        return number_step(s, mode);
+    }
+    if_next(
+        s,
+        scan::END,
+        refused(END_AFTER_DOT, 0),
+        refused(AFTER_DOT, 1),
+    )
+}
+
+// An equals sign outside.
+fn equals_step(s: &[u8], mode: Mode) -> Step
+    ensures { λ r. ⌜ r ≡ equalsStep mode (now (s .entry)) ⌝ }
+{
+    let one = if_next(
+        s,
+        b'~' as usize,
+        refused(REGEX_OUTSIDE, 1),
+        lexeme(kinds::T_EQL, 1, mode),
+    );
+    if_next(s, b'=' as usize, lexeme(kinds::T_EQLC, 2, mode), one)
+}
+
+// An exclamation mark outside.
+fn bang_step(s: &[u8], mode: Mode) -> Step
+    ensures { λ r. ⌜ r ≡ bangStep mode (now (s .entry)) ⌝ }
+{
+    let one = if_next(
+        s,
+        scan::END,
+        refused(END_AFTER_BANG, 1),
+        refused(AFTER_BANG, 1),
+    );
+    if_next(s, b'=' as usize, lexeme(kinds::T_NEQ, 2, mode), one)
+}
+
+// A sign that compares, alone or with an equals sign.
+fn compare_step(s: &[u8], equal: u16, alone: u16, mode: Mode) -> Step
+    ensures { λ r. ⌜ r ≡ compareStep equal alone mode (now (s .entry)) ⌝ }
+{
+    if_next(
+        s,
+        b'=' as usize,
+        lexeme(equal, 2, mode),
+        lexeme(alone, 1, mode),
+    )
+}
+
+// A closing parenthesis.
+fn right_paren(depth: usize) -> Step
+    ensures { λ r. ⌜ r ≡ rightParenStep depth ⌝ }
+{
+    if depth == 0 {
+        return refused(UNMATCHED_PAREN, 0);
+    }
+    lexeme(kinds::T_RIGHT_PAREN, 1, in_mode(depth - 1, Inside::Nothing))
+}
+
+// An opening bracket.
+fn left_bracket(depth: usize) -> Step
+    ensures { λ r. ⌜ r ≡ leftBracketStep depth ⌝ }
+{
+    let inside = Inside::Brackets {
+        seen: false,
+        fresh: true,
+    };
+    lexeme(kinds::T_LEFT_BRACKET, 1, in_mode(depth, inside))
+}
+
+// The end outside.
+fn end_step(depth: usize) -> Step
+    ensures { λ r. ⌜ r ≡ endStep depth ⌝ }
+{
+    if depth == 0 {
+        return Step::Finished;
+    }
+    refused(UNCLOSED_PAREN, 0)
+}
+
+// A step outside braces and brackets.
+fn outside_step(words: &[u8], s: &[u8], depth: usize) -> Step
+    ensures { λ r. ⌜ r ≡ outsideStep (keywordIn (now (words .entry))) depth (now (s .entry)) (leadOf (peekAt (now (s .entry)) 0)) ⌝ }
+{
+    let here = in_mode(depth, Inside::Nothing);
+    let l = lead::lead_of(scan::peek(s, 0));
+    match l {
+        Lead::Letter => word_step(words, s, here),
+        Lead::White => Step::Space { mode: here },
+        Lead::Hash => comment_step(s),
+        Lead::Quote => quoted_step(s, here),
+        Lead::Sign(kind) => lexeme(kind, 1, here),
+        Lead::Digit => number_step(s, here),
+        Lead::Dot => dot_step(s, here),
+        Lead::Equals => equals_step(s, here),
+        Lead::Bang => bang_step(s, here),
+        Lead::Less => compare_step(s, kinds::T_LTE, kinds::T_LSS, here),
+        Lead::Greater => compare_step(s, kinds::T_GTE, kinds::T_GTR, here),
+        Lead::LeftParen => lexeme(
+            kinds::T_LEFT_PAREN,
+            1,
+            in_mode(deeper(depth), Inside::Nothing),
+        ),
+        Lead::RightParen => right_paren(depth),
+        Lead::LeftBrace => lexeme(kinds::T_LEFT_BRACE, 1, in_mode(depth, Inside::Braces)),
+        Lead::RightBrace => refused(UNMATCHED_BRACE, 0),
+        Lead::LeftBracket => left_bracket(depth),
+        Lead::RightBracket => refused(UNMATCHED_BRACKET, 0),
+        Lead::End => end_step(depth),
+        Lead::Other => refused(OTHER, 0),
+    }
+}
+
+// An equals sign in braces.
+fn brace_equals(s: &[u8], mode: Mode) -> Step
+    ensures { λ r. ⌜ r ≡ braceEquals mode (now (s .entry)) ⌝ }
+{
+    if_next(
+        s,
+        b'~' as usize,
+        lexeme(kinds::T_EQL_REGEX, 2, mode),
+        lexeme(kinds::T_EQL, 1, mode),
+    )
+}
+
+// An exclamation mark in braces.
+fn brace_bang(s: &[u8], mode: Mode) -> Step
+    ensures { λ r. ⌜ r ≡ braceBang mode (now (s .entry)) ⌝ }
+{
+    let one = if_next(
+        s,
+        scan::END,
+        refused(END_AFTER_BANG, 1),
+        refused(AFTER_BANG_IN_BRACES, 1),
+    );
+    let other = if_next(s, b'~' as usize, lexeme(kinds::T_NEQ_REGEX, 2, mode), one);
+    if_next(s, b'=' as usize, lexeme(kinds::T_NEQ, 2, mode), other)
+}
+
+// A step in braces.
+fn brace_step(s: &[u8], depth: usize) -> Step
+    ensures { λ r. ⌜ r ≡ braceStep depth (now (s .entry)) (braceLeadOf (peekAt (now (s .entry)) 0)) ⌝ }
+{
+    let here = in_mode(depth, Inside::Braces);
+    let l = lead::brace_lead_of(scan::peek(s, 0));
+    match l {
+        BraceLead::Letter => brace_word(s, here),
+        BraceLead::White => Step::Space { mode: here },
+        BraceLead::Hash => comment_step(s),
+        BraceLead::Quote => quoted_step(s, here),
+        BraceLead::Comma => lexeme(kinds::T_COMMA, 1, here),
+        BraceLead::Equals => brace_equals(s, here),
+        BraceLead::Bang => brace_bang(s, here),
+        BraceLead::RightBrace => lexeme(kinds::T_RIGHT_BRACE, 1, in_mode(depth, Inside::Nothing)),
+        BraceLead::LeftBrace => refused(BRACE_IN_BRACES, 0),
+        BraceLead::End => refused(END_IN_BRACES, 0),
+        BraceLead::Other => refused(OTHER_IN_BRACES, 0),
+    }
+}
+
+// A colon in brackets.
+fn colon_step(depth: usize, seen: bool, fresh: bool) -> Step
+    ensures { λ r. ⌜ r ≡ colonStep depth seen fresh ⌝ }
+{
+    if seen {
+        return refused(SECOND_COLON, 0);
+    }
+    if fresh {
+        return refused(COLON_FIRST, 0);
+    }
+    let inside = Inside::Brackets {
+        seen: true,
+        fresh: false,
+    };
+    lexeme(kinds::T_COLON, 1, in_mode(depth, inside))
+}
+
+// A step in brackets.
+fn bracket_step(s: &[u8], depth: usize, seen: bool, fresh: bool) -> Step
+    ensures { λ r. ⌜ r ≡ bracketStep depth seen fresh (now (s .entry)) (bracketLeadOf (peekAt (now (s .entry)) 0)) ⌝ }
+{
+    let inside = Inside::Brackets { seen, fresh: false };
+    let here = in_mode(depth, inside);
+    let l = lead::bracket_lead_of(scan::peek(s, 0));
+    match l {
+        BracketLead::Digit => number_step(s, here),
+        BracketLead::White => Step::Space { mode: here },
+        BracketLead::Colon => colon_step(depth, seen, fresh),
+        BracketLead::RightBracket => lexeme(
+            kinds::T_RIGHT_BRACKET,
+            1,
+            in_mode(depth, Inside::Nothing),
+        ),
+        BracketLead::LeftBracket => refused(BRACKET_IN_BRACKETS, 0),
+        BracketLead::End => refused(END_IN_BRACKETS, 0),
+        BracketLead::Other => refused(OTHER_IN_BRACKETS, 0),
+    }
+}
+
+// What the bytes that are left begin with, by a table of words.
+pub fn munch_in(words: &[u8], s: &[u8], mode: Mode) -> Step
+    ensures { λ r. ⌜ r ≡ munchedBy (keywordIn (now (words .entry))) mode (now (s .entry)) ⌝ }
+{
+    let inside = mode.inside;
+    match inside {
+        Inside::Nothing => outside_step(words, s, mode.depth),
+        Inside::Braces => brace_step(s, mode.depth),
+        Inside::Brackets { seen, fresh } => bracket_step(s, mode.depth, seen, fresh),
+    }
+}
+
+// What the bytes that are left begin with.
+pub fn munch(s: &[u8], mode: Mode) -> Step
+    ensures { λ r. ⌜ r ≡ munched mode (now (s .entry)) ⌝ }
+{
+    let words = token::words();
+    munch_in(&words, s, mode)
+}

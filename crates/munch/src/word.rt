@@ -1,0 +1,91 @@
+// The rule that gives a word its kind. A word is the first n bytes of those that are left.
+use scan::Class;
+use token::Keyword;
+use token::kinds;
+ghost use mathlib.Core.Path.{_≡_};
+ghost use Prim.Native.Nat.{_≤_};
+ghost use lib.ListN.{length};
+ghost use Rattle.munch.specs.Word.{isFill, ruleBy, isOr, braceRule, kindBy};
+
+// `or` before a space in braces, any other word in braces; outside braces a word of the table that is no fill word, a fill word with `(`
+// next, white space aside, and without; a word with a colon, and any other.
+pub enum Rule {
+    Or,
+    InBraces,
+    Table(u16),
+    FillCalled(u16),
+    FillAlone,
+    WithColon,
+    Plain,
+}
+
+// How many bytes `or` has.
+const OR_LENGTH: usize = 2;
+
+// The kind of a fill word.
+fn is_fill(kind: u16) -> bool
+    ensures { λ r. ⌜ r ≡ isFill kind ⌝ }
+{
+    kinds::T_FILL <= kind && kind <= kinds::T_FILL_RIGHT
+}
+
+// The rule of a word outside braces, by the kind that it has of its own.
+pub fn rule_by(own: Keyword, s: &[u8], n: usize) -> Rule
+    requires { ⌜ n ≤ length (now s) ⌝ }
+    ensures { λ r. ⌜ r ≡ ruleBy own (now (s .entry)) n ⌝ }
+{
+    let Keyword::Kind(kind) = own else {
+        if scan::contains(&s[..n], b':') {
+            return Rule::WithColon;
+        }
+        return Rule::Plain;
+    };
+    if !is_fill(kind) {
+        return Rule::Table(kind);
+    }
+    if scan::peek(s, scan::run_end(Class::Space, s, n)) == b'(' as usize {
+        Rule::FillCalled(kind)
+    } else {
+        Rule::FillAlone
+    }
+}
+
+// Whether a word is `or` in any case, with a space next.
+fn is_or(s: &[u8], n: usize) -> bool
+    requires { ⌜ n ≤ length (now s) ⌝ }
+    ensures { λ r. ⌜ r ≡ isOr (now (s .entry)) n ⌝ }
+{
+    if n != OR_LENGTH {
+        return false;
+    }
+    scan::lowered(scan::peek(s, 0)) == b'o' as usize
+        && (scan::lowered(scan::peek(s, 1)) == b'r' as usize
+            && scan::peek(s, OR_LENGTH) == b' ' as usize)
+}
+
+// The rule of a word in braces.
+pub fn brace_rule(s: &[u8], n: usize) -> Rule
+    requires { ⌜ n ≤ length (now s) ⌝ }
+    ensures { λ r. ⌜ r ≡ braceRule (now (s .entry)) n ⌝ }
+{
+    if is_or(s, n) {
+        Rule::Or
+    } else {
+        Rule::InBraces
+    }
+}
+
+// The kind that a rule gives.
+pub fn kind_by(rule: Rule) -> u16
+    ensures { λ r. ⌜ r ≡ kindBy rule ⌝ }
+{
+    match rule {
+        Rule::Or => kinds::T_LOR,
+        Rule::InBraces => kinds::T_IDENTIFIER,
+        Rule::Table(kind) => kind,
+        Rule::FillCalled(kind) => kind,
+        Rule::FillAlone => kinds::T_IDENTIFIER,
+        Rule::WithColon => kinds::T_METRIC_IDENTIFIER,
+        Rule::Plain => kinds::T_IDENTIFIER,
+    }
+}
