@@ -6,6 +6,7 @@ pub mod Laws
 pub mod Cuts
 pub mod Inverse
 pub mod Ascii
+pub mod Bytes
 pub mod Bounds
 pub mod Given
 pub mod Unique

@@ -1,5 +1,5 @@
 -- What the crates above may know of characters, as statements. Their proofs stand in `proofs/Laws`, `proofs/Cuts`, `proofs/Inverse`,
--- `proofs/Ascii` and `proofs/Bounds`.
+-- `proofs/Ascii`, `proofs/Bytes` and `proofs/Bounds`.
 use Prim.Native.Nat.{ℕ, suc, _+_, _≤_, _<_, min}
 use mathlib.Core.Bool.{Bool, true, false, cond, _&&_}
 use mathlib.Core.List.{List, [], _∷_, _++_, map}
@@ -11,6 +11,7 @@ use Rattle.utf8.specs.declared.Character.{Character}
 use Rattle.utf8.specs.declared.Character.the-variants.{Scalar, Nothing, IllFormed}
 use Rattle.utf8.specs.declared.Encoding.the-variants.{Written}
 use Rattle.scan.specs.Byte.{peekAt, lowered}
+use Rattle.scan.specs.Edge.{Bytes}
 use Rattle.scan.specs.Text.{sameText}
 use Rattle.utf8.specs.Table.{isTail, charLength}
 use Rattle.utf8.specs.Code.{codeOf, isScalar, encoded}
@@ -122,6 +123,10 @@ TextIs = (xs : List ℕ) → WellFormed xs ↔ ((cs : List ℕ) × AllScalar cs 
 -- and those are its own code points
 abbrev pub CodesText : Type 0
 CodesText = (xs : List ℕ) → WellFormed xs → AllScalar (codesOf xs) × (textOf (codesOf xs) ≡ xs)
+
+-- all that stands in it are bytes
+abbrev pub TextBytes : Type 0
+TextBytes = (xs : List ℕ) → WellFormed xs → Bytes xs
 
 -- the prefix that `prefixEnd` ends is well-formed, and no longer one is
 abbrev pub Longest : Type 0
