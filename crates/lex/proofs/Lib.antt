@@ -1,4 +1,6 @@
 pub mod Steps
 pub mod Lists
 pub mod Measures
+pub mod Given
+pub mod Places
 pub mod Unique
