@@ -30,8 +30,12 @@ use Rattle.display.specs.Display.{textOf, displayingOf, leftBy}
 use Rattle.display.proofs.Answers.{fits}
 use Rattle.display.proofs.display_duration.Kinds as display
 use Rattle.display.proofs.display_duration.Reads as display-reads
-use Rattle.cases.specs.Cases.{Case, literal, timed, written, cases, Shown, Each}
-use Rattle.cases.proofs.Shown.{all-shown}
+use Rattle.lex.specs.declared.Lexing.the-variants as lexing
+use Rattle.lex.specs.Lex.{refusedAt, roomed, lexed, kindOf}
+use Rattle.lex.proofs.Measures.{fits as fits-room}
+use Rattle.join.proofs.Calls.{LexCall, roomIn, kinds, answered, wrote}
+use Rattle.cases.specs.Cases.{Case, lexes, refuses, literal, timed, written, queries, texts, cases, Shown, Each}
+use Rattle.cases.proofs.Shown.{queries-shown, texts-shown, each-both}
 
 -- a call of `parse_duration` on a text, and one of `display_duration` on a duration with a buffer of so many bytes, that keep their promises
 pub record Timed (xs : List ℕ) : Type 0 where
@@ -51,11 +55,23 @@ pub record Displayed (d : Duration) (room : ℕ) : Type 0 where
   pub of-duration : args .0 ≡ d
   pub in-room : length (now (args .1 .0)) ≡ room
 
--- calls of `unquote_string` and `part` on the literal are accepted, in any buffer that the text fits, and hand the text back
+-- calls of `lexer` on the query are accepted in any lists that its lexemes fit, and leave their kinds there, or are refused; calls of
+-- `unquote_string` and `part` on the literal are accepted, in any buffer that the text fits, and hand the text back
 abbrev pub Called : Case → Type 0
+Called (lexes q ks) = (c : LexCall q) → length ks ≤ roomIn c → (c .result ≡ lexing.Count (length ks)) × (take (length ks) (kinds c) ≡ ks)
+Called (refuses q r p) = (c : LexCall q) → c .result ≡ lexing.Refused (refusedAt q r p)
 Called (literal r xs ys) = (room : ℕ) (zs : List ℕ) (c : Read r xs room zs) → length ys ≤ room → (isRead (c .result) ≡ true) × (zs ≡ ys)
 Called (timed xs t) = (c : Timed xs) → c .result ≡ t
 Called (written d ys) = (room : ℕ) (c : Displayed d room) → length ys ≤ room → d .nanos < nanosASecond → (c .result ≡ Written (length ys)) × (take (length ys) (now (c .exit .1 .0)) ≡ ys)
+
+lexes-called : (q ks : List ℕ) → Shown (lexes q ks) → Called (lexes q ks)
+lexes-called q ks s c h =
+    let e = answered c ∙ fits-room q (length ks) (roomIn c) (s .0) h in
+    (e, wrote c (length ks) e kindOf _ (kinds c) (c .post .1 .0) ∙ s .1)
+
+refuses-called : (q : List ℕ) (r p : ℕ) → Shown (refuses q r p) → Called (refuses q r p)
+unfolding lexed
+refuses-called q r p s c = answered c ∙ ap (roomed (roomIn c)) s
 
 literal-called : (r : Reading) (xs ys : List ℕ) → Shown (literal r xs ys) → isAscii xs ≡ true → leb (length xs) textLimit ≡ true → Called (literal r xs ys)
 literal-called r xs ys s a l room zs c h =
@@ -73,24 +89,11 @@ written-called d ys s room c h few = (answer, ap (take (length ys)) content ∙ 
     content : now (c .exit .1 .0) ≡ ys ++ drop (length ys) (now (c .args .1 .0))
     content = c .post .1 ∙ ap₂ (λ (e : Displaying) (zs : List ℕ). leftBy e zs (now (c .args .1 .0))) answer (ap textOf (c .of-duration) ∙ s)
 
+queries-called : Each Called queries
+queries-called = let s = queries-shown in (lexes-called _ _ (s .0), (lexes-called _ _ (s .1 .0), (lexes-called _ _ (s .1 .1 .0), (refuses-called _ _ _ (s .1 .1 .1 .0), (lexes-called _ _ (s .1 .1 .1 .1 .0), (lexes-called _ _ (s .1 .1 .1 .1 .1 .0), (lexes-called _ _ (s .1 .1 .1 .1 .1 .1 .0), (refuses-called _ _ _ (s .1 .1 .1 .1 .1 .1 .1 .0), tt))))))))
+
+texts-called : Each Called texts
+texts-called = let s = texts-shown in (literal-called _ _ _ (s .0) refl refl, (literal-called _ _ _ (s .1 .0) refl refl, (timed-called _ _ (s .1 .1 .0), (timed-called _ _ (s .1 .1 .1 .0), (timed-called _ _ (s .1 .1 .1 .1 .0), (timed-called _ _ (s .1 .1 .1 .1 .1 .0), (written-called _ _ (s .1 .1 .1 .1 .1 .1 .0), (written-called _ _ (s .1 .1 .1 .1 .1 .1 .1 .0), tt))))))))
+
 pub all-called : Each Called cases
-all-called =
-    let s = all-shown in (
-      literal-called _ _ _ (s .0) refl refl,
-      (
-        literal-called _ _ _ (s .1 .0) refl refl,
-        (
-          timed-called _ _ (s .1 .1 .0),
-          (
-            timed-called _ _ (s .1 .1 .1 .0),
-            (
-              timed-called _ _ (s .1 .1 .1 .1 .0),
-              (
-                timed-called _ _ (s .1 .1 .1 .1 .1 .0),
-                (written-called _ _ (s .1 .1 .1 .1 .1 .1 .0), (written-called _ _ (s .1 .1 .1 .1 .1 .1 .1 .0), tt)),
-              ),
-            ),
-          ),
-        ),
-      ),
-    )
+all-called = each-both Called queries texts queries-called texts-called

@@ -1,4 +1,5 @@
 -- Every row of the table holds: both sides compute to the same.
+use mathlib.Core.List.{List, [], _∷_, _++_}
 use mathlib.Core.Path.{_≡_, refl}
 use lib.Count.{trailingZeros}
 use lib.Ieee.{round, size, span, climb, units as floatUnits, odd, lt, le}
@@ -22,7 +23,21 @@ use Rattle.duration.specs.Duration.{durationRead, timingOf}
 use Rattle.record.specs.Digit.{signOf}
 use Rattle.record.specs.Decimal.{digitsOf as digitsIn, decimalText}
 use Rattle.display.specs.Display.{counted as shownAs, partOf, restOf, textOf}
-use Rattle.cases.specs.Cases.{duration, days, AllShown}
+use Rattle.scan.specs.Byte.{isSpace, isAlphaNumeric, isWord, isLine}
+use Rattle.utf8.specs.Text.{begunIn, charNumber}
+use Rattle.token.specs.Words.{words, kindIn, keywordOf}
+use Rattle.numeral.specs.Numeral.{isHex, fractionEnd, exponentEnd, numberEnd, isUnit, stopOf, turnOf, durationFrom, numeralOf}
+use Rattle.quoted.specs.Quoted.{commentEnd}
+use Rattle.munch.specs.Lead.{symbolOf, leadOf, braceSymbolOf, braceLeadOf, bracketSymbolOf, bracketLeadOf}
+use Rattle.munch.specs.Word.{isFill, ruleBy, isOr, braceRule, kindBy}
+use Rattle.munch.specs.Munch.{deeper, numberStep, commentStep, wordStep, rightParenStep, leftBracketStep, endStep, outsideStep, braceWord, braceStep, colonStep, bracketStep, munchedBy}
+use Rattle.lex.specs.Steps.{stepsPast, readFrom}
+use Rattle.lex.specs.Lex.{tallied, measured}
+use Rattle.cases.specs.Cases.{Case, queries, texts, duration, days, Shown, Each, AllShown}
+
+pub queries-shown : Each Shown queries
+unfolding measured tallied stepsPast readFrom munchedBy outsideStep braceStep bracketStep leadOf symbolOf braceLeadOf braceSymbolOf bracketLeadOf bracketSymbolOf wordStep braceWord numberStep commentStep leftBracketStep rightParenStep endStep colonStep deeper ruleBy braceRule kindBy isFill isOr keywordOf words kindIn numeralOf numberEnd exponentEnd fractionEnd isHex isUnit durationFrom turnOf stopOf commentEnd isSign admitted validityOf charsPast sizeOf charNumber begunIn charLength sizeIn fits codeOf isWithin isIn isSpace isAlpha isAlphaNumeric isWord isLine lowered runLength sameText has
+queries-shown = ((refl, refl), ((refl, refl), ((refl, refl), (refl, ((refl, refl), ((refl, refl), ((refl, refl), (refl, tt))))))))
 
 -- the durations that are read
 timed-zero : timingOf (ascii "0") ≡ Refused (atStart 51)
@@ -50,6 +65,14 @@ written-weeks : textOf (days 14) ≡ ascii "2w"
 unfolding textOf partOf restOf shownAs decimalText digitsIn signOf
 written-weeks = refl
 
-pub all-shown : AllShown
+pub texts-shown : Each Shown texts
 unfolding isWithin isHexDigit digitOf isScalar encoded sixBits letterValue isDigitIn numeralFrom isAllowed numbered escapeOf beginsEscape tileOf tilesPast hasBad pieceBytes bytesOf isQuote isEnclosed has hasNewline
-all-shown = ((refl, refl), ((refl, refl), (timed-zero, (timed-none, (timed-decimal, (timed-units, (written-days, (written-weeks, tt))))))))
+texts-shown = ((refl, refl), ((refl, refl), (timed-zero, (timed-none, (timed-decimal, (timed-units, (written-days, (written-weeks, tt))))))))
+
+-- what holds of each row of two tables holds of each of both
+pub each-both : (P : Case → Type 0) (cs ds : List Case) → Each P cs → Each P ds → Each P (cs ++ ds)
+each-both P [] ds p q = q
+each-both P (c ∷ cs) ds p q = (p .0, each-both P cs ds (p .1) q)
+
+pub all-shown : AllShown
+all-shown = each-both Shown queries texts queries-shown texts-shown

@@ -70,7 +70,7 @@ room-refused room r (Count m) d h = go (leb m room) h
 room-refused room r (Refused s) d e = e
 
 module _ {q : List ℕ} (c : LexCall q) where
-  answered : c .result ≡ lexed (roomIn c) q
+  pub answered : c .result ≡ lexed (roomIn c) q
   answered = c .post .0 ∙ ap (lexed (roomIn c)) (c .of-query)
 
   module _ (n : ℕ) (e : c .result ≡ Count n) where
@@ -82,7 +82,7 @@ module _ {q : List ℕ} (c : LexCall q) where
     size = measured-count q n counted .1
 
     -- a list that the call left, by the numbers that it holds
-    wrote : (f : Entry → ℕ) (old new : List ℕ) → new ≡ leftBy (c .result) (listed f (now (c .args .0)) old) old → take n new ≡ map f (entriesOf q)
+    pub wrote : (f : Entry → ℕ) (old new : List ℕ) → new ≡ leftBy (c .result) (listed f (now (c .args .0)) old) old → take n new ≡ map f (entriesOf q)
     wrote f old new h =
         rw (h, e, c .of-query) (take-at (map f (entriesOf q)) (drop (length (entriesOf q)) old) n (length-map (entriesOf q) f ∙ sym size))
 
