@@ -44,10 +44,9 @@ pub fn rule_by(own: Keyword, s: &[u8], n: usize) -> Rule
         return Rule::Table(kind);
     }
     if scan::peek(s, scan::run_end(Class::Space, s, n)) == b'(' as usize {
-        Rule::FillCalled(kind)
-    } else {
-        Rule::FillAlone
+        return Rule::FillCalled(kind);
     }
+    Rule::FillAlone
 }
 
 // Whether a word is `or` in any case, with a space next.

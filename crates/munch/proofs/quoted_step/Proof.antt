@@ -1,7 +1,8 @@
 -- The arms are those of the definition, of the bytes behind the sign; what is taken of these is within them.
+use Prim.Native.Nat.{ℕ}
 use native.Mathlib.Numerals.{add-one}
 use native.Mathlib.Omega.{arith}
-use mathlib.Core.Path.{_≡_, sym, ap₂, subst, _∙_}
+use mathlib.Core.Path.{_≡_, sym, ap, ap₂, subst, _∙_}
 use denote.Ref.{now}
 use lib.ListN.{drop, length-drop}
 use Rattle.scan.specs.Byte.{end, peekAt}
@@ -12,6 +13,8 @@ use Rattle.quoted.specs.declared.Quoted.{Quoted}
 use Rattle.quoted.specs.Quoted.{quotedOf}
 use Rattle.quoted.specs.Laws.{Lies}
 use Rattle.quoted.proofs.Strings.{string-within}
+use Rattle.munch.specs.declared.Step.the-variants.{Lexeme}
+use Rattle.munch.specs.Kinds.{string}
 use Rattle.munch.specs.Munch.{quotedStep}
 use Rattle.munch.proofs.Leads.{begun-inside, quote-ascii}
 use borrow.Author.Needs.{needs}
@@ -64,7 +67,9 @@ refused-requires c κs = search needs
 
 returns : tie.Need-returns
 unfolding quotedStep
-returns c = c .lexeme .ensures ∙ rw (← there (c .before .before .before .before), c .before .before .q .given .1, add-one)
+returns c =
+    c .lexeme .ensures
+    ∙ rw (← there (c .before .before .before .before), c .before .before .q .given .1) (ap (λ (n : ℕ). Lexeme string n (c .before .before .before .before .before .before .before .before .args .mode)) (omega arith))
 
 returns-2 : tie.Need-returns-2
 unfolding quotedStep
