@@ -39,11 +39,17 @@ use Rattle.display.specs.declared.Displaying.{Displaying}
 use Rattle.display.specs.declared.Displaying.the-variants as displaying
 use Rattle.display.specs.Display.{displayingOf}
 use Rattle.display.proofs.Reach.{Bounded as Shown, displaying-bound}
+use Rattle.lex.specs.declared.Lexing.{Lexing}
+use Rattle.lex.specs.declared.Lexing.the-variants as lexing
+use Rattle.lex.specs.Lex.{lexed}
+use Rattle.lex.proofs.Bounds as lexing-bounds
+use Rattle.lex.proofs.Bounds.{lexing-bound}
 use Rattle.exports.specs.Duration.{durationCode, displayingCode}
+use Rattle.exports.specs.Lexer.{lexerCode}
 use Rattle.exports.specs.Packed.{refusedFrom, packedOf}
 use Rattle.exports.specs.String.{escapeCode, innerFrom, unquoteCode}
 use Rattle.exports.specs.Utf8.{validateCode, characterCode, charAtCode, encodeCode}
-use Rattle.exports.specs.Laws.{NothingLost, looksRefused, isRefused, ValidateTold, isIllFormed, CharAtTold, isUnwritten, EncodeTold, isNotEscaped, EscapeTold, isNoNumber, ParseTold, isNoDuration, DurationTold, isNotDisplayed, DisplayTold, isInner, UnquoteTold}
+use Rattle.exports.specs.Laws.{NothingLost, looksRefused, isRefused, ValidateTold, isIllFormed, CharAtTold, isUnwritten, EncodeTold, isNotEscaped, EscapeTold, isNoNumber, ParseTold, isNoDuration, DurationTold, isNotDisplayed, DisplayTold, isNotLexed, LexerTold, isInner, UnquoteTold}
 use Rattle.utf8.proofs.Bounds.{Bounded, admitted-bound, Within, character-within, AtMostFour, encoding-bound}
 
 pub nothing-lost : NothingLost
@@ -105,6 +111,13 @@ display-told room d h = go (displayingOf room d) (displaying-bound room d)
     go : (e : Displaying) → Shown room e → looksRefused (displayingCode e) ≡ isNotDisplayed e
     go (displaying.Written n) b = lt-leb refusedFrom n (omega arith)
     go (displaying.Refused r) b = packed r
+
+pub lexer-told : LexerTold
+lexer-told room q = go (lexed room q) (lexing-bound room q)
+  where
+    go : (x : Lexing) → lexing-bounds.Bounded x → looksRefused (lexerCode x) ≡ isNotLexed x
+    go (lexing.Count n) h = small n (omega arith)
+    go (lexing.Refused r) h = packed r
 
 pub parse-told : ParseTold
 parse-told xs = go (parsingOf xs)

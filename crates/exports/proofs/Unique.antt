@@ -29,6 +29,8 @@ use Rattle.exports.proofs.simmerpath_parse_duration.Kinds as parse-dura
 use Rattle.exports.proofs.simmerpath_parse_duration.Reads as parse-duration-reads
 use Rattle.exports.proofs.simmerpath_display_duration.Kinds as display-duration
 use Rattle.exports.proofs.simmerpath_display_duration.Reads as display-duration-reads
+use Rattle.exports.proofs.simmerpath_lexer.Kinds as lexer
+use Rattle.exports.proofs.simmerpath_lexer.Reads as lexer-reads
 
 pub same-simmerpath-utf8-validate : OneAnswer validate.ps validate.r validate-reads.Post
 same-simmerpath-utf8-validate κs a x y e f p q = p ∙ sym q
@@ -95,3 +97,15 @@ same-simmerpath-display-duration κs a x y e f p q = p .0 ∙ sym (q .0)
 
 pub same-simmerpath-display-duration-out : OneContent display-duration.ps display-duration.r display-duration-reads.Post (λ κs e. now (e .1 .1 .0))
 same-simmerpath-display-duration-out κs a x y e f p q = p .1 ∙ sym (q .1)
+
+pub same-simmerpath-lexer : OneAnswer lexer.ps lexer.r lexer-reads.Post
+same-simmerpath-lexer κs a x y e f p q = p .0 ∙ sym (q .0)
+
+pub same-simmerpath-lexer-kinds : OneContent lexer.ps lexer.r lexer-reads.Post (λ κs e. now (e .1 .0))
+same-simmerpath-lexer-kinds κs a x y e f p q = p .1 .0 ∙ sym (q .1 .0)
+
+pub same-simmerpath-lexer-starts : OneContent lexer.ps lexer.r lexer-reads.Post (λ κs e. now (e .1 .1 .0))
+same-simmerpath-lexer-starts κs a x y e f p q = p .1 .1 .0 ∙ sym (q .1 .1 .0)
+
+pub same-simmerpath-lexer-lengths : OneContent lexer.ps lexer.r lexer-reads.Post (λ κs e. now (e .1 .1 .1 .0))
+same-simmerpath-lexer-lengths κs a x y e f p q = p .1 .1 .1 ∙ sym (q .1 .1 .1)

@@ -32,7 +32,11 @@ use Rattle.duration.specs.Duration.{timingOf}
 use Rattle.display.specs.declared.Displaying.{Displaying}
 use Rattle.display.specs.declared.Displaying.the-variants as displaying
 use Rattle.display.specs.Display.{displayingOf}
+use Rattle.lex.specs.declared.Lexing.{Lexing}
+use Rattle.lex.specs.declared.Lexing.the-variants as lexing
+use Rattle.lex.specs.Lex.{lexed}
 use Rattle.exports.specs.Duration.{durationCode, displayingCode}
+use Rattle.exports.specs.Lexer.{lexerCode}
 use Rattle.exports.specs.Packed.{refusedFrom, packedOf, Packable}
 use Rattle.exports.specs.String.{escapeCode, innerFrom, unquoteCode}
 use Rattle.exports.specs.Utf8.{validateCode, charAtCode, encodeCode}
@@ -104,6 +108,14 @@ abbrev pub DisplayTold : Type 0
 DisplayTold =
     (room : ℕ) (d : Duration) → room < refusedFrom →
     let e = displayingOf room d in looksRefused (displayingCode e) ≡ isNotDisplayed e
+
+-- of `lexer`,
+abbrev pub isNotLexed : Lexing → Bool
+isNotLexed (lexing.Count n) = false
+isNotLexed (lexing.Refused r) = true
+
+abbrev pub LexerTold : Type 0
+LexerTold = (room : ℕ) (q : List ℕ) → let x = lexed room q in looksRefused (lexerCode x) ≡ isNotLexed x
 
 -- and of `unquote_string`, where it takes another answer for a text in the literal itself from bit 32 on
 abbrev pub isInner : Unquoting → Bool

@@ -4,4 +4,5 @@ pub mod Token
 pub mod String
 pub mod Number
 pub mod Duration
+pub mod Lexer
 pub mod Laws

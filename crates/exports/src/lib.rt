@@ -4,6 +4,7 @@ use decimal::Notation;
 use display::Displaying;
 use duration::Timing;
 use escape::Escaping;
+use lex::Lexing;
 use number::Parsing;
 use span::Duration;
 use string::Unquoting;
@@ -31,6 +32,8 @@ ghost use Rattle.exports.specs.Number.{notationCode, parseCode, parseLef
 ghost use Rattle.duration.specs.Duration.{timingOf};
 ghost use Rattle.display.specs.Display.{textOf, displayingOf, leftBy as writtenBy};
 ghost use Rattle.exports.specs.Duration.{durationCode, secsLeft, nanosLeft, durationOf, displayingCode};
+ghost use Rattle.lex.specs.Lex.{lexed, listed, leftBy as lexedBy, kindOf, startOf, lengthOf, shortest};
+ghost use Rattle.exports.specs.Lexer.{lexerCode};
 ghost use Rattle.exports.specs.Packed.{numberLimit, packedOf, Packable};
 ghost use Rattle.exports.specs.String.{escapeCode, readingOf, unquoteCode};
 ghost use Rattle.exports.specs.Token.{keywordCode, displayCode, flag, classesCode};
@@ -291,5 +294,25 @@ pub extern "C" fn simmerpath_display_duration(secs: u64, nanos: u32, out: &mut [
     match d {
         Displaying::Written(n) => n as u64,
         Displaying::Refused(r) => packed(r),
+    }
+}
+
+// How many lexemes of a query, its end included, were written to the front of three lent lists, or refusal 1, 2, 10 to 32 or 3.
+#[no_mangle]
+pub extern "C" fn simmerpath_lexer(
+    query: &[u8],
+    kinds: &mut [u16],
+    starts: &mut [u32],
+    lengths: &mut [u32],
+) -> u64
+    ensures { λ r. ⌜ r ≡ lexerCode (lexed (shortest (length (now (kinds .entry))) (length (now (starts .entry))) (length (now (lengths .entry)))) (now (query .entry))) ⌝ }
+    ensures { λ _. ⌜ now (kinds .exit) ≡ lexedBy (lexed (shortest (length (now (kinds .entry))) (length (now (starts .entry))) (length (now (lengths .entry)))) (now (query .entry))) (listed kindOf (now (query .entry)) (now (kinds .entry))) (now (kinds .entry)) ⌝ }
+    ensures { λ _. ⌜ now (starts .exit) ≡ lexedBy (lexed (shortest (length (now (kinds .entry))) (length (now (starts .entry))) (length (now (lengths .entry)))) (now (query .entry))) (listed startOf (now (query .entry)) (now (starts .entry))) (now (starts .entry)) ⌝ }
+    ensures { λ _. ⌜ now (lengths .exit) ≡ lexedBy (lexed (shortest (length (now (kinds .entry))) (length (now (starts .entry))) (length (now (lengths .entry)))) (now (query .entry))) (listed lengthOf (now (query .entry)) (now (lengths .entry))) (now (lengths .entry)) ⌝ }
+{
+    let l = lex::lexer(query, kinds, starts, lengths);
+    match l {
+        Lexing::Count(n) => n as u64,
+        Lexing::Refused(r) => packed(r),
     }
 }

@@ -3,4 +3,5 @@ pub mod Lists
 pub mod Measures
 pub mod Given
 pub mod Places
+pub mod Bounds
 pub mod Unique
