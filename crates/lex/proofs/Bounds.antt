@@ -18,8 +18,8 @@ use Rattle.munch.specs.declared.Mode.{Mode}
 use Rattle.munch.specs.declared.Step.{Step}
 use Rattle.munch.specs.declared.Step.the-variants.{Lexeme, Space, Comment, Refused, Finished}
 use Rattle.munch.specs.Munch.{outside, munched}
-use Rattle.munch.specs.Rows.{Row, row10, row11, row12, row13, row14, row15, row16, row17, row18, row19, row20, row21, row22, row23, row24, row25, row26, row27, row28, row29, row30, row31, row32}
-use Rattle.munch.proofs.Given.{rows-given}
+use Rattle.munch.specs.Rows.{Row}
+use Rattle.munch.proofs.Given.{rows-given, row-bounds}
 use Rattle.lex.specs.declared.Tally.{Tally}
 use Rattle.lex.specs.declared.Tally.the-variants as tallying
 use Rattle.lex.specs.declared.Lexing.{Lexing}
@@ -33,29 +33,7 @@ abbrev lastRow : ℕ
 lastRow = 32
 
 row-bound : {m : Mode} {xs : List ℕ} {r o : ℕ} → Row m xs r o → r ≤ lastRow
-row-bound (row10 h) = omega arith
-row-bound (row11 h) = omega arith
-row-bound (row12 h) = omega arith
-row-bound (row13 h) = omega arith
-row-bound (row14 h) = omega arith
-row-bound (row15 h) = omega arith
-row-bound (row16 h) = omega arith
-row-bound (row17 h) = omega arith
-row-bound (row18 h) = omega arith
-row-bound (row19 h) = omega arith
-row-bound (row20 n h) = omega arith
-row-bound (row21 n h) = omega arith
-row-bound (row22 n h) = omega arith
-row-bound (row23 n h) = omega arith
-row-bound (row24 h) = omega arith
-row-bound (row25 h) = omega arith
-row-bound (row26 h) = omega arith
-row-bound (row27 h) = omega arith
-row-bound (row28 h) = omega arith
-row-bound (row29 h) = omega arith
-row-bound (row30 h) = omega arith
-row-bound (row31 h) = omega arith
-row-bound (row32 h) = omega arith
+row-bound h = row-bounds h .1
 
 -- a tally of a query of so many bytes
 abbrev Tallied : ℕ → Tally → Type 0

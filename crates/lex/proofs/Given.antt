@@ -22,8 +22,8 @@ use Rattle.munch.specs.declared.Mode.{Mode}
 use Rattle.munch.specs.declared.Step.{Step}
 use Rattle.munch.specs.declared.Step.the-variants as step
 use Rattle.munch.specs.Munch.{outside, munched}
-use Rattle.munch.specs.Rows.{Row, row10, row11, row12, row13, row14, row15, row16, row17, row18, row19, row20, row21, row22, row23, row24, row25, row26, row27, row28, row29, row30, row31, row32}
-use Rattle.munch.proofs.Given.{rows-given}
+use Rattle.munch.specs.Rows.{Row}
+use Rattle.munch.proofs.Given.{rows-given, row-bounds}
 use Rattle.lex.specs.declared.Tally.the-variants as tallying
 use Rattle.lex.specs.declared.Lexing.{Lexing}
 use Rattle.lex.specs.declared.Lexing.the-variants.{Count, Refused}
@@ -35,29 +35,7 @@ use Rattle.lex.proofs.Measures.{fits, fits-not}
 
 -- no row has a number before the first
 row-first : {m : Mode} {xs : List ℕ} {r o : ℕ} → Row m xs r o → firstRow ≤ r
-row-first (row10 h) = omega arith
-row-first (row11 h) = omega arith
-row-first (row12 h) = omega arith
-row-first (row13 h) = omega arith
-row-first (row14 h) = omega arith
-row-first (row15 h) = omega arith
-row-first (row16 h) = omega arith
-row-first (row17 h) = omega arith
-row-first (row18 h) = omega arith
-row-first (row19 h) = omega arith
-row-first (row20 n h) = omega arith
-row-first (row21 n h) = omega arith
-row-first (row22 n h) = omega arith
-row-first (row23 n h) = omega arith
-row-first (row24 h) = omega arith
-row-first (row25 h) = omega arith
-row-first (row26 h) = omega arith
-row-first (row27 h) = omega arith
-row-first (row28 h) = omega arith
-row-first (row29 h) = omega arith
-row-first (row30 h) = omega arith
-row-first (row31 h) = omega arith
-row-first (row32 h) = omega arith
+row-first h = row-bounds h .0
 
 module _ (q : List ℕ) where
   -- so many lexemes stand before an offset that the reading reaches, and behind it what is read from there

@@ -1,7 +1,7 @@
 -- A step is refused exactly when its row holds. Forward, by the mode and the lead: the tests that lead to a refusal in the definition, and what
 -- the lead says of the byte that begins (`Leads`), are its row's condition. Backward, a row's condition fixes the mode and the lead, so that the
 -- definition comes to the row's refusal. No two rows hold together, since a step has one answer.
-use Prim.Native.Nat.{ℕ, suc, _+_}
+use Prim.Native.Nat.{ℕ, suc, _+_, _≤_}
 use Prim.Native.Char.{code}
 use native.Mathlib.Omega.{arith}
 use mathlib.Core.Bool.{Bool, true, false}
@@ -218,3 +218,29 @@ one-row m xs r o s p a b =
     let e = gives (λ w. keyword.Nothing) m xs a in
     let f = gives (λ w. keyword.Nothing) m xs b in
     (cc, cc)
+
+-- the numbers of the rows
+pub row-bounds : {m : Mode} {xs : List ℕ} {r o : ℕ} → Row m xs r o → (10 ≤ r) × (r ≤ 32)
+row-bounds (row10 h) = (omega arith, omega arith)
+row-bounds (row11 h) = (omega arith, omega arith)
+row-bounds (row12 h) = (omega arith, omega arith)
+row-bounds (row13 h) = (omega arith, omega arith)
+row-bounds (row14 h) = (omega arith, omega arith)
+row-bounds (row15 h) = (omega arith, omega arith)
+row-bounds (row16 h) = (omega arith, omega arith)
+row-bounds (row17 h) = (omega arith, omega arith)
+row-bounds (row18 h) = (omega arith, omega arith)
+row-bounds (row19 h) = (omega arith, omega arith)
+row-bounds (row20 n h) = (omega arith, omega arith)
+row-bounds (row21 n h) = (omega arith, omega arith)
+row-bounds (row22 n h) = (omega arith, omega arith)
+row-bounds (row23 n h) = (omega arith, omega arith)
+row-bounds (row24 h) = (omega arith, omega arith)
+row-bounds (row25 h) = (omega arith, omega arith)
+row-bounds (row26 h) = (omega arith, omega arith)
+row-bounds (row27 h) = (omega arith, omega arith)
+row-bounds (row28 h) = (omega arith, omega arith)
+row-bounds (row29 h) = (omega arith, omega arith)
+row-bounds (row30 h) = (omega arith, omega arith)
+row-bounds (row31 h) = (omega arith, omega arith)
+row-bounds (row32 h) = (omega arith, omega arith)
