@@ -14,6 +14,9 @@ const FOLDERS: [(&str, &[&str]); 2] = [
     ("util", &["duration", "number", "string"]),
 ];
 
+/// The module of ours that stands inside the one of lex.rs.
+const STEPS: &str = concat!(env!("CARGO_MANIFEST_DIR"), "/src/steps.rs");
+
 /// The names of the kinds, in order from the number of their line on. The numbers are those of document 01, section Kinds;
 /// those of the Rust's crate come from its grammar, which is not among the documents. The names that bound the operators
 /// and the aggregators stand next to these; what else has no number in document 01 stands from 1000 on.
@@ -59,12 +62,15 @@ fn main() {
     write(&out.join("token_map.rs"), token_map());
 }
 
-/// The module of a file; with what the file needs that Rust 1.63 has not.
+/// The module of a file; with what the file needs that Rust 1.63 has not, or with a module of ours inside it.
 fn module(file: &str) -> String {
     match file {
         "duration" => {
             format!("pub mod {file} {{ use crate::newer::*; include!(\"{file}.rs\"); }}\n")
         }
+        "lex" => format!(
+            "pub mod {file} {{ include!(\"{file}.rs\"); #[path = {STEPS:?}] pub mod steps; }}\n"
+        ),
         _ => format!("pub mod {file};\n"),
     }
 }

@@ -30,6 +30,16 @@ extern "C" {
         nanos: *mut u32,
     ) -> u64;
     fn simmerpath_display_duration(secs: u64, nanos: u32, out: *mut u8, len: usize) -> u64;
+    fn simmerpath_lexer(
+        query: *const u8,
+        len: usize,
+        kinds: *mut u16,
+        kinds_len: usize,
+        starts: *mut u32,
+        starts_len: usize,
+        lengths: *mut u32,
+        lengths_len: usize,
+    ) -> u64;
 }
 
 /// How many guards stand on each side of a list.
@@ -251,6 +261,37 @@ pub fn display_duration(secs: u64, nanos: u32, out: &mut Lent<u8>) -> Outcome<&[
     // Safety: the pointer and the length are those of one list.
     let answer = unsafe { simmerpath_display_duration(secs, nanos, out.start(), out.len()) };
     out.written(answer)
+}
+
+/// How many lexemes a query has; their kinds, starts and lengths are written to the fronts of the lists.
+pub fn lexer<'a>(
+    query: &mut Lent<u8>,
+    kinds: &'a mut Lent<u16>,
+    starts: &'a mut Lent<u32>,
+    lengths: &'a mut Lent<u32>,
+) -> Outcome<(&'a [u16], &'a [u32], &'a [u32])> {
+    kinds.restore();
+    starts.restore();
+    lengths.restore();
+    // Safety: each pointer and the length behind it are those of one list.
+    let answer = unsafe {
+        simmerpath_lexer(
+            query.start(),
+            query.len(),
+            kinds.start(),
+            kinds.len(),
+            starts.start(),
+            starts.len(),
+            lengths.start(),
+            lengths.len(),
+        )
+    };
+    let guarded = kinds.is_guarded() && starts.is_guarded() && lengths.is_guarded();
+    Outcome {
+        answer,
+        written: (kinds.contents(), starts.contents(), lengths.contents()),
+        untouched: query.is_untouched() && guarded,
+    }
 }
 
 /// The text that an answer hands back, of the literal or of the buffer; none where it is refused.

@@ -1,5 +1,6 @@
-//! Compares our functions with the Rust's and Go's on generated inputs: `compare [--seed N] [--count N]`.
-//! COUNT is the number of random inputs, beside the fixed ones. The exit status is 1 if there is a difference.
+//! Compares our functions with the Rust's and Go's on generated inputs: `compare [--seed N] [--count N] [--only NAME]`.
+//! COUNT is the number of random inputs, beside the fixed ones. NAME is that of one operation, where not all are to be compared.
+//! The exit status is 1 if there is a difference.
 //! Without the feature `promql` it compares with Rust's library, not with promql-parser; without `go`, not with Go.
 
 #![cfg_attr(not(all(feature = "promql", feature = "go")), allow(dead_code))]
@@ -11,6 +12,8 @@ mod documented;
 mod duration;
 mod ffi;
 mod input;
+#[cfg(feature = "promql")]
+mod lexer;
 mod literal;
 #[cfg(feature = "promql")]
 mod number;
@@ -23,44 +26,69 @@ mod utf8;
 use std::env;
 use std::process::ExitCode;
 
-/// The comparison of each operation: of a seed and a count, the number of differences.
-const OPERATIONS: &[fn(u64, usize) -> u64] = &[
-    utf8::run,
+/// A comparison: of a seed and a count, the number of differences.
+type Run = fn(u64, usize) -> u64;
+
+/// The name of each operation, and its comparison.
+const OPERATIONS: &[(&str, Run)] = &[
+    ("utf8", utf8::run),
     #[cfg(feature = "promql")]
-    token::run,
+    ("token", token::run),
     #[cfg(feature = "promql")]
-    string::run,
+    ("string", string::run),
     #[cfg(feature = "promql")]
-    number::run,
+    ("number", number::run),
     #[cfg(feature = "promql")]
-    duration::run,
+    ("duration", duration::run),
+    #[cfg(feature = "promql")]
+    ("lexer", lexer::run),
     #[cfg(feature = "go")]
-    documented::run,
+    ("documented", documented::run),
 ];
 
-/// The seed and the count that the arguments ask for; none where they are not arguments of this program.
-fn options() -> Option<(u64, usize)> {
-    let (mut seed, mut count) = (3629, 5_000_000);
-    let mut words = env::args().skip(1);
-    while let Some(word) = words.next() {
-        let number = words.next()?;
-        match word.as_str() {
-            "--seed" => seed = number.parse().ok()?,
-            "--count" => count = number.parse().ok()?,
-            _ => return None,
+/// What the arguments ask for.
+struct Options {
+    seed: u64,
+    count: usize,
+    only: Option<String>,
+}
+
+impl Options {
+    /// What these words ask for; none where they are not arguments of this program.
+    fn of(mut words: impl Iterator<Item = String>) -> Option<Self> {
+        let mut options = Options {
+            seed: 3629,
+            count: 5_000_000,
+            only: None,
+        };
+        while let Some(word) = words.next() {
+            let value = words.next()?;
+            match word.as_str() {
+                "--seed" => options.seed = value.parse().ok()?,
+                "--count" => options.count = value.parse().ok()?,
+                "--only" => options.only = Some(value),
+                _ => return None,
+            }
         }
+        let known = OPERATIONS.iter().any(|&(name, _)| options.asks_for(name));
+        known.then_some(options)
     }
-    Some((seed, count))
+
+    /// Whether an operation is to be compared.
+    fn asks_for(&self, name: &str) -> bool {
+        self.only.as_deref().map_or(true, |only| only == name)
+    }
 }
 
 fn main() -> ExitCode {
-    let (seed, count) = match options() {
+    let options = match Options::of(env::args().skip(1)) {
         Some(options) => options,
         None => {
-            eprintln!("usage: compare [--seed N] [--count N]");
+            eprintln!("usage: compare [--seed N] [--count N] [--only NAME]");
             return ExitCode::from(2);
         }
     };
-    let differences: u64 = OPERATIONS.iter().map(|run| run(seed, count)).sum();
+    let asked = OPERATIONS.iter().filter(|(name, _)| options.asks_for(name));
+    let differences: u64 = asked.map(|(_, run)| run(options.seed, options.count)).sum();
     ExitCode::from(u8::from(differences > 0))
 }

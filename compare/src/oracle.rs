@@ -6,6 +6,8 @@ use std::fmt::{self, Display, Formatter};
 pub mod duration;
 #[cfg(feature = "go")]
 pub mod go;
+#[cfg(feature = "promql")]
+pub mod lexer;
 pub mod literal;
 #[cfg(feature = "promql")]
 pub mod number;

@@ -10,6 +10,7 @@ pub mod durations;
 pub mod escapes;
 pub mod literals;
 pub mod numbers;
+pub mod queries;
 pub mod words;
 
 /// The bytes on both sides of each end of a range of RFC 3629's table, and a letter.

@@ -63,13 +63,16 @@ pub fn is_label(text: &str) -> bool {
     lex::is_label(text)
 }
 
-/// The kind, start and length of each lexeme of a query.
+/// The kind, start and length of each lexeme of a query, or what is said of a bad one.
 pub fn lexemes(query: &str) -> Result<Vec<(u16, usize, usize)>, String> {
     let lexemes = lex::lexer(query)?.lexemes();
     Ok(lexemes
         .map(|lexeme| (lexeme.kind, lexeme.start, lexeme.len))
         .collect())
 }
+
+/// The same, step by step.
+pub use lex::steps::{steps, Place, Steps, Stopped};
 
 /// A text, escaped.
 pub fn escape(text: &str) -> String {

@@ -308,7 +308,7 @@ fn round(random: &mut Random) -> Vec<Vec<u8>> {
 }
 
 /// Some units in their order, each with a number, most of which count.
-fn any_units(random: &mut Random) -> String {
+pub(super) fn any_units(random: &mut Random) -> String {
     let mut text = String::new();
     let often = 1 + random.below(4);
     for unit in UNITS {

@@ -168,7 +168,7 @@ pub fn random(seed: u64) -> impl Iterator<Item = Vec<u8>> {
 
 /// A literal of few pieces or many. One in four has no escape; one in four may be bad: a piece of any kind is put in, or a byte
 /// is put in, changed or removed.
-fn literal(random: &mut Random) -> Vec<u8> {
+pub(super) fn literal(random: &mut Random) -> Vec<u8> {
     let sign = random.one_of(OFTEN);
     let most = random.one_of(&[3, MOST_PIECES]);
     let plain = random.below(4) == 0;

@@ -132,7 +132,7 @@ fn round(random: &mut Random, words: &[&str]) -> [Vec<u8>; 6] {
 }
 
 /// A word with letters of random case.
-fn recased(random: &mut Random, words: &[&str]) -> Vec<u8> {
+pub(super) fn recased(random: &mut Random, words: &[&str]) -> Vec<u8> {
     let word = random.one_of(words);
     let lower_or_upper = |byte: u8| random.one_of(&[byte, byte.to_ascii_uppercase()]);
     word.bytes().map(lower_or_upper).collect()

@@ -3,4 +3,5 @@ pub mod Display
 pub mod Escapes
 pub mod Unquotes
 pub mod Writes
+pub mod Lexemes
 pub mod Rooms

@@ -15,6 +15,7 @@ use Rattle.replay.proofs.Display.{display-alike}
 use Rattle.replay.proofs.Escapes.{escape-alike}
 use Rattle.replay.proofs.Unquotes.{unquote-alike}
 use Rattle.replay.proofs.Writes.{durwrite-alike}
+use Rattle.replay.proofs.Lexemes.{lex-alike}
 
 pub large-alike : (r s : ℕ) → mostRoom ≤ r → mostRoom ≤ s → Alike r s
 large-alike r s h k = record { fits = λ need l. le-leb need r (omega arith) ∙ sym (le-leb need s (omega arith)) }
@@ -30,6 +31,7 @@ op-alike op.Escape bytes l = ap (escapingAnswer bytes) (escape-alike bytes l)
 op-alike op.Number bytes l = refl
 op-alike op.Duration bytes l = refl
 op-alike op.DurWrite bytes l = durwrite-alike l bytes
+op-alike op.Lex bytes l = lex-alike bytes l
 op-alike op.Unknown bytes l = refl
 
 pub room-enough : RoomEnough

@@ -33,6 +33,7 @@ use Rattle.replay.specs.Tokens.{keywordAnswer, labelAnswer, displayAnswe
 use Rattle.replay.specs.Strings.{escapeAnswer, unquoteAnswer}
 use Rattle.replay.specs.Numbers.{numberAnswer}
 use Rattle.replay.specs.Durations.{durationAnswer, durwriteAnswer}
+use Rattle.replay.specs.Queries.{lexAnswer}
 
 -- `utf8`: the number of characters
 unfoldable pub utf8Answer : Admission → List ℕ
@@ -59,6 +60,7 @@ ops =
     ∷ named "number" op.Number
     ∷ named "duration" op.Duration
     ∷ named "durwrite" op.DurWrite
+    ∷ named "lex" op.Lex
     ∷ []
 
 -- the op that a name is for
@@ -69,7 +71,7 @@ opIn (o ∷ os) name = cond (sameText name (o .name)) (o .op) (opIn os name)
 abbrev pub opOf : List ℕ → Op
 opOf name = opIn ops name
 
--- by the op, its bytes and so many bytes of room
+-- by the op, its bytes and so much room: bytes of a text, or entries of a list
 abbrev pub opAnswer : Op → List ℕ → ℕ → List ℕ
 opAnswer op.Utf8 bytes room = utf8Answer (admitted textLimit bytes)
 opAnswer op.Display bytes room = displayAnswer room bytes
@@ -81,6 +83,7 @@ opAnswer op.Escape bytes room = escapeAnswer room bytes
 opAnswer op.Number bytes room = numberAnswer (parsingOf bytes)
 opAnswer op.Duration bytes room = durationAnswer (timingOf bytes)
 opAnswer op.DurWrite bytes room = durwriteAnswer room bytes
+opAnswer op.Lex bytes room = lexAnswer room bytes
 opAnswer op.Unknown bytes room = badRecord
 
 -- no answer needs more room than `mostRoom`

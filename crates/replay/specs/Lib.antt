@@ -5,4 +5,5 @@ pub mod Tokens
 pub mod Strings
 pub mod Numbers
 pub mod Durations
+pub mod Queries
 pub mod Answer

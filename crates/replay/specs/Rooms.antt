@@ -6,7 +6,7 @@ use Rattle.record.specs.declared.Room.{Room}
 use Rattle.record.specs.declared.Room.the-variants.{Given, Enough}
 use Rattle.replay.specs.Sizes.{mostRoom}
 
--- as many bytes as a record gives, or as many as any answer needs
+-- as many bytes, or entries of a list, as a record gives, or as many as any answer needs
 abbrev pub roomOf : Room → ℕ
 roomOf (Given n) = n
 roomOf Enough = mostRoom
@@ -15,7 +15,7 @@ roomOf Enough = mostRoom
 pub record Alike (r s : ℕ) : Type 0 where
   pub fits : (need : ℕ) → need ≤ mostRoom → leb need r ≡ leb need s
 
--- so many bytes are as good as those that a record gives
+-- so many are as good as those that a record gives
 pub record Lends (room : Room) (r : ℕ) : Type 0 where
   pub few : r ≤ mostRoom
   pub same : Alike r (roomOf room)

@@ -17,9 +17,17 @@ bufferSize = longestLine + 1 + chunk
 abbrev pub mostRoom : ℕ
 mostRoom = 131070
 
--- no answer is longer: `ok `, an escaped text in hex, and LF
+-- no query has more lexemes: one for each byte, and its end
+abbrev pub mostLexemes : ℕ
+mostLexemes = 65536
+
+-- none is longer in an answer: a space, a number of 16 bits, and two of 32 bits, each behind a comma
+abbrev pub longestLexeme : ℕ
+longestLexeme = 28
+
+-- no answer is longer: `ok`, all these lexemes, and LF
 abbrev pub mostAnswer : ℕ
-mostAnswer = 262144
+mostAnswer = 1900000
 
 -- a kind is a number of 16 bits
 abbrev pub largestKind : ℕ

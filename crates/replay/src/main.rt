@@ -4,6 +4,7 @@ mod durations;
 mod lines;
 mod numbers;
 mod ops;
+mod queries;
 mod says;
 mod strings;
 mod tokens;

@@ -2,6 +2,7 @@
 // An op is a function, a variant of `Op`, and a line of `op_of` and of `dispatch`, as of `ops` and of `opAnswer` in specs/Answer.
 use crate::durations;
 use crate::numbers;
+use crate::queries;
 use crate::says;
 use crate::strings;
 use crate::tokens;
@@ -33,6 +34,7 @@ enum Op {
     Number,
     Duration,
     DurWrite,
+    Lex,
     Unknown,
 }
 
@@ -84,6 +86,7 @@ fn op_of(name: &[u8]) -> Op
     ensures { λ r. ⌜ r ≡ opOf (now (name .entry)) ⌝ }
 {
     let mut op = Op::Unknown;
+    op = if_named(name, b"lex", Op::Lex, op);
     op = if_named(name, b"durwrite", Op::DurWrite, op);
     op = if_named(name, b"duration", Op::Duration, op);
     op = if_named(name, b"number", Op::Number, op);
@@ -97,7 +100,7 @@ fn op_of(name: &[u8]) -> Op
     op
 }
 
-// Answers by the op, in the room that is lent to it.
+// Answers by the op, in the room that is lent to it: `lex` has lists of its own, of as many entries.
 fn dispatch(name: &[u8], bytes: &[u8], text: &mut [u8], out: &mut [u8]) -> usize
     requires { ⌜ mostAnswer ≤ length (now out) ⌝ }
     ensures { λ r. ⌜ Says (opAnswer (opOf (now (name .entry))) (now (bytes .entry)) (length (now (text .entry)))) r (now (out .exit)) ⌝ }
@@ -114,6 +117,7 @@ fn dispatch(name: &[u8], bytes: &[u8], text: &mut [u8], out: &mut [u8]) -> usize
         Op::Number => numbers::number(bytes, out),
         Op::Duration => durations::duration(bytes, out),
         Op::DurWrite => durations::durwrite(bytes, text, out),
+        Op::Lex => queries::lex(bytes, text.len(), out),
         Op::Unknown => says::bad_record(out),
     }
 }

@@ -11,8 +11,8 @@ ghost use Rattle.record.specs.Decimal.{mostDigits};
 ghost use Rattle.replay.specs.Sizes.{mostAnswer};
 ghost use Rattle.replay.specs.Lines.{Says, badRecord, numbered, okLine, hexLine, refusal};
 
-// No answer is longer: `ok `, an escaped text in hex, and LF.
-const MOST_ANSWER: usize = 262_144;
+// No answer is longer: `ok`, 65,536 lexemes of 28 bytes each at most, and LF.
+const MOST_ANSWER: usize = 1_900_000;
 
 // Room for an answer.
 pub fn out() -> [u8; MOST_ANSWER] {

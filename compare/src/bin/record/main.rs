@@ -2,6 +2,7 @@
 //! A record is `OP HEX` or `OP HEX ROOM`. Both lists are the same in every run.
 
 mod duration;
+mod lexer;
 mod number;
 mod string;
 mod token;
@@ -26,6 +27,7 @@ fn answer(line: &str) -> String {
         "number" => Some(number::number(&input)),
         "duration" => Some(duration::duration(&input)),
         "durwrite" => duration::durwrite(&input, room),
+        "lex" => Some(lexer::lex(&input, room)),
         _ => None,
     });
     answer.unwrap_or_else(|| "bad record".to_string())
@@ -71,6 +73,7 @@ fn main() -> ExitCode {
         string::inputs(),
         number::inputs(),
         duration::inputs(),
+        lexer::inputs(),
     ]
     .concat();
     for line in lines {

@@ -69,6 +69,12 @@ durwrite-requires c κs = search needs
 enum-told-11 : tie.Need-enum-told-11
 enum-told-11 c = search needs
 
+lex-requires : tie.Need-lex-requires
+lex-requires c κs = search needs
+
+enum-told-12 : tie.Need-enum-told-12
+enum-told-12 c = search needs
+
 bad-record-requires : tie.Need-bad-record-requires
 bad-record-requires c κs = search needs
 
@@ -151,7 +157,13 @@ same-length-16 : tie.Need-same-length-16
 same-length-16 c = search needs
 
 returns-11 : tie.Need-returns-11
-returns-11 c = rw (← c .before .before .before .before .before .before .op-of .ensures, c .before .before .before .before .enum-told11 .given .1) (c .before .before .bad-record .ensures)
+returns-11 c = rw (← c .before .before .before .before .before .before .op-of .ensures, c .before .before .before .before .enum-told11 .given .1) (c .before .before .lex .ensures)
+
+same-length-17 : tie.Need-same-length-17
+same-length-17 c = search needs
+
+returns-12 : tie.Need-returns-12
+returns-12 c = rw (← c .before .before .before .before .before .before .op-of .ensures, c .before .before .before .before .enum-told12 .given .1) (c .before .before .bad-record .ensures)
 
 pub dispatch-spec : {M : Type 1} → statement M
 dispatch-spec =
@@ -179,6 +191,8 @@ dispatch-spec =
     enum-told-10
     durwrite-requires
     enum-told-11
+    lex-requires
+    enum-told-12
     bad-record-requires
     same-length
     returns
@@ -206,4 +220,6 @@ dispatch-spec =
     same-length-15
     returns-10
     same-length-16
-    returns-11)
+    returns-11
+    same-length-17
+    returns-12)

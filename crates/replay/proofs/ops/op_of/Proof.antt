@@ -63,9 +63,16 @@ slice-aggregate-if-named-10 c = search needs
 if-named-requires-10 : tie.Need-if-named-requires-10
 if-named-requires-10 c κs = search needs
 
+slice-aggregate-if-named-11 : tie.Need-slice-aggregate-if-named-11
+slice-aggregate-if-named-11 c = search needs
+
+if-named-requires-11 : tie.Need-if-named-requires-11
+if-named-requires-11 c κs = search needs
+
 returns : tie.Need-returns
 returns c =
-    let c9 = c .before .before in
+    let c10 = c .before .before in
+    let c9 = c10 .before .before in
     let c8 = c9 .before .before in
     let c7 = c8 .before .before in
     let c6 = c7 .before .before in
@@ -74,7 +81,7 @@ returns c =
     let c3 = c4 .before .before in
     let c2 = c3 .before .before in
     let c1 = c2 .before .before in
-    rw (c .if-named10 .ensures, c9 .if-named9 .ensures, c8 .if-named8 .ensures, c7 .if-named7 .ensures, c6 .if-named6 .ensures, c5 .if-named5 .ensures, c4 .if-named4 .ensures, c3 .if-named3 .ensures, c2 .if-named2 .ensures, c1 .if-named .ensures)
+    rw (c .if-named11 .ensures, c10 .if-named10 .ensures, c9 .if-named9 .ensures, c8 .if-named8 .ensures, c7 .if-named7 .ensures, c6 .if-named6 .ensures, c5 .if-named5 .ensures, c4 .if-named4 .ensures, c3 .if-named3 .ensures, c2 .if-named2 .ensures, c1 .if-named .ensures)
 
 pub op-of-spec : {M : Type 1} → statement M
 op-of-spec =
@@ -100,4 +107,6 @@ op-of-spec =
     if-named-requires-9
     slice-aggregate-if-named-10
     if-named-requires-10
+    slice-aggregate-if-named-11
+    if-named-requires-11
     returns)

@@ -1,0 +1,157 @@
+//! Lexing by the Rust's lex.rs, and what document 01 has beside it: the limit, the room, the number of each refusal, and which of
+//! the places that the Rust comes to is its place. Every lexeme and every place is the Rust's. There are no known differences.
+
+use super::utf8::admitted;
+use super::{Answer, NO_ROOM};
+use promql::{Place, Stopped};
+
+/// Which of the places that the Rust comes to is that of a refusal.
+type At = fn(&mut Stopped) -> Place;
+
+/// The number of a refusal, and what the Rust says. There `{}` stands for the character at the refusal's place, `{:?}` for that
+/// as Rust shows it, `{text}` for the lexeme up to and with that character, and `{sign}` for the lexeme's first.
+type Row = (u8, &'static str);
+
+/// The refusals of the reading, by their places.
+const REFUSALS: [(At, &[Row]); 4] = [
+    (
+        Stopped::end,
+        &[
+            (10, "unclosed left parenthesis"),
+            (13, "'!' can not be at the end"),
+            (22, "escape sequence not terminated"),
+            (23, "unterminated quoted string {sign}"),
+            (27, "unexpected end of input inside braces"),
+            (32, "unexpected end of input inside brackets"),
+        ],
+    ),
+    (
+        Stopped::next,
+        &[
+            (11, "unexpected character after '=': '{}'"),
+            (14, "unexpected character after '.': '{}'"),
+        ],
+    ),
+    (
+        Stopped::last,
+        &[
+            (12, "unexpected character after '!': '{}'"),
+            (15, "unexpected character: '.'"),
+            (16, "unexpected right parenthesis '{}'"),
+            (17, "unexpected right brace '{}'"),
+            (18, "unexpected right bracket '{}'"),
+            (19, "unexpected character: {:?}"),
+            (21, "unknown escape sequence '{}'"),
+            (24, "unexpected character after '!' inside braces: '{}'"),
+            (25, "unexpected left brace '{}' inside braces"),
+            (26, "unexpected character inside braces: '{}'"),
+            (28, "unexpected second colon({}) in brackets"),
+            (29, "expect duration before first colon({}) in brackets"),
+            (30, "unexpected left brace '{}' inside brackets"),
+            (31, "unexpected character inside brackets: '{}'"),
+        ],
+    ),
+    (
+        Stopped::not_taken,
+        &[(20, "bad number or duration syntax: {text}")],
+    ),
+];
+
+/// What a query is read as: the kind, start and length of each lexeme, and the refusal behind these where there is one.
+#[derive(Default)]
+pub struct Lexed {
+    pub kinds: Vec<u16>,
+    pub starts: Vec<u32>,
+    pub lengths: Vec<u32>,
+    refused: Option<Answer>,
+}
+
+impl Lexed {
+    /// What the query of these bytes is read as.
+    pub fn new(bytes: &[u8]) -> Self {
+        match admitted(bytes) {
+            Ok(query) => Lexed::of(query),
+            Err(refused) => Lexed {
+                refused: Some(refused),
+                ..Lexed::default()
+            },
+        }
+    }
+
+    /// What a query is read as that is UTF-8 within the limit. The steps must come to what the Rust's public function gives.
+    fn of(query: &str) -> Self {
+        let steps = promql::steps(query);
+        let stepped = match &steps.stopped {
+            Some(stopped) => Err(&stopped.said),
+            None => Ok(&steps.lexemes),
+        };
+        assert_eq!(promql::lexemes(query).as_ref(), stepped, "{query:?}");
+        let lexemes = steps.lexemes.iter();
+        Lexed {
+            kinds: lexemes.clone().map(|lexeme| lexeme.0).collect(),
+            starts: lexemes.clone().map(|lexeme| lexeme.1 as u32).collect(),
+            lengths: lexemes.map(|lexeme| lexeme.2 as u32).collect(),
+            refused: steps.stopped.map(|stopped| refusal(query, stopped)),
+        }
+    }
+
+    /// How many lexemes there are, or are before the refusal.
+    pub fn count(&self) -> usize {
+        self.kinds.len()
+    }
+
+    /// The answer where there is room for so many.
+    pub fn answer(&self, room: u64) -> Answer {
+        let count = self.count() as u64;
+        match self.refused {
+            Some(refused) => refused,
+            None if count > room => Answer::refused(NO_ROOM),
+            None => Answer::Value(count),
+        }
+    }
+
+    /// Writes the lexemes to the fronts of the lists: how many they are.
+    pub fn write(&self, kinds: &mut [u16], starts: &mut [u32], lengths: &mut [u32]) -> Answer {
+        let room = kinds.len().min(starts.len()).min(lengths.len());
+        let answer = self.answer(room as u64);
+        if let Answer::Value(_) = answer {
+            kinds[..self.count()].copy_from_slice(&self.kinds);
+            starts[..self.count()].copy_from_slice(&self.starts);
+            lengths[..self.count()].copy_from_slice(&self.lengths);
+        }
+        answer
+    }
+}
+
+/// The refusal of a query that the Rust stopped in. What the Rust says must be what it says of that place.
+fn refusal(query: &str, mut stopped: Stopped) -> Answer {
+    let said = stopped.said.clone();
+    let found = REFUSALS.iter().find_map(|(at, rows)| {
+        let row = rows.iter().find(|(_, says)| may_be(says, &said))?;
+        Some((at, row))
+    });
+    let (at, (number, says)) =
+        found.unwrap_or_else(|| panic!("the Rust says {said:?} of {query:?}"));
+    let start = stopped.start();
+    let (byte, character) = at(&mut stopped);
+    assert_eq!(said, filled(says, query, start, byte), "{query:?}");
+    Answer::Refused(*number, byte as u16, character as u16)
+}
+
+/// Whether something said begins and ends as a row does.
+fn may_be(row: &str, said: &str) -> bool {
+    let front = row.split('{').next().unwrap_or_default();
+    let back = row.rsplit('}').next().unwrap_or_default();
+    said.starts_with(front) && said.ends_with(back)
+}
+
+/// A row, filled for a lexeme that begins at byte `start` of a query, and for a place at byte `at`.
+fn filled(row: &str, query: &str, start: usize, at: usize) -> String {
+    let first = query[start..].chars().next();
+    let named = query[at..].chars().next();
+    let end = at + named.map_or(0, char::len_utf8);
+    row.replace("{}", &query[at..end])
+        .replace("{:?}", &named.map_or(String::new(), |c| format!("{c:?}")))
+        .replace("{sign}", &first.map_or(String::new(), String::from))
+        .replace("{text}", &query[start..end])
+}
