@@ -9,9 +9,9 @@ use compare::texts::queries;
 /// One random query is compared for so many of the count.
 const SHARE: usize = 2;
 
-/// The bytes around a query, by turns. A function that reads past the end finds there what goes on with a word, a number, a sign,
-/// a character cut short; what a point, `!`, `fill` or `or` needs behind it; what closes a string, a comment, braces, brackets or
-/// parentheses; and more white space.
+/// The bytes around a query, by turns. A function that reads past the end finds there what goes on with a word, a number, a
+/// sign or a character cut short; what a point, `!`, `fill` or `or` needs behind it; what closes a string, a comment, braces,
+/// brackets or parentheses; and more white space.
 const AROUND: &[u8] = b"a5m=~.([ \n\"'`\\}])\x80\xbf";
 
 /// What stands where the kinds, the starts and the lengths may be written, and around these.
@@ -31,8 +31,8 @@ pub fn run(seed: u64, count: usize) -> u64 {
     compare(&ON_QUERIES, queries::fixed(&words).chain(random))
 }
 
-/// The rooms of the three lists for so many lexemes: more than enough, just enough, one too little, and none; then each list in
-/// turn shorter than the others, by the one that is missing, and where none is.
+/// The rooms of the three lists for so many lexemes: more than enough, just enough, one too little, and none; then with each
+/// list in turn shorter than the others, by the one that is missing, and where none is.
 fn rooms(count: usize) -> [[usize; 3]; 10] {
     let (more, less) = (count + 1, count.saturating_sub(1));
     [

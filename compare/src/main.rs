@@ -1,6 +1,6 @@
 //! Compares our functions with the Rust's and Go's on generated inputs: `compare [--seed N] [--count N] [--only NAME]`.
-//! COUNT is the number of random inputs, beside the fixed ones. NAME is that of one operation, where not all are to be compared.
-//! The exit status is 1 if there is a difference.
+//! COUNT is the number of random inputs, beside the fixed ones. NAME is that of one operation, where not all are to be
+//! compared. The exit status is 1 if there is a difference.
 //! Without the feature `promql` it compares with Rust's library, not with promql-parser; without `go`, not with Go.
 
 #![cfg_attr(not(all(feature = "promql", feature = "go")), allow(dead_code))]

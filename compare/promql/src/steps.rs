@@ -62,8 +62,8 @@ impl Stopped {
         last
     }
 
-    /// Where the lexer came to in what is neither a number nor a duration, before it took one more character to tell of. What it
-    /// took is given back, and read again.
+    /// Where the lexer came to in what is neither a number nor a duration, before it took one more character to tell of. What
+    /// it took is given back, and read again.
     pub fn not_taken(&mut self) -> Place {
         while self.lexer.ctx.pos > self.lexer.ctx.start {
             self.lexer.backup();

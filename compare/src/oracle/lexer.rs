@@ -1,5 +1,6 @@
-//! Lexing by the Rust's lex.rs, and what document 01 has beside it: the limit, the room, the number of each refusal, and which of
-//! the places that the Rust comes to is its place. Every lexeme and every place is the Rust's. There are no known differences.
+//! Lexing by the Rust's lex.rs, and what document 01 has beside it: the limit, the room, the number of each refusal, and which
+//! of the places that the Rust comes to is its place. Every lexeme and every place is the Rust's. There are no known
+//! differences.
 
 use super::utf8::admitted;
 use super::{Answer, NO_ROOM};

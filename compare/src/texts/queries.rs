@@ -81,8 +81,8 @@ const TELLING: [&str; 26] = [
     "5", "x", "m", "s", "o", "r", ",", "\u{e9}",
 ];
 
-/// What stands in front, what all rows behind it are made of, and how much of that a row has at most: for numbers and durations,
-/// braces, brackets, strings, signs, comments, and what is behind a fill word.
+/// What stands in front, what all rows behind it are made of, and how much of that a row has at most: for numbers and
+/// durations, braces, brackets, strings, signs, comments, and what is behind a fill word.
 const ROWS: [(&[&str], &[&str], u32); 7] = [
     (
         &["", "["],
@@ -313,9 +313,9 @@ const PIECES: [&[&str]; 10] = [
     &OTHERS,
 ];
 
-/// Forms of queries, of braces and of brackets. In these `E` stands for a query, `B` for braces, `R` for brackets, `W` for a word,
-/// `L` for one without a colon, `K` for one of the table, `N` for a number or a duration, `T` for a string, `O` for a sign between
-/// two values, and a space for white space or a comment.
+/// Forms of queries, of braces and of brackets. In these `E` stands for a query, `B` for braces, `R` for brackets, `W` for a
+/// word, `L` for one without a colon, `K` for one of the table, `N` for a number or a duration, `T` for a string, `O` for a
+/// sign between two values, and a space for white space or a comment.
 const FORMS: [&str; 24] = [
     "N",
     "T",
@@ -386,12 +386,27 @@ const WORD_BYTES: &[u8] = b"abzABZ_059::";
 const LABEL_BYTES: &[u8] = b"abzorORZ_059";
 
 /// What is put into queries.
-const PUT_IN: [&str; 14] = [
-    "\"", "\\", "#", "\n", " ", "{", "]", "(", ":", "=", "!", ".", "5", "\u{e9}",
+const PUT_IN: [&str; 16] = [
+    "\"",
+    "\\",
+    "#",
+    "\n",
+    " ",
+    "{",
+    "]",
+    "(",
+    ":",
+    "=",
+    "!",
+    ".",
+    "5",
+    "\u{e9}",
+    "\u{20ac}",
+    "\u{10ffff}",
 ];
 
-/// What a query goes on from: nothing, parentheses, braces, brackets; and characters that make the character number another than
-/// the byte offset.
+/// What a query goes on from: nothing, parentheses, braces, brackets; and characters that make the character number another
+/// than the byte offset.
 const FRONTS: [&str; 6] = [
     "",
     "(",
@@ -511,9 +526,9 @@ const LONGEST: [[&str; 3]; 70] = [
     ["", "'\u{e9}' ", "$"],
 ];
 
-/// Every text of at most two bytes, and of at most four telling characters; every row of the pieces of each rule; any two pieces;
-/// the words, and every character, with much around them; escapes; texts that are not UTF-8; queries cut short at each byte, and
-/// with a byte changed; deep parentheses; texts around the limit.
+/// Every text of at most two bytes, and of at most four telling characters; every row of the pieces of each rule; any two
+/// pieces; the words, and every character, with much around them; deep parentheses; escapes; texts that are not UTF-8; queries
+/// cut short at each byte, and with a byte changed; texts around the limit.
 pub fn fixed<'a>(words: &'a [&str]) -> impl Iterator<Item = Vec<u8>> + 'a {
     let texts = telling()
         .chain(rows())
@@ -590,7 +605,7 @@ fn escapes() -> impl Iterator<Item = Vec<u8>> {
     (0..=u8::MAX).flat_map(|byte| {
         b"\"'`".iter().flat_map(move |&sign| {
             let string = [sign, b'a', b'\\', byte, sign];
-            [&b""[..], b"{", "{\u{e9}".as_bytes()].map(|front| [front, &string].concat())
+            ["", "{", "'\u{e9}'{"].map(|front| [front.as_bytes(), &string].concat())
         })
     })
 }
@@ -641,7 +656,8 @@ pub fn of_length([front, fill, back]: [&str; 3], length: usize) -> String {
     [&spaces, front, &fill.repeat(room / fill.len()), back].concat()
 }
 
-/// Random texts without end: rounds of queries, whole, spoiled and cut short, of pieces in a row, and of what is hardly a query.
+/// Random texts without end: rounds of queries, whole, spoiled and cut short, of pieces in a row, and of what is hardly a
+/// query.
 pub fn random<'a>(seed: u64, words: &'a [&str]) -> impl Iterator<Item = Vec<u8>> + 'a {
     let mut random = Random::new(seed);
     iter::repeat_with(move || round(&mut random, words)).flatten()
