@@ -81,31 +81,43 @@ const TELLING: [&str; 26] = [
     "5", "x", "m", "s", "o", "r", ",", "\u{e9}",
 ];
 
-/// What stands in front, what all rows behind it are made of, and how much of that a row has at most: for numbers and
-/// durations, braces, brackets, strings, signs, comments, and what is behind a fill word.
-const ROWS: [(&[&str], &[&str], u32); 7] = [
+/// What stands before something, and what behind it.
+type Around = [&'static str; 2];
+
+/// What stands around every row, what it is made of, and how much of that it has at most: for numbers and durations, braces,
+/// brackets, strings, signs, comments, and what is behind a fill word.
+const ROWS: [(&[Around], &[&str], u32); 7] = [
     (
-        &["", "["],
+        &[["", ""], ["[", "]"]],
         &["0", "7", "x", ".", "e", "+", "m", "s", "y", "f"],
         5,
     ),
     (
-        &["{"],
+        &[["{", ""]],
         &["o", "R", "x", "5", " ", "\t", "=", "!", "~", "}"],
         5,
     ),
-    (&["["], &["[", "]", ":", "5", "m", " ", "\n", "a"], 5),
+    (&[["[", ""]], &["[", "]", ":", "5", "m", " ", "\n", "a"], 5),
     (
-        &["\"", "'", "`", "{\""],
+        &[["\"", ""], ["'", ""], ["`", ""], ["{\"", "}"]],
         &["\"", "'", "`", "\\", "n", "8", "\u{e9}", "\n"],
         5,
     ),
-    (&[""], &["=", "!", "~", "<", ">", "-", " "], 6),
-    (&["", "{"], &["(", ")", "#", "\r", "\n", " ", "}", "a"], 5),
+    (&[["", ""]], &["=", "!", "~", "<", ">", "-", " "], 6),
     (
-        &["fill", "FILL_left", "fill_Right", "filler"],
+        &[["", ""], ["{", "}"]],
+        &["(", ")", "#", "\r", "\n", " ", "}", "a"],
+        5,
+    ),
+    (
         &[
-            " ", "\t", "\n", "\r", "\u{b}", "\u{c}", "(", "#", ":", "\u{e9}",
+            ["fill", ""],
+            ["FILL_left", ""],
+            ["fill_Right", ""],
+            ["filler", ""],
+        ],
+        &[
+            " ", "\t", "\n", "\r", "\u{b}", "\u{c}", "()", "#", ":", "\u{e9}",
         ],
         4,
     ),
@@ -405,23 +417,33 @@ const PUT_IN: [&str; 16] = [
     "\u{10ffff}",
 ];
 
-/// What a query goes on from: nothing, parentheses, braces, brackets; and characters that make the character number another
+/// What stands around queries: nothing, parentheses, braces, brackets; and characters that make the character number another
 /// than the byte offset.
-const FRONTS: [&str; 6] = [
-    "",
-    "(",
-    "{",
-    "[",
-    "\"\u{e9}\u{20ac}\u{10ffff}\" ",
-    "#\u{10ffff}\n{`\u{e9}`,",
+const AROUND: [Around; 6] = [
+    ["", ""],
+    ["(", ")"],
+    ["{", "}"],
+    ["[", "]"],
+    ["\"\u{e9}\u{20ac}\u{10ffff}\" ", ""],
+    ["#\u{10ffff}\n{`\u{e9}`,", "}"],
 ];
 
-/// What stands before and behind a word, and before and behind any character.
-const BEFORE_WORD: [&str; 9] = ["", "(", "{", "[", "a ", "5", ":", "_", "."];
-const BEHIND_WORD: [&str; 14] = [
-    "", "(", " (", ":", "5", "_", "s", " ", "\u{e9}", "}", ".", "\"\"", "=", "#\n(",
+/// What stands around a word, what is behind it, and what stands around a character.
+const AROUND_WORD: [Around; 9] = [
+    ["", ""],
+    ["(", ")"],
+    ["{", "}"],
+    ["[", "]"],
+    ["a ", ""],
+    ["5", ""],
+    [":", ""],
+    ["_", ""],
+    [".", ""],
 ];
-const AROUND_CHARACTER: [[&str; 2]; 18] = [
+const BEHIND_WORD: [&str; 14] = [
+    "", "()", " ()", ":", "5", "_", "s", " ", "\u{e9}", "}", ".", "\"\"", "=", "#\n()",
+];
+const AROUND_CHARACTER: [Around; 18] = [
     ["", ""],
     ["", "a"],
     ["a", "b"],
@@ -439,7 +461,7 @@ const AROUND_CHARACTER: [[&str; 2]; 18] = [
     ["\"\\", "\""],
     ["`", "` !"],
     ["#", "\n)"],
-    ["fill", "("],
+    ["fill", "()"],
 ];
 
 /// How deep parentheses are nested.
@@ -516,9 +538,9 @@ const LONGEST: [[&str; 3]; 70] = [
     ["[", "5", "e5m5"],
     ["", "[]", "]"],
     ["", "[5:]", ""],
-    ["fill", " ", "("],
+    ["fill", " ", "()"],
     ["fill_left", "\n", ""],
-    ["", "fill ", "("],
+    ["", "fill ", "()"],
     ["", "!=", "!"],
     ["", "a<", "=~"],
     ["", "a ", "."],
@@ -549,17 +571,18 @@ fn telling() -> impl Iterator<Item = String> {
     sequences(&TELLING, 4).map(|pieces| pieces.concat())
 }
 
-/// Every row of the pieces of each rule, behind each front.
+/// Every row of the pieces of each rule, with what stands around it.
 fn rows() -> impl Iterator<Item = String> {
-    ROWS.iter().flat_map(|&(fronts, pieces, most)| {
+    ROWS.iter().flat_map(|&(around, pieces, most)| {
         sequences(pieces, most).flat_map(move |row| {
             let row = row.concat();
-            fronts.iter().map(move |front| [front, &row[..]].concat())
+            let around = around.iter();
+            around.map(move |[front, back]| [front, &row[..], back].concat())
         })
     })
 }
 
-/// Any two pieces, together and apart, behind each front.
+/// Any two pieces, together and apart, with each thing around them.
 fn pairs() -> impl Iterator<Item = String> {
     let pieces = || PIECES.iter().copied().flatten();
     let glued = pieces().flat_map(move |first| {
@@ -567,17 +590,17 @@ fn pairs() -> impl Iterator<Item = String> {
             .into_iter()
             .flat_map(move |between| pieces().map(move |last| [first, between, last].concat()))
     });
-    glued.flat_map(|text| FRONTS.map(|front| [front, &text].concat()))
+    glued.flat_map(|text| AROUND.map(|[front, back]| [front, &text, back].concat()))
 }
 
-/// The words of the table in each case, with something before and behind them.
+/// The words of the table in each case, with something around and behind them.
 fn in_words<'a>(words: &'a [&str]) -> impl Iterator<Item = String> + 'a {
     let cased = words.iter().flat_map(|word| cased(word));
     cased.flat_map(|word| {
         let word = String::from_utf8_lossy(&word).into_owned();
-        BEFORE_WORD.into_iter().flat_map(move |before| {
+        AROUND_WORD.into_iter().flat_map(move |[front, back]| {
             let word = word.clone();
-            BEHIND_WORD.map(move |behind| [before, &word, behind].concat())
+            BEHIND_WORD.map(move |behind| [front, &word, behind, back].concat())
         })
     })
 }
@@ -627,12 +650,14 @@ fn not_utf8() -> impl Iterator<Item = Vec<u8>> {
     })
 }
 
-/// The queries, cut short at each byte behind each front, and with a byte changed.
+/// The queries, cut short at each byte with each thing around them, and with a byte changed.
 fn samples() -> impl Iterator<Item = Vec<u8>> {
     QUERIES.iter().flat_map(|query| {
         let query = query.as_bytes();
-        let cut = (0..=query.len())
-            .flat_map(move |end| FRONTS.map(|front| [front.as_bytes(), &query[..end]].concat()));
+        let cut = (0..=query.len()).flat_map(move |end| {
+            let around = AROUND.map(|parts| parts.map(str::as_bytes));
+            around.map(|[front, back]| [front, &query[..end], back].concat())
+        });
         cut.chain(near(query, &PUT_IN))
     })
 }
@@ -705,13 +730,13 @@ fn crossed(random: &mut Random, front: &[u8], back: &[u8]) -> Vec<u8> {
     [&cut(random, front), &back[end..]].concat()
 }
 
-/// The text behind a string or a comment of any characters, or behind a front.
+/// The text behind a string or a comment of any characters, or behind what may stand before others.
 fn behind(random: &mut Random, text: &[u8]) -> Vec<u8> {
     let any = well_formed(random);
     match random.below(3) {
         0 => [&b"`"[..], &any, b"` ", text].concat(),
         1 => [&b"#"[..], &any, b"\n", text].concat(),
-        _ => [random.one_of(&FRONTS).as_bytes(), text].concat(),
+        _ => [random.one_of(&AROUND)[0].as_bytes(), text].concat(),
     }
 }
 
