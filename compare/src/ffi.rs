@@ -1,4 +1,4 @@
-//! Our functions, the C functions of target/native/libexports.a, each with a safe wrapper.
+//! Our functions, the C functions of the archives target/native/libexports_*.a, each with a safe wrapper.
 //! What a function is lent stands between guards, and each wrapper tells whether all that the function may not write
 //! is as it was.
 

@@ -1,0 +1,30 @@
+-- The laws of `specs/Laws`: an accepted answer is a notation's number, well below bit 63; a refusal's number is at most 61 and its
+-- place within the text, by the bounds of `number`'s answers.
+use native.Mathlib.Omega.{arith}
+use mathlib.Core.Bool.{false}
+use mathlib.Core.Path.{_≡_, refl, subst}
+use Rattle.decimal.specs.declared.Notation.{Notation}
+use Rattle.decimal.specs.declared.Notation.the-variants.{Decimal, Hex, Octal}
+use Rattle.number.specs.declared.Parsing.{Parsing}
+use Rattle.number.specs.declared.Parsing.the-variants.{Value, Refused}
+use Rattle.number.specs.Number.{parsingOf}
+use Rattle.number.proofs.Bounds.{Bounded, parsing-bound}
+use Rattle.packed.specs.Laws.{looksRefused}
+use Rattle.packed.proofs.Laws.{packed-told, placed-kept}
+use Rattle.exports_number.specs.Number.{notationCode, parseCode}
+use Rattle.exports_number.specs.Laws.{isNoNumber, ParseTold, ParseKept}
+
+pub parse-told : ParseTold
+parse-told xs = go (parsingOf xs)
+  where
+    by : (n : Notation) → looksRefused (notationCode n) ≡ false
+    by Decimal = refl
+    by Hex = refl
+    by Octal = refl
+
+    go : (p : Parsing) → looksRefused (parseCode p) ≡ isNoNumber p
+    go (Value n) = by (n .notation)
+    go (Refused r) = packed-told r
+
+pub parse-kept : ParseKept
+parse-kept xs r e = placed-kept (omega arith) (omega arith) (subst Bounded e (parsing-bound xs))

@@ -1,0 +1,23 @@
+-- The laws of `specs/Laws`: an accepted answer is the length of a text that a row of `token`'s table has room for, well below bit 63, and
+-- the number 3 and the place 0, 0 fit their bits.
+use native.Mathlib.Omega.{arith}
+use mathlib.Core.Path.{_≡_, refl}
+use lib.Dec.{leb}
+use lib.ListN.{length}
+use Rattle.scan.proofs.Choice.{either}
+use Rattle.token.specs.declared.Display.{Display}
+use Rattle.token.specs.Display.{displayOf, fitted}
+use Rattle.token.proofs.Displays.{short}
+use Rattle.packed.specs.Laws.{looksRefused}
+use Rattle.packed.proofs.Laws.{small}
+use Rattle.exports_token.specs.Token.{displayCode}
+use Rattle.exports_token.specs.Laws.{isNotShown, DisplayTold, DisplayKept}
+
+pub display-told : DisplayTold
+unfolding fitted
+display-told room k =
+    either (λ (d : Display). looksRefused (displayCode d) ≡ isNotShown d) (leb (length (displayOf k)) room)
+    (λ e. small (length (displayOf k)) (omega (arith, short k))) (λ e. refl)
+
+pub display-kept : DisplayKept
+display-kept = omega arith

@@ -1,0 +1,29 @@
+-- `exports_token::simmerpath_get_keyword_token` meets its contract: it is the code of what `token` answers.
+use mathlib.Core.Path.{sym, ap, _∙_}
+use Rattle.exports_token.specs.Token.{keywordCode}
+use borrow.Author.Needs.{needs}
+use Rattle.exports_token.proofs.simmerpath_get_keyword_token.Statement.{statement}
+use Rattle.exports_token.proofs.simmerpath_get_keyword_token.Tie as tie
+
+get-keyword-token-requires : tie.Need-get-keyword-token-requires
+get-keyword-token-requires c κs = search needs
+
+enum-known-k : tie.Need-enum-known-k
+enum-known-k c = search needs
+
+cast-result : tie.Need-cast-result
+cast-result c = search needs
+
+enum-told : tie.Need-enum-told
+enum-told c = search needs
+
+returns : tie.Need-returns
+returns c = ap keywordCode (sym (c .before .k .given .1) ∙ c .before .before .before .get-keyword-token .ensures)
+
+returns-2 : tie.Need-returns-2
+returns-2 c = ap keywordCode (sym (c .enum-told .given .1) ∙ c .before .before .get-keyword-token .ensures)
+
+pub simmerpath-get-keyword-token-spec : {M : Type 1} → statement M
+simmerpath-get-keyword-token-spec =
+    tie.close
+    (tie.spec get-keyword-token-requires enum-known-k cast-result enum-told returns returns-2)
