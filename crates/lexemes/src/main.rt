@@ -1,0 +1,23 @@
+// Prints the lexemes of the query on standard input, a line each, or the one line of its refusal.
+use libc::STDIN_FILENO;
+use libc::STDOUT_FILENO;
+ghost use Rattle.io.specs.Counts.{Counts};
+
+// One byte more than is taken is read, to know that an input is too long.
+const MOST_READ: usize = listing::INPUT_LIMIT + 1;
+
+// Writes what is printed of a query at the front of `out`, and says how long that is.
+fn list(query: &[u8], out: &mut [u8]) -> usize
+    ensures { λ r. ⌜ Counts r (now (out .exit)) ⌝ }
+{
+    listing::list_lexemes(query, out)
+}
+
+// Reads the query, and prints what is to be said of it.
+fn main() {
+    let mut input = [0u8; MOST_READ];
+    let n = io::read_full(STDIN_FILENO, &mut input);
+    let mut text = [0u8; listing::MOST_TEXT];
+    let end = list(&input[..n], &mut text);
+    io::write_all(STDOUT_FILENO, &text[..end]);
+}

@@ -1,0 +1,73 @@
+-- Laws of lexemes in three lists: what the lists hold are the lexemes that were written there, and the text of one more of them stands behind
+-- the text of those before it.
+use Prim.Native.Nat.{ℕ, zero, suc, _+_, _≤_, _<_}
+use native.Mathlib.Numerals.{add-one}
+use native.Mathlib.Omega.{arith}
+use mathlib.Core.Path.{_≡_, refl, sym, ap, _∙_}
+use mathlib.Core.List.{List, [], _∷_, _++_, map, append-assoc, append-nil}
+use lib.ListN.{length, take, drop, getD, length-map}
+use lib.Seq.{take-suc, take-all, take-at}
+use Rattle.lex.specs.declared.Lexing.{Lexing}
+use Rattle.lex.specs.declared.Lexing.the-variants.{Count}
+use Rattle.lex.specs.Steps.{Entry, entry}
+use Rattle.lex.specs.Lex.{entriesOf, lexed, listed, leftBy, kindOf, startOf, lengthOf, shortest}
+use Rattle.lex.proofs.Given.{lexing-given}
+use Rattle.listing.specs.declared.Layout.{Layout}
+use Rattle.listing.specs.Listing.{lexemeText, lexemesText, zipped}
+
+-- three lists that hold the numbers of lexemes hold the lexemes
+zipped-back : (es : List Entry) → zipped (map kindOf es) (map startOf es) (map lengthOf es) ≡ es
+zipped-back [] = refl
+zipped-back (e ∷ es) = ap (λ (t : List Entry). e ∷ t) (zipped-back es)
+
+listed-front : (f : Entry → ℕ) (q d : List ℕ) (n : ℕ) → n ≡ length (entriesOf q) → take n (listed f q d) ≡ map f (entriesOf q)
+listed-front f q d n h = take-at (map f (entriesOf q)) (drop (length (entriesOf q)) d) n (length-map (entriesOf q) f ∙ sym h)
+
+-- what `lexer` promises of an accepted query is that the first entries of the three lists are its lexemes, and that there is room for them
+pub lists-hold : (q ks ss ls : List ℕ) {x : Lexing} {n : ℕ} {ks′ ss′ ls′ : List ℕ}
+    → (x ≡ lexed (shortest (length ks) (length ss) (length ls)) q)
+    × ((ks′ ≡ leftBy x (listed kindOf q ks) ks) × ((ss′ ≡ leftBy x (listed startOf q ss) ss) × (ls′ ≡ leftBy x (listed lengthOf q ls) ls)))
+    → x ≡ Count n
+    → (n ≤ shortest (length ks) (length ss) (length ls)) × (zipped (take n ks′) (take n ss′) (take n ls′) ≡ entriesOf q)
+lists-hold q ks ss ls {n = n} p told =
+    let w = (lexing-given (shortest (length ks) (length ss) (length ls)) q .4 n) .0 (sym (p .0) ∙ told) in
+    let kinds = ap (take n) (p .1 .0 ∙ ap (λ y. leftBy y (listed kindOf q ks) ks) told) ∙ listed-front kindOf q ks n (w .2) in
+    let starts = ap (take n) (p .1 .1 .0 ∙ ap (λ y. leftBy y (listed startOf q ss) ss) told) ∙ listed-front startOf q ss n (w .2) in
+    let lengths = ap (take n) (p .1 .1 .1 ∙ ap (λ y. leftBy y (listed lengthOf q ls) ls) told) ∙ listed-front lengthOf q ls n (w .2) in
+    (w .3, rw (kinds, starts, lengths) (zipped-back (entriesOf q)))
+
+module _ (l : Layout) where
+  one-more : (es : List Entry) (e : Entry) → lexemesText l (es ++ e ∷ []) ≡ lexemesText l es ++ lexemeText l e
+  unfolding lexemesText
+  one-more [] e = append-nil (lexemeText l e)
+  one-more (x ∷ es) e =
+      ap (λ (t : List ℕ). lexemeText l x ++ t) (one-more es e) ∙ sym (append-assoc (lexemeText l x) (lexemesText l es) (lexemeText l e))
+
+zipped-length : (ks ss ls : List ℕ) → length ss ≡ length ks → length ls ≡ length ks → length (zipped ks ss ls) ≡ length ks
+zipped-length [] ss ls h g = refl
+zipped-length (k ∷ ks) [] ls h g = absurd (omega arith)
+zipped-length (k ∷ ks) (s ∷ ss) [] h g = absurd (omega arith)
+zipped-length (k ∷ ks) (s ∷ ss) (l ∷ ls) h g = ap suc (zipped-length ks ss ls (omega arith) (omega arith))
+
+zipped-at : (ks ss ls : List ℕ) (i : ℕ) → length ss ≡ length ks → length ls ≡ length ks
+    → getD (zipped ks ss ls) i (entry 0 0 0) ≡ entry (getD ks i 0) (getD ss i 0) (getD ls i 0)
+zipped-at [] [] [] i h g = refl
+zipped-at [] [] (l ∷ ls) i h g = absurd (omega arith)
+zipped-at [] (s ∷ ss) ls i h g = absurd (omega arith)
+zipped-at (k ∷ ks) [] ls i h g = absurd (omega arith)
+zipped-at (k ∷ ks) (s ∷ ss) [] i h g = absurd (omega arith)
+zipped-at (k ∷ ks) (s ∷ ss) (l ∷ ls) zero h g = refl
+zipped-at (k ∷ ks) (s ∷ ss) (l ∷ ls) (suc i) h g = zipped-at ks ss ls i (omega arith) (omega arith)
+
+module _ (ks ss ls : List ℕ) (h : length ss ≡ length ks) (g : length ls ≡ length ks) where
+  -- the text of one more
+  pub text-more : (w : Layout) (i : ℕ) → i < length ks
+      → lexemesText w (take (i + 1) (zipped ks ss ls)) ≡ lexemesText w (take i (zipped ks ss ls)) ++ lexemeText w (entry (getD ks i 0) (getD ss i 0) (getD ls i 0))
+  text-more w i l =
+      let es = zipped ks ss ls in
+      let inside : i < length es = omega (arith, zipped-length ks ss ls h g) in
+      rw (add-one, take-suc es i (entry 0 0 0) inside, one-more, zipped-at ks ss ls i h g)
+
+  -- and of all
+  pub text-all : (w : Layout) (i : ℕ) → length ks ≤ i → lexemesText w (take i (zipped ks ss ls)) ≡ lexemesText w (zipped ks ss ls)
+  text-all w i l = ap (lexemesText w) (take-all i (zipped ks ss ls) (omega (arith, zipped-length ks ss ls h g)))

@@ -1,0 +1,6 @@
+pub mod Puts
+pub mod Few
+pub mod Lexemes
+pub mod Laws
+pub mod Cases
+pub mod Unique

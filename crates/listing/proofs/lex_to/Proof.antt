@@ -1,0 +1,137 @@
+-- The arms are those of the definition. The first entries of the three lists are the lexemes (`lists-hold`), and a refusal is short.
+use Rattle.listing.proofs.Puts.{puts}
+use Rattle.listing.proofs.Few.{refused-few}
+use Rattle.listing.proofs.Lexemes.{lists-hold}
+use Rattle.listing.specs.Listing.{mostLexemes, zipped, printedBy, refusal}
+use Rattle.lex.specs.declared.Lexing.{Lexing}
+use Rattle.lex.specs.Lex.{entriesOf, lexed, shortest}
+use denote.Ref.{now}
+use lib.Seq.{length-take-le}
+use lib.ListN.{length, take}
+use mathlib.Core.Path.{_≡_, sym, ap, _∙_}
+use Prim.Native.Nat.{_≤_}
+use native.Mathlib.Omega.{arith}
+use borrow.Author.Needs.{needs}
+use Rattle.listing.proofs.lex_to.Statement.{statement}
+use Rattle.listing.proofs.lex_to.Tie as tie
+
+lexer-requires : tie.Need-lexer-requires
+lexer-requires c κs = search needs
+
+enum-known-x : tie.Need-enum-known-x
+enum-known-x c = search needs
+
+-- the three lists are as long as there may be lexemes, which is their room
+answered : (c : tie.After-lexer) {x : Lexing} → c .lexer .result ≡ x → lexed mostLexemes (now (c .before .before .before .before .before .before .before .before .before .args .query)) ≡ x
+answered c e =
+    let a = c .before .before .before .before .before .before .before .before .before .args in
+    let h = c .before .before .before .before .before .before .before .before .before .pre .0 in
+    let same : mostLexemes ≡ shortest (length (now (a .kinds))) (length (now (a .starts))) (length (now (a .lengths))) = omega (arith, h) in
+    ap (λ room. lexed room (now (a .query))) same ∙ sym (c .lexer .ensures .0) ∙ e
+
+-- their first entries are the lexemes
+held : (c : tie.After-known-told)
+    → let a = c .before .before .before .before .before .before .before .before .before .before .before .before .before .before .before .before .before .before .args in
+    let p = c .before .before .before .before .before .before .before .before .before .lexer in
+    let n = c .before .x .given .0 .0 in
+    (n ≤ shortest (length (now (a .kinds))) (length (now (a .starts))) (length (now (a .lengths))))
+    × (zipped (take n (p .last .1 .0)) (take n (p .last .1 .1 .0)) (take n (p .last .1 .1 .1 .0)) ≡ entriesOf (now (a .query)))
+held c =
+    let a = c .before .before .before .before .before .before .before .before .before .before .before .before .before .before .before .before .before .before .args in
+    lists-hold (now (a .query)) (now (a .kinds)) (now (a .starts)) (now (a .lengths)) (c .before .before .before .before .before .before .before .before .before .lexer .ensures) (c .before .x .given .1)
+
+slice-reshare-prefix-put-lexemes : tie.Need-slice-reshare-prefix-put-lexemes
+slice-reshare-prefix-put-lexemes c = omega (arith, held (c) .0, c .before .before .before .before .before .before .before .before .before .lexer .kept)
+
+slice-aggregate-put-lexemes : tie.Need-slice-aggregate-put-lexemes
+slice-aggregate-put-lexemes c = sym (length-take-le _ _ (omega (arith, held (c .before) .0, c .before .before .before .before .before .before .before .before .before .before .lexer .kept)))
+
+slice-reshare-prefix-put-lexemes-2 : tie.Need-slice-reshare-prefix-put-lexemes-2
+slice-reshare-prefix-put-lexemes-2 c = omega (arith, held (c .before) .0, c .before .before .before .before .before .before .before .before .before .before .lexer .kept)
+
+slice-aggregate-put-lexemes-2 : tie.Need-slice-aggregate-put-lexemes-2
+slice-aggregate-put-lexemes-2 c = sym (length-take-le _ _ (omega (arith, held (c .before .before) .0, c .before .before .before .before .before .before .before .before .before .before .before .lexer .kept)))
+
+slice-reshare-prefix-put-lexemes-3 : tie.Need-slice-reshare-prefix-put-lexemes-3
+slice-reshare-prefix-put-lexemes-3 c = omega (arith, held (c .before .before) .0, c .before .before .before .before .before .before .before .before .before .before .before .lexer .kept)
+
+slice-aggregate-put-lexemes-3 : tie.Need-slice-aggregate-put-lexemes-3
+slice-aggregate-put-lexemes-3 c = sym (length-take-le _ _ (omega (arith, held (c .before .before .before) .0, c .before .before .before .before .before .before .before .before .before .before .before .before .lexer .kept)))
+
+put-lexemes-requires : tie.Need-put-lexemes-requires
+put-lexemes-requires c κs =
+    let f = held (c .before .before .before .before) .0 in
+    let h = c .before .before .before .before .before .before .before .before .before .before .before .before .before .before .before .before .before .before .before .before .before .before .pre in
+    let p = c .before .before .before .before .before .before .before .before .before .before .before .before .before .lexer in
+    let n = c .before .before .before .before .before .x .given .0 .0 in
+    let kinds = length-take-le n (p .last .1 .0) (omega (arith, p .kept)) in
+    let starts = length-take-le n (p .last .1 .1 .0) (omega (arith, p .kept)) in
+    let lengths = length-take-le n (p .last .1 .1 .1 .0) (omega (arith, p .kept)) in
+    ((omega (arith, kinds, h), omega (arith, h)), (starts ∙ sym kinds, lengths ∙ sym kinds))
+
+enum-known-x-2 : tie.Need-enum-known-x-2
+enum-known-x-2 c = search needs
+
+put-refusal-requires : tie.Need-put-refusal-requires
+put-refusal-requires c κs = search needs
+
+same-length : tie.Need-same-length
+same-length c = search needs
+
+same-length-2 : tie.Need-same-length-2
+same-length-2 c = search needs
+
+same-length-3 : tie.Need-same-length-3
+same-length-3 c = search needs
+
+same-length-4 : tie.Need-same-length-4
+same-length-4 c = search needs
+
+returns : tie.Need-returns
+unfolding printedBy
+returns c = rw (answered (c .before .before .before .before .before .before .before .before .before .before .before .before .before .before .before .before) (c .before .before .before .before .before .before .before .before .x .given .1), ← held (c .before .before .before .before .before .before .before) .1) (c .before .before .put-lexemes .ensures)
+
+same-length-5 : tie.Need-same-length-5
+same-length-5 c = search needs
+
+same-length-6 : tie.Need-same-length-6
+same-length-6 c = search needs
+
+same-length-7 : tie.Need-same-length-7
+same-length-7 c = search needs
+
+same-length-8 : tie.Need-same-length-8
+same-length-8 c = search needs
+
+returns-2 : tie.Need-returns-2
+unfolding printedBy
+returns-2 c =
+    let e = answered (c .before .before .before .before .before .before .before .before .before .before .before .before .before) (c .before .before .before .before .before .x2 .given .1) in
+    let r = c .before .before .before .before .before .x2 .given .0 .0 in
+    rw e (puts _ 0 (refusal r) (c .before .before .put-refusal .ensures) (omega (arith, c .before .before .before .before .before .before .before .before .before .before .before .before .before .before .before .before .before .before .before .before .before .before .pre, refused-few mostLexemes (now (c .before .before .before .before .before .before .before .before .before .before .before .before .before .before .before .before .before .before .before .before .before .before .args .query)) r e)))
+
+pub lex-to-spec : {M : Type 1} → statement M
+lex-to-spec =
+    tie.close
+    (tie.spec
+    lexer-requires
+    enum-known-x
+    slice-reshare-prefix-put-lexemes
+    slice-aggregate-put-lexemes
+    slice-reshare-prefix-put-lexemes-2
+    slice-aggregate-put-lexemes-2
+    slice-reshare-prefix-put-lexemes-3
+    slice-aggregate-put-lexemes-3
+    put-lexemes-requires
+    enum-known-x-2
+    put-refusal-requires
+    same-length
+    same-length-2
+    same-length-3
+    same-length-4
+    returns
+    same-length-5
+    same-length-6
+    same-length-7
+    same-length-8
+    returns-2)

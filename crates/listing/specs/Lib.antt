@@ -1,0 +1,4 @@
+pub mod Listing
+pub mod Puts
+pub mod Laws
+pub mod Cases

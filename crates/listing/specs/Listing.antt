@@ -1,0 +1,76 @@
+-- What the program prints of a query: document 01, "Order of the port" and "Values on both sides".
+use Prim.Native.Nat.{ℕ, _+_, _*_}
+use mathlib.Core.Bool.{cond}
+use mathlib.Core.List.{List, [], _∷_, _++_}
+use lib.Dec.{ltb}
+use lib.ListN.{length}
+use Rattle.scan.specs.Ascii.{ascii}
+use Rattle.utf8.specs.declared.Refusal.{Refusal}
+use Rattle.utf8.specs.Answers.{tooLong}
+use Rattle.record.specs.Decimal.{mostDigits, decimalText}
+use Rattle.lex.specs.declared.Lexing.{Lexing}
+use Rattle.lex.specs.declared.Lexing.the-variants.{Count, Refused}
+use Rattle.lex.specs.Steps.{Entry, entry}
+use Rattle.lex.specs.Lex.{entriesOf, lexed}
+use Rattle.listing.specs.declared.Layout.{Layout}
+use Rattle.listing.specs.declared.Layout.the-variants.{Line, Field}
+
+-- "Order of the port" 6: "for at most 4,096 bytes"
+abbrev pub inputLimit : ℕ
+inputLimit = 4096
+
+-- no input has more lexemes: one for each byte, and its end
+abbrev pub mostLexemes : ℕ
+mostLexemes = inputLimit + 1
+
+-- no lexeme takes more bytes: a number of 16 bits, two of 32 bits, and three signs
+abbrev pub longestLexeme : ℕ
+longestLexeme = 28
+
+-- no text that is printed is longer
+abbrev pub mostText : ℕ
+mostText = mostLexemes * longestLexeme
+
+-- a number, and what follows it
+abbrev pub numbered : ℕ → List ℕ → List ℕ
+numbered n after = decimalText n ++ after
+
+-- three numbers, the first two with one sign behind them, the last with another
+abbrev pub numbers : ℕ → ℕ → ℕ → List ℕ → List ℕ → List ℕ
+numbers a b c between after = numbered a between ++ numbered b between ++ numbered c after
+
+-- their length where no sign is longer than a byte, and that of a line
+abbrev pub mostNumbers : ℕ
+mostNumbers = 3 * (mostDigits + 1)
+
+abbrev pub longestLine : ℕ
+longestLine = length (ascii "refused ") + mostNumbers
+
+-- "Values on both sides": "a refusal as `refused`, number, byte, character"
+unfoldable pub refusal : Refusal → List ℕ
+refusal r = ascii "refused " ++ numbers (r .number) (r .place .byte .0) (r .place .character .0) (ascii " ") (ascii "\n")
+
+-- "Values on both sides": "each lexeme as kind, start, length", on a line; or, for `replay`, in a field
+abbrev pub lexemeText : Layout → Entry → List ℕ
+lexemeText Line e = numbers (e .kind) (e .start) (e .length) (ascii " ") (ascii "\n")
+lexemeText Field e = ascii " " ++ numbers (e .kind) (e .start) (e .length) (ascii ",") []
+
+unfoldable pub lexemesText : Layout → List Entry → List ℕ
+lexemesText l [] = []
+lexemesText l (e ∷ es) = lexemeText l e ++ lexemesText l es
+
+-- the lexemes that three lists hold
+abbrev pub zipped : List ℕ → List ℕ → List ℕ → List Entry
+zipped [] ss ls = []
+zipped (k ∷ ks) [] ls = []
+zipped (k ∷ ks) (s ∷ ss) [] = []
+zipped (k ∷ ks) (s ∷ ss) (l ∷ ls) = entry k s l ∷ zipped ks ss ls
+
+-- "The program prints each lexeme ..; a refusal ..": its one line and no lexeme
+unfoldable pub printedBy : List ℕ → Lexing → List ℕ
+printedBy q (Count n) = lexemesText Line (entriesOf q)
+printedBy q (Refused r) = refusal r
+
+-- "Order of the port" 6: "longer input is refusal 1"
+unfoldable pub printed : List ℕ → List ℕ
+printed q = cond (ltb inputLimit (length q)) (refusal tooLong) (printedBy q (lexed mostLexemes q))

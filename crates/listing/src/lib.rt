@@ -1,0 +1,170 @@
+// What the program prints of a query: a line for each lexeme, or one for the refusal. `replay` says the same of a refusal, and
+// lists lexemes in a layout of its own. A text is written whole where it fits, and else not at all.
+use lex::Lexing;
+use utf8::Refusal;
+ghost use mathlib.Core.Path.{_≡_};
+ghost use Prim.Native.Nat.{_+_, _≤_};
+ghost use lib.ListN.{length};
+ghost use Rattle.record.specs.Put.{putAt, pastAt};
+ghost use Rattle.record.specs.Decimal.{mostDigits};
+ghost use Rattle.lex.specs.Steps.{entry};
+ghost use Rattle.lex.specs.Lex.{lexed};
+ghost use Rattle.listing.specs.Listing.{mostLexemes, mostText, longestLine, mostNumbers, numbered, numbers, refusal, lexemeText, lexemesText, zipped, printedBy, printed};
+ghost use Rattle.listing.specs.Puts.{Puts};
+
+// A longer input is refused.
+pub const INPUT_LIMIT: usize = 4_096;
+
+// No input has more lexemes: one for each byte, and its end.
+const MOST_LEXEMES: usize = INPUT_LIMIT + 1;
+
+// No lexeme takes more bytes: a number of 16 bits, two of 32 bits, and three signs.
+const LONGEST_LEXEME: usize = 28;
+
+// No text that is printed is longer.
+pub const MOST_TEXT: usize = MOST_LEXEMES * LONGEST_LEXEME;
+
+// No line is longer: `refused `, three numbers of 64 bits, and a sign behind each.
+const LONGEST_LINE: usize = 71;
+
+// How a lexeme is written: as a line `KIND START LENGTH`, or as a space and `KIND,START,LENGTH`.
+pub enum Layout {
+    Line,
+    Field,
+}
+
+// Writes a number and what follows it.
+fn put_number(out: &mut [u8], at: usize, n: usize, after: &[u8]) -> usize
+    requires { ⌜ at + mostDigits + length (now after) ≤ length (now out) ⌝ }
+    ensures { λ r. ⌜ Puts (numbered n (now (after .entry))) (now (out .entry)) at r (now (out .exit)) ⌝ }
+{
+    let next = record::put_decimal(out, at, n as u64);
+    record::put_text(out, next, after)
+}
+
+// Writes three numbers, the first two with one sign behind them, the last with another.
+fn put_numbers(
+    out: &mut [u8],
+    at: usize,
+    first: usize,
+    second: usize,
+    third: usize,
+    between: &[u8],
+    after: &[u8],
+) -> usize
+    requires { ⌜ (length (now between) ≤ 1) × (length (now after) ≤ 1) × (at + mostNumbers ≤ length (now out)) ⌝ }
+    ensures { λ r. ⌜ Puts (numbers first second third (now (between .entry)) (now (after .entry))) (now (out .entry)) at r (now (out .exit)) ⌝ }
+{
+    let one = put_number(out, at, first, between);
+    let two = put_number(out, one, second, between);
+    put_number(out, two, third, after)
+}
+
+// Writes `refused NUMBER BYTE CHARACTER` and LF at `at` where it fits, and answers the offset past it, else `at`.
+pub fn put_refusal(out: &mut [u8], at: usize, r: Refusal) -> usize
+    ensures { λ n. ⌜ n ≡ pastAt (now (out .entry)) at (refusal r) ⌝ }
+    ensures { λ n. ⌜ now (out .exit) ≡ putAt (now (out .entry)) at (refusal r) ⌝ }
+{
+    let place = r.place;
+    let byte = place.byte;
+    let character = place.character;
+    let mut line = [0u8; LONGEST_LINE];
+    let from = record::put_text(&mut line, 0, b"refused ");
+    let end = put_numbers(&mut line, from, r.number, byte.0, character.0, b" ", b"\n");
+    record::put_text(out, at, &line[..end])
+}
+
+// Writes a lexeme at the front of a list that has room for it.
+fn spell_lexeme(line: &mut [u8], layout: Layout, kind: usize, start: usize, size: usize) -> usize
+    requires { ⌜ longestLine ≤ length (now line) ⌝ }
+    ensures { λ r. ⌜ Puts (lexemeText layout (entry kind start size)) (now (line .entry)) 0 r (now (line .exit)) ⌝ }
+{
+    match layout {
+        Layout::Line => put_numbers(line, 0, kind, start, size, b" ", b"\n"),
+        Layout::Field => {
+            let from = record::put_text(line, 0, b" ");
+            put_numbers(line, from, kind, start, size, b",", b"")
+        }
+    }
+}
+
+// Writes a lexeme in a layout at `at` where it fits, and answers the offset past it, else `at`.
+pub fn put_lexeme(
+    out: &mut [u8],
+    at: usize,
+    layout: Layout,
+    kind: u16,
+    start: u32,
+    size: u32,
+) -> usize
+    ensures { λ r. ⌜ r ≡ pastAt (now (out .entry)) at (lexemeText layout (entry kind start size)) ⌝ }
+    ensures { λ r. ⌜ now (out .exit) ≡ putAt (now (out .entry)) at (lexemeText layout (entry kind start size)) ⌝ }
+{
+    let mut line = [0u8; LONGEST_LINE];
+    let end = spell_lexeme(
+        &mut line,
+        layout,
+        kind as usize,
+        start as usize,
+        size as usize,
+    );
+    record::put_text(out, at, &line[..end])
+}
+
+// Writes a line for each of the lexemes that three lists of one length hold.
+fn put_lexemes(kinds: &[u16], starts: &[u32], lengths: &[u32], text: &mut [u8]) -> usize
+    requires { ⌜ (length (now kinds) ≤ mostLexemes) × (mostText ≤ length (now text)) ⌝ }
+    requires { ⌜ (length (now starts) ≡ length (now kinds)) × (length (now lengths) ≡ length (now kinds)) ⌝ }
+    ensures { λ r. ⌜ Puts (lexemesText Layout.Line (zipped (now (kinds .entry)) (now (starts .entry)) (now (lengths .entry)))) (now (text .entry)) 0 r (now (text .exit)) ⌝ }
+{
+    let mut at = 0;
+    let mut i = 0;
+    while i < kinds.len() {
+        at = put_lexeme(text, at, Layout::Line, kinds[i], starts[i], lengths[i]);
+        i += 1;
+    }
+    at
+}
+
+// Writes what is printed of a query, whose lexemes go to the lent lists.
+fn lex_to(
+    query: &[u8],
+    kinds: &mut [u16],
+    starts: &mut [u32],
+    lengths: &mut [u32],
+    text: &mut [u8],
+) -> usize
+    requires { ⌜ (length (now kinds) ≡ mostLexemes) × (length (now starts) ≡ mostLexemes) × (length (now lengths) ≡ mostLexemes) ⌝ }
+    requires { ⌜ mostText ≤ length (now text) ⌝ }
+    ensures { λ r. ⌜ Puts (printedBy (now (query .entry)) (lexed mostLexemes (now (query .entry)))) (now (text .entry)) 0 r (now (text .exit)) ⌝ }
+{
+    let x = lex::lexer(query, kinds, starts, lengths);
+    match x {
+        Lexing::Count(n) => put_lexemes(&kinds[..n], &starts[..n], &lengths[..n], text),
+        Lexing::Refused(r) => put_refusal(text, 0, r),
+    }
+}
+
+// Writes what is printed of an input to a list that has room for it.
+fn list_to(query: &[u8], text: &mut [u8]) -> usize
+    requires { ⌜ mostText ≤ length (now text) ⌝ }
+    ensures { λ r. ⌜ Puts (printed (now (query .entry))) (now (text .entry)) 0 r (now (text .exit)) ⌝ }
+{
+    if query.len() > INPUT_LIMIT {
+        return put_refusal(text, 0, utf8::at_start(utf8::TOO_LONG));
+    }
+    let mut kinds = [0u16; MOST_LEXEMES];
+    let mut starts = [0u32; MOST_LEXEMES];
+    let mut lengths = [0u32; MOST_LEXEMES];
+    lex_to(query, &mut kinds, &mut starts, &mut lengths, text)
+}
+
+// Writes what is printed of an input at the front of `out`: all of it and its length, or nothing and 0 where it does not fit.
+pub fn list_lexemes(query: &[u8], out: &mut [u8]) -> usize
+    ensures { λ r. ⌜ r ≡ pastAt (now (out .entry)) 0 (printed (now (query .entry))) ⌝ }
+    ensures { λ r. ⌜ now (out .exit) ≡ putAt (now (out .entry)) 0 (printed (now (query .entry))) ⌝ }
+{
+    let mut text = [0u8; MOST_TEXT];
+    let end = list_to(query, &mut text);
+    record::put_text(out, 0, &text[..end])
+}
