@@ -1,6 +1,6 @@
 //! Compares our functions with the Rust's and Go's on generated inputs: `compare [--seed N] [--count N] [--only NAME]`.
 //! COUNT is the number of random inputs, beside the fixed ones. NAME is that of one operation, where not all are to be
-//! compared. The exit status is 1 if there is a difference.
+//! compared. The operations are compared side by side. The exit status is 1 if there is a difference.
 //! Without the feature `promql` it compares with Rust's library, not with promql-parser; without `go`, not with Go.
 
 #![cfg_attr(not(all(feature = "promql", feature = "go")), allow(dead_code))]
@@ -25,6 +25,7 @@ mod utf8;
 
 use std::env;
 use std::process::ExitCode;
+use std::thread;
 
 /// A comparison: of a seed and a count, the number of differences.
 type Run = fn(u64, usize) -> u64;
@@ -89,6 +90,11 @@ fn main() -> ExitCode {
         }
     };
     let asked = OPERATIONS.iter().filter(|(name, _)| options.asks_for(name));
-    let differences: u64 = asked.map(|(_, run)| run(options.seed, options.count)).sum();
+    let differences: u64 = thread::scope(|scope| {
+        let start = |&(_, run): &(&str, Run)| scope.spawn(move || run(options.seed, options.count));
+        let started: Vec<_> = asked.map(start).collect();
+        let ended = started.into_iter().map(|run| run.join());
+        ended.map(|count| count.expect("a comparison ends")).sum()
+    });
     ExitCode::from(u8::from(differences > 0))
 }
