@@ -28,8 +28,8 @@ use Rattle.utf8.specs.Text.{begunIn, charNumber}
 use Rattle.token.specs.Words.{words, kindIn, keywordOf}
 use Rattle.numeral.specs.Numeral.{isHex, fractionEnd, exponentEnd, numberEnd, isUnit, stopOf, turnOf, durationFrom, numeralOf}
 use Rattle.quoted.specs.Quoted.{commentEnd}
-use Rattle.munch.specs.Lead.{symbolOf, leadOf, braceSymbolOf, braceLeadOf, bracketSymbolOf, bracketLeadOf}
-use Rattle.munch.specs.Word.{isFill, ruleBy, isOr, braceRule, kindBy}
+use Rattle.lead.specs.Lead.{symbolOf, leadOf, braceSymbolOf, braceLeadOf, bracketSymbolOf, bracketLeadOf}
+use Rattle.word.specs.Word.{isFill, ruleBy, isOr, braceRule, kindBy}
 use Rattle.munch.specs.Munch.{deeper, numberStep, commentStep, wordStep, rightParenStep, leftBracketStep, endStep, outsideStep, braceWord, braceStep, colonStep, bracketStep, munchedBy}
 use Rattle.lex.specs.Steps.{stepsPast, readFrom}
 use Rattle.lex.specs.Lex.{tallied, measured}

@@ -17,11 +17,11 @@ use Rattle.scan.specs.Byte.{end, peekAt, isIn}
 use Rattle.scan.specs.Run.{runLength, runEnd}
 use Rattle.token.specs.Words.{keywordOf}
 use Rattle.token.specs.declared.Keyword.the-variants.{Kind}
+use Rattle.token.specs.Kinds.{identifier}
+use Rattle.word.specs.Word.{isFill}
 use Rattle.munch.specs.declared.Mode.{Mode}
 use Rattle.munch.specs.declared.Step.{Step}
 use Rattle.munch.specs.declared.Step.the-variants.{Lexeme, Space, Comment, Refused, Finished}
-use Rattle.munch.specs.Kinds.{identifier}
-use Rattle.munch.specs.Word.{isFill}
 use Rattle.munch.specs.Munch.{outside, munched}
 use Rattle.scan.specs.Edge.{Bytes}
 use Rattle.munch.specs.Laws.{Seam, same, grown, called, refused}

@@ -13,12 +13,12 @@ use Rattle.scan.specs.Run.{runLength}
 use Rattle.scan.proofs.Below.{below}
 use Rattle.scan.proofs.Edges.{space-ascii}
 use Rattle.token.specs.Words.{keywordOf}
+use Rattle.lead.specs.Lead.{leadOf, braceLeadOf, bracketLeadOf}
 use Rattle.munch.specs.declared.Inside.{Inside}
 use Rattle.munch.specs.declared.Inside.the-variants.{Nothing, Braces, Brackets}
 use Rattle.munch.specs.declared.Mode.{Mode}
 use Rattle.munch.specs.declared.Step.{Step}
 use Rattle.munch.specs.declared.Step.the-variants.{Lexeme, Space, Comment, Refused, Finished}
-use Rattle.munch.specs.Lead.{leadOf, braceLeadOf, bracketLeadOf}
 use Rattle.munch.specs.Munch.{mode, outside, outsideStep, braceStep, bracketStep, stepIn, munchedBy, munched}
 use Rattle.munch.specs.Laws.{Goes}
 use Rattle.munch.proofs.Goes.{step-goes}

@@ -12,7 +12,7 @@ use Rattle.utf8.specs.Answers.{textLimit, place}
 use Rattle.token.specs.declared.Keyword.{Keyword}
 use Rattle.token.specs.declared.Keyword.the-variants.{Kind, Nothing}
 use Rattle.token.specs.Words.{keywordOf}
-use Rattle.munch.specs.Word.{isFill}
+use Rattle.word.specs.Word.{isFill}
 use Rattle.lex.specs.declared.Lexing.{Lexing}
 use Rattle.lex.specs.declared.Lexing.the-variants.{Count, Refused}
 use Rattle.lex.specs.Steps.{Entry, entry}

@@ -1,20 +1,17 @@
 -- A step is refused exactly when its row holds. Forward, by the mode and the lead: the tests that lead to a refusal in the definition, and what
--- the lead says of the byte that begins (`Leads`), are its row's condition. Backward, a row's condition fixes the mode and the lead, so that the
+-- the lead says of the byte that begins (`lead/specs/Laws`), are its row's condition. Backward, a row's condition fixes the mode and the lead, so that the
 -- definition comes to the row's refusal. No two rows hold together, since a step has one answer.
-use Prim.Native.Nat.{ℕ, suc, _+_, _≤_}
+use Prim.Native.Nat.{ℕ, suc, _≤_}
 use Prim.Native.Char.{code}
 use native.Mathlib.Omega.{arith}
-use mathlib.Core.Bool.{Bool, true, false}
-use mathlib.Core.List.{List, [], _∷_}
-use mathlib.Core.Logic.{_⊎_, inl, inr}
+use mathlib.Core.List.{List}
+use mathlib.Core.Logic.{inl, inr}
 use mathlib.Core.Path.{_≡_, refl, ap, subst, _∙_}
 use lib.Dec.{eqb}
 use lib.ListN.{drop}
 use borrow.Author.Tests.{eqb-true, eqb-false, ne-eqb}
-use Rattle.scan.specs.Byte.{end, peekAt, backslash, isWithin, isSpace, isAlpha, isDigit}
+use Rattle.scan.specs.Byte.{end, peekAt, isWithin, isSpace, isAlpha, isDigit}
 use Rattle.scan.proofs.Choice.{either}
-use Rattle.scan.proofs.Classes.{within-bounds, below-not}
-use Rattle.scan.proofs.Tests.{tests-or, tests-eq}
 use Rattle.token.specs.declared.Keyword.{Keyword}
 use Rattle.token.specs.declared.Keyword.the-variants as keyword
 use Rattle.numeral.specs.declared.Numeral.{Numeral}
@@ -22,22 +19,25 @@ use Rattle.numeral.specs.declared.Numeral.the-variants.{Number, Duration, Neith
 use Rattle.numeral.specs.Numeral.{numeralOf}
 use Rattle.quoted.specs.declared.Quoted.{Quoted}
 use Rattle.quoted.specs.declared.Quoted.the-variants as quoting
-use Rattle.quoted.specs.Quoted.{unknownEscape, endInEscape, endInString, isEscape, quotedFrom, quotedOf}
+use Rattle.quoted.specs.Quoted.{unknownEscape, endInEscape, endInString, quotedOf}
+use Rattle.quoted.specs.Laws.{Numbered}
+use Rattle.quoted.proofs.Strings.{string-numbered}
+use Rattle.lead.specs.declared.Lead.{Lead}
+use Rattle.lead.specs.declared.Lead.the-variants as lead
+use Rattle.lead.specs.declared.BraceLead.{BraceLead}
+use Rattle.lead.specs.declared.BraceLead.the-variants as brace
+use Rattle.lead.specs.declared.BracketLead.{BracketLead}
+use Rattle.lead.specs.declared.BracketLead.the-variants as bracket
+use Rattle.lead.specs.Lead.{symbolOf, leadOf, braceSymbolOf, braceLeadOf, bracketSymbolOf, bracketLeadOf}
+use Rattle.lead.specs.Laws.{Begun, BraceBegun, BracketBegun}
+use Rattle.lead.proofs.Leads.{lead-begun, brace-lead-begun, bracket-lead-begun, digit-lead, quote-lead, quote-brace-lead}
 use Rattle.munch.specs.declared.Inside.{Inside}
 use Rattle.munch.specs.declared.Inside.the-variants.{Nothing, Braces, Brackets}
 use Rattle.munch.specs.declared.Mode.{Mode}
 use Rattle.munch.specs.declared.Step.{Step}
 use Rattle.munch.specs.declared.Step.the-variants.{Lexeme, Space, Comment, Refused, Finished}
-use Rattle.munch.specs.declared.lead.Lead.{Lead}
-use Rattle.munch.specs.declared.lead.Lead.the-variants as lead
-use Rattle.munch.specs.declared.lead.BraceLead.{BraceLead}
-use Rattle.munch.specs.declared.lead.BraceLead.the-variants as brace
-use Rattle.munch.specs.declared.lead.BracketLead.{BracketLead}
-use Rattle.munch.specs.declared.lead.BracketLead.the-variants as bracket
-use Rattle.munch.specs.Lead.{isQuote, symbolOf, leadOf, braceSymbolOf, braceLeadOf, bracketSymbolOf, bracketLeadOf}
 use Rattle.munch.specs.Munch.{ifNext, numberBy, numberStep, dotStep, quotedBy, quotedStep, commentStep, wordStep, equalsStep, bangStep, compareStep, rightParenStep, leftBracketStep, endStep, outsideStep, braceWord, braceEquals, braceBang, braceStep, colonStep, bracketStep, stepIn, munchedBy}
 use Rattle.munch.specs.Rows.{Outside, InBraces, InBrackets, Follows, NumberBegins, StringBegins, StringFails, Row, row10, row11, row12, row13, row14, row15, row16, row17, row18, row19, row20, row21, row22, row23, row24, row25, row26, row27, row28, row29, row30, row31, row32, RowsGiven, OneRow}
-use Rattle.munch.proofs.Leads.{Begun, BraceBegun, BracketBegun, lead-begun, brace-begun, bracket-begun}
 
 -- what a step tells: of a refusal, its row
 abbrev Told : Mode → List ℕ → Step → Type 0
@@ -63,20 +63,15 @@ module _ (m : Mode) (xs : List ℕ) where
       go (Neither n) e = row20 n (b, e)
 
   -- a string is closed, or refused with one of three numbers
-  module _ (b : StringBegins m xs) (m′ : Mode) where
-    abbrev ToldBy : Quoted → Type 0
-    ToldBy q = quotedOf (peekAt xs 0) (drop 1 xs) ≡ q → Told m xs (quotedBy m′ q)
-
-    from-told : (escaped : Bool) (n : ℕ) (ys : List ℕ) → ToldBy (quotedFrom (peekAt xs 0) escaped n ys)
-    unfolding quotedFrom
-    from-told true n [] = λ e. row22 n (b, e)
-    from-told true n (y ∷ ys) = either ToldBy (isEscape (peekAt xs 0) y) (λ t. from-told false (n + 1) ys) (λ t e. row21 n (b, e))
-    from-told false n [] = λ e. row23 n (b, e)
-    from-told false n (y ∷ ys) = either ToldBy (eqb y (peekAt xs 0)) (λ t e. tt) (λ t. from-told (eqb y backslash) (n + 1) ys)
-
-    string-told : Told m xs (quotedStep m′ xs)
-    unfolding quotedStep
-    string-told = from-told false 0 (drop 1 xs) refl
+  string-told : StringBegins m xs → (m′ : Mode) → Told m xs (quotedStep m′ xs)
+  unfolding quotedStep
+  string-told b m′ = go (quotedOf (peekAt xs 0) (drop 1 xs)) refl (string-numbered (peekAt xs 0) (drop 1 xs))
+    where
+      go : (q : Quoted) → quotedOf (peekAt xs 0) (drop 1 xs) ≡ q → Numbered q → Told m xs (quotedBy m′ q)
+      go (quoting.Closed n) e h = tt
+      go (quoting.Refused r n) e (inl f) = rw f (row21 n (b, e ∙ rw f))
+      go (quoting.Refused r n) e (inr (inl f)) = rw f (row22 n (b, e ∙ rw f))
+      go (quoting.Refused r n) e (inr (inr f)) = rw f (row23 n (b, e ∙ rw f))
 
   outside-told : (look : List ℕ → Keyword) → Outside m → (l : Lead) → leadOf (peekAt xs 0) ≡ l → Begun l (peekAt xs 0) → Told m xs (outsideStep look (m .depth) xs l)
   unfolding outsideStep wordStep commentStep dotStep equalsStep bangStep compareStep rightParenStep leftBracketStep endStep
@@ -137,24 +132,8 @@ module _ (m : Mode) (xs : List ℕ) where
     where
       go : (i : Inside) → m .inside ≡ i → Told m xs (stepIn look (m .depth) i xs)
       go Nothing o = outside-told look o (leadOf (peekAt xs 0)) refl (lead-begun (peekAt xs 0))
-      go Braces i = braces-told i (braceLeadOf (peekAt xs 0)) refl (brace-begun (peekAt xs 0))
-      go (Brackets s f) i = brackets-told (record { seen = s; fresh = f; there = i }) (bracketLeadOf (peekAt xs 0)) refl (bracket-begun (peekAt xs 0))
-
--- backward: what a quote and a digit begin
-one-quote : {A : Type 0} (f : ℕ → A) {a : A} → f (code "\"") ≡ a → f (code "'") ≡ a → f (code "`") ≡ a → (c : ℕ) → isQuote c ≡ true → f c ≡ a
-one-quote f {a} x y z c e = go (tests-or (tests-eq c (code "\"")) (tests-or (tests-eq c (code "'")) (tests-eq c (code "`"))) .0 e)
-  where
-    go : (c ≡ code "\"") ⊎ ((c ≡ code "'") ⊎ (c ≡ code "`")) → f c ≡ a
-    go (inl p) = ap f p ∙ x
-    go (inr (inl p)) = ap f p ∙ y
-    go (inr (inr p)) = ap f p ∙ z
-
-digit-lead : (c : ℕ) → isDigit c ≡ true → leadOf c ≡ lead.Digit
-unfolding leadOf isAlpha isSpace
-digit-lead c e =
-    let h = within-bounds (code "0") (code "9") c e in
-    rw (below-not (code "a") (code "z") c (omega arith), below-not (code "A") (code "Z") c (omega arith), ne-eqb c (code "_") (omega arith))
-    (rw (ne-eqb c 9 (omega arith), ne-eqb c 10 (omega arith), ne-eqb c 12 (omega arith), ne-eqb c 13 (omega arith), ne-eqb c 32 (omega arith), e))
+      go Braces i = braces-told i (braceLeadOf (peekAt xs 0)) refl (brace-lead-begun (peekAt xs 0))
+      go (Brackets s f) i = brackets-told (record { seen = s; fresh = f; there = i }) (bracketLeadOf (peekAt xs 0)) refl (bracket-lead-begun (peekAt xs 0))
 
 -- the step where the mode and the lead are known
 module _ (look : List ℕ → Keyword) (m : Mode) (xs : List ℕ) where
@@ -178,9 +157,9 @@ module _ (look : List ℕ → Keyword) (m : Mode) (xs : List ℕ) where
   number-fails n (inr (o, b, d)) e = outside-by o (ap leadOf b) ∙ rw (d, e)
 
   string-fails : (number n : ℕ) → StringFails number n m xs → munchedBy look m xs ≡ Refused number (suc n)
-  unfolding outsideStep braceStep quotedStep leadOf symbolOf braceLeadOf braceSymbolOf isAlpha isSpace isWithin
-  string-fails number n ((inl o, q), e) = outside-by o (one-quote leadOf refl refl refl (peekAt xs 0) q) ∙ rw e
-  string-fails number n ((inr i, q), e) = braces-by i (one-quote braceLeadOf refl refl refl (peekAt xs 0) q) ∙ rw e
+  unfolding outsideStep braceStep quotedStep
+  string-fails number n ((inl o, q), e) = outside-by o (quote-lead (peekAt xs 0) q) ∙ rw e
+  string-fails number n ((inr i, q), e) = braces-by i (quote-brace-lead (peekAt xs 0) q) ∙ rw e
 
   gives : {r o : ℕ} → Row m xs r o → munchedBy look m xs ≡ Refused r o
   unfolding outsideStep dotStep equalsStep bangStep rightParenStep endStep braceStep braceBang bracketStep colonStep leadOf symbolOf braceLeadOf braceSymbolOf bracketLeadOf bracketSymbolOf isAlpha isSpace isWithin

@@ -19,6 +19,7 @@ use Rattle.scan.specs.Run.{runEnd}
 use Rattle.scan.proofs.Choice.{either}
 use Rattle.scan.proofs.Edges.{ascii-inside, edge-within, edge-past, edge-run, one-ascii, alpha-ascii, space-ascii, alpha-numeric-ascii, word-ascii}
 use Rattle.token.specs.declared.Keyword.{Keyword}
+use Rattle.token.specs.Kinds.{eqlc, neq, lte, lss, gte, gtr, eqlRegex, neqRegex}
 use Rattle.numeral.specs.declared.Numeral.{Numeral}
 use Rattle.numeral.specs.declared.Numeral.the-variants.{Number, Duration, Neither}
 use Rattle.numeral.specs.Numeral.{numeralOf}
@@ -30,22 +31,22 @@ use Rattle.quoted.specs.Quoted.{quotedOf, commentEnd}
 use Rattle.quoted.specs.Laws.{Lies}
 use Rattle.quoted.proofs.Strings.{string-within}
 use Rattle.quoted.proofs.Comments.{comment-few, comment-within}
+use Rattle.lead.specs.declared.Lead.{Lead}
+use Rattle.lead.specs.declared.Lead.the-variants as lead
+use Rattle.lead.specs.declared.BraceLead.{BraceLead}
+use Rattle.lead.specs.declared.BraceLead.the-variants as brace
+use Rattle.lead.specs.declared.BracketLead.{BracketLead}
+use Rattle.lead.specs.declared.BracketLead.the-variants as bracket
+use Rattle.lead.specs.Lead.{leadOf, braceLeadOf, bracketLeadOf}
+use Rattle.lead.specs.Laws.{Begun, BraceBegun, BracketBegun}
+use Rattle.lead.proofs.Leads.{start-ascii, quote-ascii, lead-begun, brace-lead-begun, bracket-lead-begun}
 use Rattle.munch.specs.declared.Inside.{Inside}
 use Rattle.munch.specs.declared.Inside.the-variants.{Nothing, Braces, Brackets}
 use Rattle.munch.specs.declared.Mode.{Mode}
 use Rattle.munch.specs.declared.Step.{Step}
 use Rattle.munch.specs.declared.Step.the-variants.{Lexeme, Refused}
-use Rattle.munch.specs.declared.lead.Lead.{Lead}
-use Rattle.munch.specs.declared.lead.Lead.the-variants as lead
-use Rattle.munch.specs.declared.lead.BraceLead.{BraceLead}
-use Rattle.munch.specs.declared.lead.BraceLead.the-variants as brace
-use Rattle.munch.specs.declared.lead.BracketLead.{BracketLead}
-use Rattle.munch.specs.declared.lead.BracketLead.the-variants as bracket
-use Rattle.munch.specs.Kinds.{eqlc, neq, lte, lss, gte, gtr, eqlRegex, neqRegex}
-use Rattle.munch.specs.Lead.{leadOf, braceLeadOf, bracketLeadOf}
 use Rattle.munch.specs.Munch.{mode, ifNext, numberBy, numberStep, dotStep, quotedBy, quotedStep, commentStep, wordStep, equalsStep, bangStep, compareStep, rightParenStep, leftBracketStep, endStep, outsideStep, braceWord, braceEquals, braceBang, braceStep, colonStep, bracketStep, stepIn, munchedBy}
 use Rattle.munch.specs.Laws.{Past, Goes, StepGoes}
-use Rattle.munch.proofs.Leads.{start-ascii, quote-ascii, Begun, lead-begun, BraceBegun, brace-begun, BracketBegun, bracket-begun}
 
 -- the bytes that a word goes on with are ASCII
 in-word-ascii : AsciiAlone (isIn Word)
@@ -207,8 +208,8 @@ module _ (d : ℕ) (xs : List ℕ) where
 
   inside-goes : (look : List ℕ → Keyword) (i : Inside) → Goes (mode d i) xs (stepIn look d i xs)
   inside-goes look Nothing = outside-goes look (leadOf (peekAt xs 0)) (lead-begun (peekAt xs 0))
-  inside-goes look Braces = brace-goes (braceLeadOf (peekAt xs 0)) (brace-begun (peekAt xs 0))
-  inside-goes look (Brackets seen fresh) = bracket-goes seen fresh (bracketLeadOf (peekAt xs 0)) (bracket-begun (peekAt xs 0))
+  inside-goes look Braces = brace-goes (braceLeadOf (peekAt xs 0)) (brace-lead-begun (peekAt xs 0))
+  inside-goes look (Brackets seen fresh) = bracket-goes seen fresh (bracketLeadOf (peekAt xs 0)) (bracket-lead-begun (peekAt xs 0))
 
 pub step-goes : StepGoes
 unfolding munchedBy

@@ -1,5 +1,3 @@
-pub mod Words
-pub mod Leads
 pub mod Table
 pub mod Goes
 pub mod Seam

@@ -9,12 +9,12 @@ use Rattle.scan.specs.Run.{runEnd}
 use Rattle.token.specs.Words.{keywordOf}
 use Rattle.token.specs.WordRows.{wordTable, keywordIn}
 use Rattle.token.proofs.Lookup.{table-finds}
+use Rattle.lead.specs.declared.Lead.{Lead}
+use Rattle.lead.specs.declared.Lead.the-variants as lead
+use Rattle.lead.specs.Lead.{leadOf}
 use Rattle.munch.specs.declared.Inside.{Inside}
 use Rattle.munch.specs.declared.Inside.the-variants.{Nothing, Braces, Brackets}
 use Rattle.munch.specs.declared.Mode.{Mode}
-use Rattle.munch.specs.declared.lead.Lead.{Lead}
-use Rattle.munch.specs.declared.lead.Lead.the-variants as lead
-use Rattle.munch.specs.Lead.{leadOf}
 use Rattle.munch.specs.Munch.{wordStep, outsideStep, stepIn, munchedBy, munched}
 
 module _ (d : ℕ) (xs : List ℕ) where

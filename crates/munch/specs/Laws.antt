@@ -12,12 +12,12 @@ use Rattle.scan.specs.Edge.{Edge, Bytes}
 use Rattle.scan.specs.Run.{runEnd}
 use Rattle.token.specs.declared.Keyword.{Keyword}
 use Rattle.token.specs.declared.Keyword.the-variants.{Kind}
+use Rattle.token.specs.Kinds.{identifier}
+use Rattle.word.specs.Word.{isFill}
 use Rattle.munch.specs.declared.Mode.{Mode}
 use Rattle.munch.specs.declared.Step.{Step}
 use Rattle.munch.specs.declared.Step.the-variants.{Lexeme, Space, Comment, Refused, Finished}
-use Rattle.munch.specs.Kinds.{identifier}
 use Rattle.munch.specs.Munch.{outside, munchedBy}
-use Rattle.munch.specs.Word.{isFill}
 
 -- so many of the bytes, one at least; where they are a text, no character is cut behind them
 pub record Past (xs : List ℕ) (n : ℕ) : Type 0 where

@@ -12,26 +12,26 @@ use Rattle.scan.specs.Byte.{end, peekAt, isDigit, isIn}
 use Rattle.scan.specs.Run.{runEnd}
 use Rattle.token.specs.declared.Keyword.{Keyword}
 use Rattle.token.specs.Words.{keywordOf}
+use Rattle.token.specs.Kinds.{string, number, duration, leftParen, rightParen, leftBrace, rightBrace, leftBracket, rightBracket, comma, colon, eql, eqlc, neq, lte, lss, gte, gtr, eqlRegex, neqRegex}
 use Rattle.numeral.specs.declared.Numeral.{Numeral}
 use Rattle.numeral.specs.declared.Numeral.the-variants.{Number, Duration, Neither}
 use Rattle.numeral.specs.Numeral.{numeralOf}
 use Rattle.quoted.specs.declared.Quoted.{Quoted}
 use Rattle.quoted.specs.declared.Quoted.the-variants as quoting
 use Rattle.quoted.specs.Quoted.{quotedOf, commentEnd}
+use Rattle.lead.specs.declared.Lead.{Lead}
+use Rattle.lead.specs.declared.Lead.the-variants as lead
+use Rattle.lead.specs.declared.BraceLead.{BraceLead}
+use Rattle.lead.specs.declared.BraceLead.the-variants as brace
+use Rattle.lead.specs.declared.BracketLead.{BracketLead}
+use Rattle.lead.specs.declared.BracketLead.the-variants as bracket
+use Rattle.lead.specs.Lead.{leadOf, braceLeadOf, bracketLeadOf}
+use Rattle.word.specs.Word.{ruleBy, braceRule, kindBy}
 use Rattle.munch.specs.declared.Inside.{Inside}
 use Rattle.munch.specs.declared.Inside.the-variants.{Nothing, Braces, Brackets}
 use Rattle.munch.specs.declared.Mode.{Mode}
 use Rattle.munch.specs.declared.Step.{Step}
 use Rattle.munch.specs.declared.Step.the-variants.{Lexeme, Space, Comment, Refused, Finished}
-use Rattle.munch.specs.declared.lead.Lead.{Lead}
-use Rattle.munch.specs.declared.lead.Lead.the-variants as lead
-use Rattle.munch.specs.declared.lead.BraceLead.{BraceLead}
-use Rattle.munch.specs.declared.lead.BraceLead.the-variants as brace
-use Rattle.munch.specs.declared.lead.BracketLead.{BracketLead}
-use Rattle.munch.specs.declared.lead.BracketLead.the-variants as bracket
-use Rattle.munch.specs.Kinds.{string, number, duration, leftParen, rightParen, leftBrace, rightBrace, leftBracket, rightBracket, comma, colon, eql, eqlc, neq, lte, lss, gte, gtr, eqlRegex, neqRegex}
-use Rattle.munch.specs.Lead.{leadOf, braceLeadOf, bracketLeadOf}
-use Rattle.munch.specs.Word.{ruleBy, braceRule, kindBy}
 
 -- so many parentheses open, and what is open in them: nothing, braces, or brackets with or without their colon, just opened or not
 abbrev pub mode : ℕ → Inside → Mode

@@ -13,13 +13,13 @@ use Rattle.numeral.specs.declared.Numeral.the-variants.{Neither}
 use Rattle.numeral.specs.Numeral.{numeralOf}
 use Rattle.quoted.specs.declared.Quoted.the-variants as quoting
 use Rattle.quoted.specs.Quoted.{unknownEscape, endInEscape, endInString, quotedOf}
+use Rattle.lead.specs.declared.Lead.the-variants as lead
+use Rattle.lead.specs.declared.BraceLead.the-variants as brace
+use Rattle.lead.specs.declared.BracketLead.the-variants as bracket
+use Rattle.lead.specs.Lead.{isQuote, leadOf, braceLeadOf, bracketLeadOf}
 use Rattle.munch.specs.declared.Inside.the-variants.{Nothing, Braces, Brackets}
 use Rattle.munch.specs.declared.Mode.{Mode}
 use Rattle.munch.specs.declared.Step.the-variants.{Refused}
-use Rattle.munch.specs.declared.lead.Lead.the-variants as lead
-use Rattle.munch.specs.declared.lead.BraceLead.the-variants as brace
-use Rattle.munch.specs.declared.lead.BracketLead.the-variants as bracket
-use Rattle.munch.specs.Lead.{isQuote, leadOf, braceLeadOf, bracketLeadOf}
 use Rattle.munch.specs.Munch.{munchedBy}
 
 -- where: outside braces and brackets, in braces, in brackets

@@ -1,7 +1,6 @@
 // One step of reading a query: what the bytes that are left begin with, by the mode that those before have led to.
-// What a first byte begins stands in `lead`, the rule that gives a word its kind in `word`.
-mod lead;
-mod word;
+// Document 01's rows that refuse it are numbered in `refusals`.
+mod refusals;
 
 use lead::BraceLead;
 use lead::BracketLead;
@@ -16,7 +15,7 @@ ghost use Prim.Native.Nat.{_<_};
 ghost use lib.ListN.{length};
 ghost use Rattle.scan.specs.Byte.{peekAt};
 ghost use Rattle.token.specs.WordRows.{keywordIn};
-ghost use Rattle.munch.specs.Lead.{isQuote, leadOf, braceLeadOf, bracketLeadOf};
+ghost use Rattle.lead.specs.Lead.{isQuote, leadOf, braceLeadOf, bracketLeadOf};
 ghost use Rattle.munch.specs.Munch.{mode, deeper, ifNext, numberStep, dotStep, quotedStep, commentStep, wordStep, equalsStep, bangStep, compareStep, leftBracketStep, rightParenStep, endStep, outsideStep, braceWord, braceEquals, braceBang, braceStep, colonStep, bracketStep, munchedBy, munched};
 
 // What is open inside a query's parentheses: nothing, braces, or brackets; of these, whether their colon was seen, and whether they were just
@@ -52,47 +51,6 @@ pub enum Step {
     },
     Finished,
 }
-
-// Document 01's refusals, in its order.
-const UNCLOSED_PAREN: usize = 10;
-
-const REGEX_OUTSIDE: usize = 11;
-
-const AFTER_BANG: usize = 12;
-
-const END_AFTER_BANG: usize = 13;
-
-const AFTER_DOT: usize = 14;
-
-const END_AFTER_DOT: usize = 15;
-
-const UNMATCHED_PAREN: usize = 16;
-
-const UNMATCHED_BRACE: usize = 17;
-
-const UNMATCHED_BRACKET: usize = 18;
-
-const OTHER: usize = 19;
-
-const NEITHER_NUMBER_NOR_DURATION: usize = 20;
-
-const AFTER_BANG_IN_BRACES: usize = 24;
-
-const BRACE_IN_BRACES: usize = 25;
-
-const OTHER_IN_BRACES: usize = 26;
-
-const END_IN_BRACES: usize = 27;
-
-const SECOND_COLON: usize = 28;
-
-const COLON_FIRST: usize = 29;
-
-const BRACKET_IN_BRACKETS: usize = 30;
-
-const OTHER_IN_BRACKETS: usize = 31;
-
-const END_IN_BRACKETS: usize = 32;
 
 // A lexeme of a kind.
 fn lexeme(kind: u16, length: usize, mode: Mode) -> Step
@@ -130,7 +88,7 @@ fn number_step(s: &[u8], mode: Mode) -> Step
     match n {
         Numeral::Number(length) => lexeme(kinds::T_NUMBER, length, mode),
         Numeral::Duration(length) => lexeme(kinds::T_DURATION, length, mode),
-        Numeral::Neither(at) => refused(NEITHER_NUMBER_NOR_DURATION, at),
+        Numeral::Neither(at) => refused(refusals::NEITHER_NUMBER_NOR_DURATION, at),
     }
 }
 
@@ -193,8 +151,8 @@ fn dot_step(s: &[u8], mode: Mode) -> Step
     if_next(
         s,
         scan::END,
-        refused(END_AFTER_DOT, 0),
-        refused(AFTER_DOT, 1),
+        refused(refusals::END_AFTER_DOT, 0),
+        refused(refusals::AFTER_DOT, 1),
     )
 }
 
@@ -205,7 +163,7 @@ fn equals_step(s: &[u8], mode: Mode) -> Step
     let one = if_next(
         s,
         b'~' as usize,
-        refused(REGEX_OUTSIDE, 1),
+        refused(refusals::REGEX_OUTSIDE, 1),
         lexeme(kinds::T_EQL, 1, mode),
     );
     if_next(s, b'=' as usize, lexeme(kinds::T_EQLC, 2, mode), one)
@@ -218,8 +176,8 @@ fn bang_step(s: &[u8], mode: Mode) -> Step
     let one = if_next(
         s,
         scan::END,
-        refused(END_AFTER_BANG, 1),
-        refused(AFTER_BANG, 1),
+        refused(refusals::END_AFTER_BANG, 1),
+        refused(refusals::AFTER_BANG, 1),
     );
     if_next(s, b'=' as usize, lexeme(kinds::T_NEQ, 2, mode), one)
 }
@@ -241,7 +199,7 @@ fn right_paren(depth: usize) -> Step
     ensures { λ r. ⌜ r ≡ rightParenStep depth ⌝ }
 {
     if depth == 0 {
-        return refused(UNMATCHED_PAREN, 0);
+        return refused(refusals::UNMATCHED_PAREN, 0);
     }
     lexeme(kinds::T_RIGHT_PAREN, 1, in_mode(depth - 1, Inside::Nothing))
 }
@@ -264,7 +222,7 @@ fn end_step(depth: usize) -> Step
     if depth == 0 {
         return Step::Finished;
     }
-    refused(UNCLOSED_PAREN, 0)
+    refused(refusals::UNCLOSED_PAREN, 0)
 }
 
 // A step outside braces and brackets.
@@ -292,11 +250,11 @@ fn outside_step(words: &[u8], s: &[u8], depth: usize) -> Step
         ),
         Lead::RightParen => right_paren(depth),
         Lead::LeftBrace => lexeme(kinds::T_LEFT_BRACE, 1, in_mode(depth, Inside::Braces)),
-        Lead::RightBrace => refused(UNMATCHED_BRACE, 0),
+        Lead::RightBrace => refused(refusals::UNMATCHED_BRACE, 0),
         Lead::LeftBracket => left_bracket(depth),
-        Lead::RightBracket => refused(UNMATCHED_BRACKET, 0),
+        Lead::RightBracket => refused(refusals::UNMATCHED_BRACKET, 0),
         Lead::End => end_step(depth),
-        Lead::Other => refused(OTHER, 0),
+        Lead::Other => refused(refusals::OTHER, 0),
     }
 }
 
@@ -319,8 +277,8 @@ fn brace_bang(s: &[u8], mode: Mode) -> Step
     let one = if_next(
         s,
         scan::END,
-        refused(END_AFTER_BANG, 1),
-        refused(AFTER_BANG_IN_BRACES, 1),
+        refused(refusals::END_AFTER_BANG, 1),
+        refused(refusals::AFTER_BANG_IN_BRACES, 1),
     );
     let other = if_next(s, b'~' as usize, lexeme(kinds::T_NEQ_REGEX, 2, mode), one);
     if_next(s, b'=' as usize, lexeme(kinds::T_NEQ, 2, mode), other)
@@ -341,9 +299,9 @@ fn brace_step(s: &[u8], depth: usize) -> Step
         BraceLead::Equals => brace_equals(s, here),
         BraceLead::Bang => brace_bang(s, here),
         BraceLead::RightBrace => lexeme(kinds::T_RIGHT_BRACE, 1, in_mode(depth, Inside::Nothing)),
-        BraceLead::LeftBrace => refused(BRACE_IN_BRACES, 0),
-        BraceLead::End => refused(END_IN_BRACES, 0),
-        BraceLead::Other => refused(OTHER_IN_BRACES, 0),
+        BraceLead::LeftBrace => refused(refusals::BRACE_IN_BRACES, 0),
+        BraceLead::End => refused(refusals::END_IN_BRACES, 0),
+        BraceLead::Other => refused(refusals::OTHER_IN_BRACES, 0),
     }
 }
 
@@ -352,10 +310,10 @@ fn colon_step(depth: usize, seen: bool, fresh: bool) -> Step
     ensures { λ r. ⌜ r ≡ colonStep depth seen fresh ⌝ }
 {
     if seen {
-        return refused(SECOND_COLON, 0);
+        return refused(refusals::SECOND_COLON, 0);
     }
     if fresh {
-        return refused(COLON_FIRST, 0);
+        return refused(refusals::COLON_FIRST, 0);
     }
     let inside = Inside::Brackets {
         seen: true,
@@ -380,9 +338,9 @@ fn bracket_step(s: &[u8], depth: usize, seen: bool, fresh: bool) -> Step
             1,
             in_mode(depth, Inside::Nothing),
         ),
-        BracketLead::LeftBracket => refused(BRACKET_IN_BRACKETS, 0),
-        BracketLead::End => refused(END_IN_BRACKETS, 0),
-        BracketLead::Other => refused(OTHER_IN_BRACKETS, 0),
+        BracketLead::LeftBracket => refused(refusals::BRACKET_IN_BRACKETS, 0),
+        BracketLead::End => refused(refusals::END_IN_BRACKETS, 0),
+        BracketLead::Other => refused(refusals::OTHER_IN_BRACKETS, 0),
     }
 }
 

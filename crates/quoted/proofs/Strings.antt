@@ -5,6 +5,7 @@ use native.Mathlib.Numerals.{add-one}
 use native.Mathlib.Omega.{arith}
 use mathlib.Core.Bool.{Bool, true, false, cond, true≢false}
 use mathlib.Core.List.{List, [], _∷_, _++_}
+use mathlib.Core.Logic.{inl, inr}
 use mathlib.Core.Path.{_≡_, refl, sym, subst}
 use lib.Dec.{eqb}
 use lib.ListN.{length, drop}
@@ -15,7 +16,7 @@ use Rattle.scan.proofs.Edges.{edge-past, one-ascii}
 use Rattle.quoted.specs.declared.Quoted.{Quoted}
 use Rattle.quoted.specs.declared.Quoted.the-variants.{Closed}
 use Rattle.quoted.specs.Quoted.{isEscape, quotedFrom}
-use Rattle.quoted.specs.Laws.{Lies, StringWithin, StringSeam}
+use Rattle.quoted.specs.Laws.{Lies, StringWithin, Numbered, StringNumbered, StringSeam}
 use Rattle.quoted.proofs.Turns.{past-end, escaped-turn, plain-turn}
 
 -- behind an ASCII byte is an edge
@@ -37,6 +38,17 @@ module _ (symbol : ℕ) (xs : List ℕ) (a : symbol < 0x80) where
 
 pub string-within : StringWithin
 string-within symbol xs a = lies symbol xs a (length xs) 0 false (omega arith) (λ e. first)
+
+-- each end of the definition is closed, or refused with one of the three numbers
+numbered : (symbol : ℕ) (escaped : Bool) (n : ℕ) (xs : List ℕ) → Numbered (quotedFrom symbol escaped n xs)
+unfolding quotedFrom
+numbered symbol true n [] = inr (inl refl)
+numbered symbol true n (x ∷ xs) = either Numbered (isEscape symbol x) (λ e. numbered symbol false (n + 1) xs) (λ e. inl refl)
+numbered symbol false n [] = inr (inr refl)
+numbered symbol false n (x ∷ xs) = either Numbered (eqb x symbol) (λ e. tt) (λ e. numbered symbol (eqb x backslash) (n + 1) xs)
+
+pub string-numbered : StringNumbered
+string-numbered symbol = numbered symbol false 0
 
 -- what each arm of a choice keeps, the choice keeps
 kept : (b : Bool) {u v w z r : Quoted} → (u ≡ r → w ≡ r) → (v ≡ r → z ≡ r) → cond b u v ≡ r → cond b w z ≡ r

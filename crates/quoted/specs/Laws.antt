@@ -5,11 +5,10 @@ use mathlib.Core.List.{List, _∷_, _++_}
 use mathlib.Core.Logic.{_⊎_}
 use mathlib.Core.Path.{_≡_}
 use lib.ListN.{length}
-use Rattle.scan.specs.Byte.{end}
 use Rattle.scan.specs.Edge.{Edge, Bytes}
 use Rattle.quoted.specs.declared.Quoted.{Quoted}
 use Rattle.quoted.specs.declared.Quoted.the-variants.{Closed, Refused}
-use Rattle.quoted.specs.Quoted.{quotedOf, commentEnd}
+use Rattle.quoted.specs.Quoted.{unknownEscape, endInEscape, endInString, quotedOf, commentEnd}
 
 -- what a string takes, one byte at least, or where it is refused
 abbrev pub Lies : List ℕ → Quoted → Type 0
@@ -19,6 +18,14 @@ Lies xs (Refused r n) = Edge xs n
 -- is within the bytes, and behind one that is ASCII or at the end
 abbrev pub StringWithin : Type 0
 StringWithin = (symbol : ℕ) (xs : List ℕ) → symbol < 0x80 → Lies xs (quotedOf symbol xs)
+
+-- a refusal's number is one of the three
+abbrev pub Numbered : Quoted → Type 0
+Numbered (Closed n) = Unit {0}
+Numbered (Refused r n) = (r ≡ unknownEscape) ⊎ ((r ≡ endInEscape) ⊎ (r ≡ endInString))
+
+abbrev pub StringNumbered : Type 0
+StringNumbered = (symbol : ℕ) (xs : List ℕ) → Numbered (quotedOf symbol xs)
 
 -- what follows a string changes nothing
 abbrev pub StringSeam : Type 0

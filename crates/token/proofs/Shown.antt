@@ -10,7 +10,8 @@ use Rattle.scan.proofs.Same.{same-is-equal}
 use Rattle.token.specs.Display.{displays, textIn, displayOf}
 use Rattle.token.specs.Words.{words}
 use Rattle.token.specs.WordRows.{wordCount}
-use Rattle.token.specs.Laws.{entryAt, number, WordShown}
+use Rattle.token.specs.Kinds.{number}
+use Rattle.token.specs.Laws.{entryAt, WordShown}
 
 abbrev isShown : ℕ → Bool
 isShown i = eqb (entryAt i .kind) number || sameText (displayOf (entryAt i .kind)) (entryAt i .text)

@@ -3,34 +3,7 @@
 use Prim.Native.Nat.{ℕ}
 use mathlib.Core.Bool.{Bool}
 use Rattle.scan.specs.Byte.{isWithin}
-
--- the kinds that a class begins and ends with
-abbrev pub add : ℕ
-add = 20
-
-abbrev pub eqlc : ℕ
-eqlc = 26
-
-abbrev pub gtr : ℕ
-gtr = 31
-
-abbrev pub land : ℕ
-land = 35
-
-abbrev pub lunless : ℕ
-lunless = 37
-
-abbrev pub atan2 : ℕ
-atan2 = 38
-
-abbrev pub sum : ℕ
-sum = 40
-
-abbrev pub topk : ℕ
-topk = 48
-
-abbrev pub limitRatio : ℕ
-limitRatio = 53
+use Rattle.token.specs.Kinds.{add, eqlc, gtr, land, lunless, atan2, sum, topk, limitRatio}
 
 -- `+` to atan2
 abbrev pub isOperator : ℕ → Bool

@@ -6,6 +6,7 @@ use mathlib.Core.Path.{_≡_}
 use lib.ListN.{getD}
 use Rattle.scan.specs.Text.{sameText}
 use Rattle.token.specs.declared.Keyword.the-variants.{Kind, Nothing}
+use Rattle.token.specs.Kinds.{number}
 use Rattle.token.specs.Display.{displayOf}
 use Rattle.token.specs.Words.{Entry, word, words, kindIn, keywordOf}
 use Rattle.token.specs.WordRows.{wordCount, wordTable, keywordIn}
@@ -31,8 +32,5 @@ abbrev pub NoneFound : Type 0
 NoneFound = (w : List ℕ) → ((i : ℕ) → i < wordCount → sameText w (entryAt i .text) ≡ true → ⊥) → kindIn words w ≡ Nothing
 
 -- a word is shown as itself, but for inf and nan, which are NUMBER
-abbrev pub number : ℕ
-number = 4
-
 abbrev pub WordShown : Type 0
 WordShown = (i : ℕ) → i < wordCount → (entryAt i .kind ≡ number → ⊥) → displayOf (entryAt i .kind) ≡ entryAt i .text

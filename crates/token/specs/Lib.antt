@@ -1,3 +1,4 @@
+pub mod Kinds
 pub mod Classes
 pub mod Display
 pub mod Words

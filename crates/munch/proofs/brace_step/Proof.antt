@@ -2,12 +2,13 @@
 use native.Mathlib.Omega.{arith}
 use mathlib.Core.Path.{_≡_, sym, ap, subst, _∙_}
 use denote.Ref.{now}
-use Rattle.scan.specs.Byte.{peekAt}
+use Rattle.scan.specs.Byte.{peekAt, isAlpha}
 use Rattle.scan.proofs.Edges.{ascii-inside, alpha-ascii}
-use Rattle.munch.specs.declared.lead.BraceLead.{BraceLead}
-use Rattle.munch.specs.Lead.{braceLeadOf}
+use Rattle.lead.specs.declared.BraceLead.{BraceLead}
+use Rattle.lead.specs.Lead.{braceLeadOf}
+use Rattle.lead.specs.Laws.{BraceBegun}
+use Rattle.lead.proofs.Leads.{brace-lead-begun, begun-inside}
 use Rattle.munch.specs.Munch.{braceStep}
-use Rattle.munch.proofs.Leads.{BraceBegun, brace-begun, begun-inside}
 use borrow.Author.Needs.{needs}
 use Rattle.munch.proofs.brace_step.Statement.{statement}
 use Rattle.munch.proofs.brace_step.Tie as tie
@@ -26,7 +27,7 @@ begun : (c : tie.After-brace-lead-of) {k : BraceLead} → c .brace-lead-of .resu
 begun c e = sym (c .brace-lead-of .ensures ∙ ap braceLeadOf (c .before .peek .ensures)) ∙ e
 
 known : (c : tie.After-brace-lead-of) {k : BraceLead} → c .brace-lead-of .result ≡ k → BraceBegun k (peekAt (now (c .before .before .before .before .args .s)) 0)
-known c e = subst (λ k. BraceBegun k (peekAt (now (c .before .before .before .before .args .s)) 0)) (begun c e) (brace-begun (peekAt (now (c .before .before .before .before .args .s)) 0))
+known c e = subst (λ k. BraceBegun k (peekAt (now (c .before .before .before .before .args .s)) 0)) (begun c e) (brace-lead-begun (peekAt (now (c .before .before .before .before .args .s)) 0))
 
 arm : (c : tie.After-brace-lead-of) {k : BraceLead} → c .brace-lead-of .result ≡ k → let a = c .before .before .before .before .args in braceStep (a .depth) (now (a .s)) (braceLeadOf (peekAt (now (a .s)) 0)) ≡ braceStep (a .depth) (now (a .s)) k
 arm c e = let a = c .before .before .before .before .args in ap (braceStep (a .depth) (now (a .s))) (begun c e)
@@ -35,7 +36,7 @@ enum-told : tie.Need-enum-told
 enum-told c = search needs
 
 brace-word-requires : tie.Need-brace-word-requires
-brace-word-requires c κs = begun-inside alpha-ascii (now (c .before .before .before .before .before .before .args .s)) (known (c .before .before) (c .enum-told .given .1))
+brace-word-requires c κs = begun-inside isAlpha alpha-ascii (now (c .before .before .before .before .before .before .args .s)) (known (c .before .before) (c .enum-told .given .1))
 
 enum-told-2 : tie.Need-enum-told-2
 enum-told-2 c = search needs

@@ -1,9 +1,4 @@
 -- The word is the run, and its kind that of its rule.
-use native.Mathlib.Omega.{arith}
-use denote.Ref.{now}
-use Rattle.scan.specs.declared.Class.the-variants.{AlphaNumeric}
-use Rattle.scan.specs.Byte.{isIn}
-use Rattle.scan.proofs.Runs.{run-within}
 use Rattle.munch.specs.Munch.{braceWord}
 use borrow.Author.Needs.{needs}
 use Rattle.munch.proofs.brace_word.Statement.{statement}
@@ -13,7 +8,7 @@ run-end-requires : tie.Need-run-end-requires
 run-end-requires c κs = search needs
 
 brace-rule-requires : tie.Need-brace-rule-requires
-brace-rule-requires c κs = omega (arith, c .run-end .ensures, run-within (isIn AlphaNumeric) (now (c .before .before .args .s)) 1)
+brace-rule-requires c κs = search needs
 
 kind-by-requires : tie.Need-kind-by-requires
 kind-by-requires c κs = search needs

@@ -5,10 +5,11 @@ use denote.Ref.{now}
 use Rattle.scan.specs.Byte.{peekAt}
 use Rattle.scan.proofs.Edges.{ascii-inside}
 use Rattle.token.specs.WordRows.{keywordIn}
-use Rattle.munch.specs.declared.lead.Lead.{Lead}
-use Rattle.munch.specs.Lead.{leadOf}
+use Rattle.lead.specs.declared.Lead.{Lead}
+use Rattle.lead.specs.Lead.{leadOf}
+use Rattle.lead.specs.Laws.{isWordStart, Begun}
+use Rattle.lead.proofs.Leads.{lead-begun, start-ascii, begun-inside}
 use Rattle.munch.specs.Munch.{outsideStep}
-use Rattle.munch.proofs.Leads.{Begun, lead-begun, start-ascii, begun-inside}
 use borrow.Author.Needs.{needs}
 use Rattle.munch.proofs.outside_step.Statement.{statement}
 use Rattle.munch.proofs.outside_step.Tie as tie
@@ -36,7 +37,7 @@ enum-told : tie.Need-enum-told
 enum-told c = search needs
 
 word-step-requires : tie.Need-word-step-requires
-word-step-requires c κs = begun-inside start-ascii (now (c .before .before .before .before .before .before .before .args .s)) (known (c .before .before) (c .enum-told .given .1))
+word-step-requires c κs = begun-inside isWordStart start-ascii (now (c .before .before .before .before .before .before .before .args .s)) (known (c .before .before) (c .enum-told .given .1))
 
 enum-told-2 : tie.Need-enum-told-2
 enum-told-2 c = search needs

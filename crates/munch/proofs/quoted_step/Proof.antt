@@ -9,29 +9,30 @@ use Rattle.scan.specs.Byte.{end, peekAt}
 use Rattle.scan.proofs.Classes.{getD-any}
 use Rattle.scan.proofs.Edges.{edge-within}
 use Rattle.utf8.proofs.Chars.{rest-of}
+use Rattle.token.specs.Kinds.{string}
 use Rattle.quoted.specs.declared.Quoted.{Quoted}
 use Rattle.quoted.specs.Quoted.{quotedOf}
 use Rattle.quoted.specs.Laws.{Lies}
 use Rattle.quoted.proofs.Strings.{string-within}
+use Rattle.lead.specs.Lead.{isQuote}
+use Rattle.lead.proofs.Leads.{begun-inside, quote-ascii}
 use Rattle.munch.specs.declared.Step.the-variants.{Lexeme}
-use Rattle.munch.specs.Kinds.{string}
 use Rattle.munch.specs.Munch.{quotedStep}
-use Rattle.munch.proofs.Leads.{begun-inside, quote-ascii}
 use borrow.Author.Needs.{needs}
 use Rattle.munch.proofs.quoted_step.Statement.{statement}
 use Rattle.munch.proofs.quoted_step.Tie as tie
 
 shared-slice-read-accept-string : tie.Need-shared-slice-read-accept-string
-shared-slice-read-accept-string c = search (needs, begun-inside quote-ascii (now (c .before .before .args .s)) (c .before .before .pre))
+shared-slice-read-accept-string c = search (needs, begun-inside isQuote quote-ascii (now (c .before .before .args .s)) (c .before .before .pre))
 
 sub-accept-string : tie.Need-sub-accept-string
-sub-accept-string c = search (needs, begun-inside quote-ascii (now (c .before .before .args .s)) (c .before .before .pre))
+sub-accept-string c = search (needs, begun-inside isQuote quote-ascii (now (c .before .before .args .s)) (c .before .before .pre))
 
 part-accept-string-start : tie.Need-part-accept-string-start
-part-accept-string-start c = search (needs, begun-inside quote-ascii (now (c .before .before .args .s)) (c .before .before .pre))
+part-accept-string-start c = search (needs, begun-inside isQuote quote-ascii (now (c .before .before .args .s)) (c .before .before .pre))
 
 part-accept-string-end : tie.Need-part-accept-string-end
-part-accept-string-end c = search (needs, begun-inside quote-ascii (now (c .before .before .args .s)) (c .before .before .pre))
+part-accept-string-end c = search (needs, begun-inside isQuote quote-ascii (now (c .before .before .args .s)) (c .before .before .pre))
 
 accept-string-requires : tie.Need-accept-string-requires
 accept-string-requires c κs = search needs
@@ -40,7 +41,7 @@ accept-string-requires c κs = search needs
 there : (c : tie.After-accept-string) → let s = now (c .before .before .before .before .args .s) in c .accept-string .result ≡ quotedOf (peekAt s 0) (drop 1 s)
 there c =
     let s = now (c .before .before .before .before .args .s) in
-    c .accept-string .ensures ∙ ap₂ quotedOf (getD-any s 0 0 end (begun-inside quote-ascii s (c .before .before .before .before .pre))) (rest-of s 1)
+    c .accept-string .ensures ∙ ap₂ quotedOf (getD-any s 0 0 end (begun-inside isQuote quote-ascii s (c .before .before .before .before .pre))) (rest-of s 1)
 
 lies : (c : tie.After-accept-string) {q : Quoted} → c .accept-string .result ≡ q → Lies (drop 1 (now (c .before .before .before .before .args .s))) q
 lies c e =

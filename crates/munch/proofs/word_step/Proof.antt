@@ -21,7 +21,7 @@ keyword-in-requires : tie.Need-keyword-in-requires
 keyword-in-requires c κs = search needs
 
 rule-by-requires : tie.Need-rule-by-requires
-rule-by-requires c κs = omega (arith, c .before .before .run-end .ensures, run-within (isIn Word) (now (c .before .before .before .before .before .args .s)) 1)
+rule-by-requires c κs = search needs
 
 kind-by-requires : tie.Need-kind-by-requires
 kind-by-requires c κs = search needs

@@ -1,0 +1,18 @@
+-- Any two answers that the promise of a public function allows are equal: both equal the definition.
+use mathlib.Core.Path.{sym, _∙_}
+use Rattle.scan.proofs.One.{OneAnswer}
+use Rattle.word.proofs.rule_by.Kinds as rule-by
+use Rattle.word.proofs.rule_by.Reads as rule-by-reads
+use Rattle.word.proofs.brace_rule.Kinds as brace-rule
+use Rattle.word.proofs.brace_rule.Reads as brace-rule-reads
+use Rattle.word.proofs.kind_by.Kinds as kind-by
+use Rattle.word.proofs.kind_by.Reads as kind-by-reads
+
+pub same-rule-by : OneAnswer rule-by.ps rule-by.r rule-by-reads.Post
+same-rule-by κs a x y e f p q = p ∙ sym q
+
+pub same-brace-rule : OneAnswer brace-rule.ps brace-rule.r brace-rule-reads.Post
+same-brace-rule κs a x y e f p q = p ∙ sym q
+
+pub same-kind-by : OneAnswer kind-by.ps kind-by.r kind-by-reads.Post
+same-kind-by κs a x y e f p q = p ∙ sym q
