@@ -2,6 +2,7 @@
 use Prim.Native.Nat.{ℕ, zero, suc, _+_, _-_, _<_, _≤_, suc-le-suc}
 use native.Mathlib.Nat.{le-of-suc-le-suc, not-suc-le-zero, zero-add, add-zero}
 use native.Mathlib.Omega.{arith}
+use native.Mathlib.Numerals.{add-one}
 use mathlib.Core.Bool.{Bool, true, false, cond, not, true≢false}
 use mathlib.Core.Path.{_≡_, refl, sym, ap, _∙_}
 use mathlib.Core.List.{List, [], _∷_, _++_}
@@ -9,7 +10,7 @@ use lib.Dec.{eqb}
 use lib.Seq.{drop-append-le, getD-drop}
 use lib.ListN.{length, take, drop, length-drop}
 use Rattle.scan.specs.Byte.{end, peekAt}
-use Rattle.scan.specs.Run.{runLength}
+use Rattle.scan.specs.Run.{runLength, runEnd}
 use Rattle.scan.specs.Laws.{RunWithin, RunPasses, RunStopped, RunStops, RunAppend, RunInside}
 
 module _ (p : ℕ → Bool) where
@@ -97,6 +98,10 @@ module _ (p : ℕ → Bool) where
     goes-on [] (suc n) h = absurd (true≢false (sym h ∙ ends))
     goes-on (x ∷ xs) zero h = run-yes x xs h
     goes-on (x ∷ xs) (suc n) h = goes-on xs n h
+
+    -- so that it ends where the run from the next byte on does
+    pub run-goes-on : (xs : List ℕ) (n : ℕ) → p (peekAt xs n) ≡ true → runEnd p xs n ≡ runEnd p xs (n + 1)
+    run-goes-on xs n h = rw add-one (omega (arith, goes-on xs n h))
 
     stopped : (xs : List ℕ) → p (peekAt xs (runLength p xs)) ≡ false
     unfolding runLength

@@ -41,7 +41,10 @@ turn c =
     c .before .loop .inv .2 ∙ same-turn (now (a .text)) (now (a .word)) (c .before .loop .i) (c .loop-test .taken) (omega arith)
 
 returns-2 : tie.Need-returns-2 Inv-loop μ-loop
-returns-2 c = sym (turn (c .before .before .before) ∙ simp (ne-eqb _ _ (c .if2 .taken)))
+returns-2 c =
+    let a = c .before .before .before .before .before .before .args in
+    let i = c .before .before .before .before .loop .i in
+    sym (turn (c .before .before .before) ∙ simp (ne-eqb (getD (now (a .text)) i 0) (getD (now (a .word)) i 0) (c .if2 .taken)))
 
 add-i : tie.Need-add-i Inv-loop μ-loop
 add-i c = omega arith

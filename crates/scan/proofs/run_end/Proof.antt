@@ -1,7 +1,6 @@
 -- `scan::run_end` meets its contract. The loop's invariant: the run from `from` ends where the run from `n` does.
--- A byte of the class takes the run one further (`goes-on`); any other, the end among them, stops it (`run-stops`).
+-- A byte of the class takes the run one further (`run-goes-on`); any other, the end among them, stops it (`run-stops`).
 use native.Mathlib.Omega.{arith}
-use native.Mathlib.Numerals.{add-one}
 use Prim.Native.Nat.{ℕ, _-_, _<_}
 use mathlib.Core.Bool.{true}
 use mathlib.Core.List.{List}
@@ -13,7 +12,7 @@ use Rattle.scan.specs.declared.Class.{Class}
 use Rattle.scan.specs.Byte.{peekAt, isIn}
 use Rattle.scan.specs.Run.{runEnd}
 use Rattle.scan.proofs.Classes.{end-in-none}
-use Rattle.scan.proofs.Runs.{inside, goes-on, run-stops}
+use Rattle.scan.proofs.Runs.{inside, run-goes-on, run-stops}
 use Rattle.scan.proofs.run_end.Statement.{statement}
 use Rattle.scan.proofs.run_end.Tie as tie
 
@@ -59,9 +58,7 @@ loop-less : tie.Need-loop-less Inv-loop μ-loop
 loop-less c = omega (arith, in-range c)
 
 loop-again : tie.Need-loop-again Inv-loop μ-loop
-loop-again c =
-    rw add-one
-    (omega (arith, c .before .before .before .loop .inv, goes-on (isIn (kind c)) (end-in-none (kind c)) (bytes c) (place c) (passes c)))
+loop-again c = c .before .before .before .loop .inv ∙ run-goes-on (isIn (kind c)) (end-in-none (kind c)) (bytes c) (place c) (passes c)
 
 returns : tie.Need-returns Inv-loop μ-loop
 returns c =

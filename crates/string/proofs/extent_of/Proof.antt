@@ -95,7 +95,7 @@ module _ (c : tie.After-contains) where
   d = c .before .before .before .before .before .before .before
 
   sign-told : c .contains .result ≡ has (signOf (xs d)) (innerOf (xs d))
-  sign-told = c .contains .ensures ∙ rw (literals.sign-is (xs d) (enclosed d), literals.cut-is (xs d) (enclosed d))
+  sign-told = c .contains .ensures ∙ (λ i. has (literals.sign-is (xs d) (enclosed d) i) (literals.cut-is (xs d) (enclosed d) i))
 
   no-escape : hasEscape (signOf (xs d)) (innerOf (xs d)) ≡ false
   no-escape = sym (escape-told (c .before .before)) ∙ c .before .if3 .left

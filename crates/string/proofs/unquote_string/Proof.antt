@@ -1,9 +1,10 @@
 -- What is refused is refused first, with nothing written; then what the literal comes to decides, and the room.
-use Prim.Native.Nat.{ℕ, _≤_}
+use Prim.Native.Nat.{ℕ, _≤_, _<_}
 use native.Mathlib.Nat.{zero-add}
 use native.Mathlib.Omega.{arith}
 use mathlib.Core.List.{List}
-use mathlib.Core.Path.{_≡_, refl, sym, ap, _∙_}
+use mathlib.Core.Bool.{false}
+use mathlib.Core.Path.{_≡_, refl, sym, ap, _∙_, subst}
 use lib.ListN.{length}
 use lib.Seq.{sets-eq}
 use denote.Ref.{now}
@@ -14,7 +15,8 @@ use Rattle.utf8.proofs.Given.{admitted-text}
 use Rattle.string.specs.declared.Extent.{Extent}
 use Rattle.string.specs.declared.Extent.the-variants as extent
 use Rattle.string.specs.declared.Unquoting.the-variants.{Refused}
-use Rattle.string.specs.Literal.{unquoted, extentOf, unquotingBy, unquotingOf}
+use Rattle.string.specs.Tiles.{tilesOf, hasBad, bytesOf}
+use Rattle.string.specs.Literal.{signOf, unquoted, extentOf, unquotingBy, unquotingOf}
 use Rattle.string.proofs.Literals as literals
 use borrow.Author.Needs.{needs}
 use Rattle.string.proofs.unquote_string.Statement.{statement}
@@ -107,8 +109,10 @@ write-pieces-requires : tie.Need-write-pieces-requires
 write-pieces-requires c κs =
     let b = c .before .before .before in
     let s = text b .0 in
-    rw (literals.sign-is (xs (d b)) (s .enclosed), literals.cut-is (xs (d b)) (s .enclosed))
-    ((literals.sign-ascii (xs (d b)) (s .enclosed), s .good), omega (arith, text b .1))
+    let sign = signOf (xs (d b)) in
+    let Fit : List ℕ → Type 0 = λ ys. ((sign < 0x80) × (hasBad (tilesOf sign ys) ≡ false)) × (length (bytesOf (reads (d b)) (tilesOf sign ys)) ≤ room (d b)) in
+    rw (literals.sign-is (xs (d b)) (s .enclosed))
+    (subst Fit (sym (literals.cut-is (xs (d b)) (s .enclosed))) ((literals.sign-ascii (xs (d b)) (s .enclosed), s .good), omega (arith, text b .1)))
 
 enum-told-2 : tie.Need-enum-told-2
 enum-told-2 c = search needs

@@ -16,7 +16,7 @@ use Rattle.token.proofs.keyword_in.Tie as tie
 
 returns : tie.Need-returns
 unfolding keywordIn
-returns c = simp (lt-ltb _ _ (c .if1 .taken))
+returns c = simp (lt-ltb widestWord (length (now (c .before .before .before .args .word))) (c .if1 .taken))
 
 lower-into-requires : tie.Need-lower-into-requires
 lower-into-requires c κs = search needs
