@@ -1,5 +1,8 @@
 // Decimal texts, by the grammar of Rust's f64, and their values where these are exact; the number that every reader of numbers answers with.
+mod tens;
+
 use scan::Class;
+use tens::POWERS;
 ghost use mathlib.Core.Bool.{false, _&&_, _||_};
 ghost use mathlib.Core.Path.{_≡_};
 ghost use Prim.Native.Nat.{suc, _+_, _≤_, min};
@@ -224,33 +227,6 @@ const MOST_EXACT: u64 = 0x20_0000_0000_0000;
 
 // An f64 holds every power of ten up to this one.
 const MOST_EXPONENT: usize = 22;
-
-// 10 ^ 0 to 10 ^ 22, each of which an `f64` holds exactly.
-const POWERS: [f64; 23] = [
-    1.0,
-    10.0,
-    100.0,
-    1000.0,
-    10000.0,
-    100000.0,
-    1000000.0,
-    10000000.0,
-    100000000.0,
-    1000000000.0,
-    1e10,
-    1e11,
-    1e12,
-    1e13,
-    1e14,
-    1e15,
-    1e16,
-    1e17,
-    1e18,
-    1e19,
-    1e20,
-    1e21,
-    1e22,
-];
 
 // A power of ten.
 fn power(e: usize) -> f64

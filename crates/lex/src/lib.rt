@@ -162,14 +162,8 @@ fn write_lexemes(
                 return;
             }
             Step::Finished => {
-                put(
-                    kinds,
-                    starts,
-                    lengths,
-                    i,
-                    kinds::T_EOF,
-                    Span { start, length: 0 },
-                );
+                let end = Span { start, length: 0 };
+                put(kinds, starts, lengths, i, kinds::T_EOF, end);
                 return;
             }
         }

@@ -13,8 +13,8 @@ use Rattle.record.specs.Decimal.{digitsOf, decimalText}
 use Rattle.token.specs.Words.{words, kindIn, keywordOf}
 use Rattle.numeral.specs.Numeral.{isHex, fractionEnd, exponentEnd, numberEnd, isUnit, stopOf, turnOf, durationFrom, numeralOf}
 use Rattle.quoted.specs.Quoted.{quotedFrom}
-use Rattle.munch.specs.Lead.{symbolOf, leadOf, bracketSymbolOf, bracketLeadOf}
-use Rattle.munch.specs.Word.{isFill, ruleBy, kindBy}
+use Rattle.lead.specs.Lead.{symbolOf, leadOf, bracketSymbolOf, bracketLeadOf}
+use Rattle.word.specs.Word.{isFill, ruleBy, kindBy}
 use Rattle.munch.specs.Munch.{numberStep, quotedStep, wordStep, leftBracketStep, endStep, outsideStep, bracketStep, munchedBy}
 use Rattle.lex.specs.Steps.{stepsPast, readFrom}
 use Rattle.lex.specs.Lex.{tallied, measured, lexed}
