@@ -1,5 +1,5 @@
 -- The laws of `specs/Laws`: an accepted answer is at most a text's bytes, well below bit 63, and a refusal's place lies within the
--- text, by the bounds of `utf8`'s answers.
+-- text, by the bounds of the answers of `utf8` and `encode`.
 use Prim.Native.Nat.{_<_}
 use native.Mathlib.Omega.{arith}
 use mathlib.Core.Bool.{Bool, true, false, cond, _||_}
@@ -11,10 +11,12 @@ use Rattle.utf8.specs.declared.Admission.{Admission}
 use Rattle.utf8.specs.declared.Admission.the-variants.{Admitted, Refused}
 use Rattle.utf8.specs.declared.Character.{Character}
 use Rattle.utf8.specs.declared.Character.the-variants.{Scalar, Nothing, IllFormed}
-use Rattle.utf8.specs.declared.Encoding.{Encoding}
-use Rattle.utf8.specs.declared.Encoding.the-variants.{Written, NotScalar, NoRoom}
-use Rattle.utf8.specs.Answers.{placeAt, textLimit, tooLong, notUtf8, admitted, characterAt, encodingOf}
-use Rattle.utf8.proofs.Bounds.{Bounded, admitted-bound, Within, character-within, number-bound, AtMostFour, encoding-bound}
+use Rattle.encode.specs.declared.Encoding.{Encoding}
+use Rattle.encode.specs.declared.Encoding.the-variants.{Written, NotScalar, NoRoom}
+use Rattle.utf8.specs.Answers.{placeAt, textLimit, tooLong, notUtf8, admitted, characterAt}
+use Rattle.encode.specs.Answers.{encodingOf}
+use Rattle.utf8.proofs.Bounds.{Bounded, admitted-bound, Within, character-within, number-bound}
+use Rattle.encode.proofs.Bounds.{AtMostFour, encoding-bound}
 use Rattle.packed.specs.Packed.{packedOf}
 use Rattle.packed.specs.Laws.{looksRefused}
 use Rattle.packed.proofs.Laws.{small, packed-told, placed-kept}

@@ -11,9 +11,10 @@ use Rattle.utf8.specs.declared.Admission.{Admission}
 use Rattle.utf8.specs.declared.Admission.the-variants.{Admitted, Refused}
 use Rattle.utf8.specs.declared.Character.{Character}
 use Rattle.utf8.specs.declared.Character.the-variants.{Scalar, Nothing, IllFormed}
-use Rattle.utf8.specs.declared.Encoding.{Encoding}
-use Rattle.utf8.specs.declared.Encoding.the-variants.{Written, NotScalar, NoRoom}
-use Rattle.utf8.specs.Answers.{placeAt, textLimit, tooLong, noRoom, notUtf8, admitted, characterAt, encodingOf}
+use Rattle.encode.specs.declared.Encoding.{Encoding}
+use Rattle.encode.specs.declared.Encoding.the-variants.{Written, NotScalar, NoRoom}
+use Rattle.utf8.specs.Answers.{placeAt, textLimit, tooLong, noRoom, notUtf8, admitted, characterAt}
+use Rattle.encode.specs.Answers.{encodingOf}
 use Rattle.string.specs.Literal.{badLiteral}
 use Rattle.packed.specs.Packed.{Packable}
 use Rattle.packed.specs.Laws.{looksRefused}

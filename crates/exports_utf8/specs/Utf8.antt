@@ -1,4 +1,4 @@
--- What the C functions over `utf8` answer, and what they leave in what was lent, by cases over `utf8`'s answers.
+-- What the C functions over `utf8` and `encode` answer, and what they leave in what was lent, by cases over the answers of those.
 use Prim.Native.Nat.{ℕ}
 use mathlib.Core.Bool.{cond}
 use mathlib.Core.List.{List}
@@ -8,8 +8,8 @@ use Rattle.utf8.specs.declared.Admission.{Admission}
 use Rattle.utf8.specs.declared.Admission.the-variants.{Admitted, Refused}
 use Rattle.utf8.specs.declared.Character.{Character}
 use Rattle.utf8.specs.declared.Character.the-variants.{Scalar, Nothing, IllFormed}
-use Rattle.utf8.specs.declared.Encoding.{Encoding}
-use Rattle.utf8.specs.declared.Encoding.the-variants.{Written, NotScalar, NoRoom}
+use Rattle.encode.specs.declared.Encoding.{Encoding}
+use Rattle.encode.specs.declared.Encoding.the-variants.{Written, NotScalar, NoRoom}
 use Rattle.utf8.specs.Answers.{placeAt, textLimit, tooLong, noRoom, notUtf8, characterAt}
 use Rattle.string.specs.Literal.{badLiteral}
 use Rattle.packed.specs.Packed.{packedOf}

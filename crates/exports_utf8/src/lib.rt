@@ -1,15 +1,16 @@
-// The C functions over `utf8`: each answers with one number, and writes what else it gives to what is lent.
+// The C functions over `utf8` and `encode`: each answers with one number, and writes what else it gives to what is lent.
 // A refusal is answered as `packed` makes it one number.
+use encode::Encoding;
 use utf8::Admission;
 use utf8::ByteOffset;
 use utf8::Character;
-use utf8::Encoding;
 use utf8::Place;
 use utf8::Refusal;
 ghost use mathlib.Core.Path.{_≡_};
 ghost use lib.ListN.{length};
 ghost use Rattle.utf8.specs.Text.{charNumber};
-ghost use Rattle.utf8.specs.Answers.{textLimit, admitted, encodingOf, leftBy};
+ghost use Rattle.utf8.specs.Answers.{textLimit, admitted};
+ghost use Rattle.encode.specs.Answers.{encodingOf, leftBy};
 ghost use Rattle.exports_utf8.specs.Utf8.{validateCode, charAtCode, charAtLeft, encodeCode};
 
 // The number of characters of a text, or refusal 1 or 2.
@@ -67,7 +68,7 @@ pub extern "C" fn simmerpath_utf8_encode(code: u32, out: &mut [u8], at: usize) -
     ensures { λ r. ⌜ r ≡ encodeCode (encodingOf code (length (now (out .entry))) at) ⌝ }
     ensures { λ _. ⌜ now (out .exit) ≡ leftBy (encodingOf code (length (now (out .entry))) at) code at (now (out .entry)) ⌝ }
 {
-    let e = utf8::encode(code, out, ByteOffset(at));
+    let e = encode::encode(code, out, ByteOffset(at));
     match e {
         Encoding::Written(n) => n as u64,
         Encoding::NotScalar => packed::packed_at_start(string::BAD_LITERAL),

@@ -2,10 +2,10 @@
 use decimal::Decimal;
 use decimal::Notation;
 use decimal::Number;
+use encode::Encoding;
 use utf8::Admission;
 use utf8::ByteOffset;
 use utf8::Character;
-use utf8::Encoding;
 use utf8::Refusal;
 ghost use mathlib.Core.Bool.{true};
 ghost use mathlib.Core.Path.{_≡_};
@@ -112,7 +112,7 @@ fn put_kept(code: u32, out: &mut [u8], at: usize) -> usize
     if is_white(code) {
         return at;
     }
-    let e = utf8::encode(scan::lowered(code as usize) as u32, out, ByteOffset(at));
+    let e = encode::encode(scan::lowered(code as usize) as u32, out, ByteOffset(at));
     let Encoding::Written(n) = e else {
         return at;
     };

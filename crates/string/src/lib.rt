@@ -1,10 +1,10 @@
 // String literals: where the text of one stands, and that text. What is to be written is measured first, so that a refused call writes
 // nothing.
+use encode::Encoding;
 use tile::Form;
 use tile::Tile;
 use utf8::Admission;
 use utf8::ByteOffset;
-use utf8::Encoding;
 use utf8::Reading;
 use utf8::Refusal;
 ghost use mathlib.Core.Bool.{true, false};
@@ -110,7 +110,7 @@ fn piece_size(reading: Reading, form: Form, value: u32) -> usize
     if is_single(reading, form, value) {
         return 1;
     }
-    utf8::encoded_size(value)
+    encode::encoded_size(value)
 }
 
 // How many bytes the tiles of a content give.
@@ -165,7 +165,7 @@ fn put_piece(reading: Reading, form: Form, value: u32, out: &mut [u8], at: usize
         out[at] = value as u8;
         return at + 1;
     }
-    let e = utf8::encode(value, out, ByteOffset(at));
+    let e = encode::encode(value, out, ByteOffset(at));
     let Encoding::Written(n) = e else {
         return at;
     };

@@ -119,7 +119,7 @@ fn is_allowed(form: Form, value: u32) -> bool
     if is_byte(form) {
         return value <= LARGEST_BYTE;
     }
-    utf8::is_scalar(value)
+    encode::is_scalar(value)
 }
 
 // An escape by so many digits of a radix.

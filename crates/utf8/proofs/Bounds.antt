@@ -14,13 +14,11 @@ use Rattle.utf8.specs.declared.Admission.{Admission}
 use Rattle.utf8.specs.declared.Admission.the-variants.{Admitted, Refused}
 use Rattle.utf8.specs.declared.Character.{Character}
 use Rattle.utf8.specs.declared.Character.the-variants.{Scalar, Nothing, IllFormed}
-use Rattle.utf8.specs.declared.Encoding.{Encoding}
-use Rattle.utf8.specs.declared.Encoding.the-variants.{Written, NotScalar, NoRoom}
 use Rattle.utf8.specs.Table.{charLength}
 use Rattle.utf8.specs.Code.{codeOf, isScalar, encoded}
 use Rattle.utf8.specs.Text.{Char, charsOf, sizeOf, prefixEnd, begunIn, charNumber}
-use Rattle.utf8.specs.Laws.{ByteScalar, EncodingFits, FirstCharacter, AsciiAt, FewBytes, StandsAt, CharacterStands}
-use Rattle.utf8.specs.Answers.{validityOf, admittedAs, admitted, characterAt, encodingOf}
+use Rattle.utf8.specs.Laws.{ByteScalar, FirstCharacter, AsciiAt, FewBytes, StandsAt, CharacterStands}
+use Rattle.utf8.specs.Answers.{validityOf, admittedAs, admitted, characterAt}
 use Rattle.scan.specs.Byte.{end, peekAt}
 use Rattle.scan.proofs.Choice.{either}
 use Rattle.scan.proofs.Runs.{peek-inside}
@@ -123,11 +121,6 @@ unfolding isScalar
 byte-scalar c h = rw (le-leb c 0x10ffff (omega arith), lt-ltb c 0xd800 (omega arith))
 
 -- a code point has at most four bytes
-abbrev pub AtMostFour : Encoding → Type 0
-AtMostFour (Written n) = n ≤ 4
-AtMostFour NotScalar = Unit {0}
-AtMostFour NoRoom = Unit {0}
-
 pub encoded-bound : FewBytes
 unfolding encoded
 encoded-bound c =
@@ -135,13 +128,3 @@ encoded-bound c =
     either P (leb c 0x7f) (λ e. omega arith)
     (λ e. either P (leb c 0x7ff) (λ e. omega arith)
     (λ e. either P (leb c 0xffff) (λ e. omega arith) (λ e. omega arith)))
-
-pub encoding-fits : EncodingFits
-unfolding encodingOf
-encoding-fits c room at s h = rw (s, le-leb (at + length (encoded c)) room h)
-
-pub encoding-bound : (c room at : ℕ) → AtMostFour (encodingOf c room at)
-unfolding encodingOf
-encoding-bound c room at =
-    either AtMostFour (isScalar c)
-    (λ e. either AtMostFour (leb (at + length (encoded c)) room) (λ t. encoded-bound c) (λ t. tt)) (λ e. tt)

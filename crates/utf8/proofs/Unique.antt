@@ -1,7 +1,6 @@
--- Any two answers that the promise of a public function allows are equal, and so are the contents that they leave in what was lent.
-use mathlib.Core.Path.{_≡_, sym, _∙_}
-use denote.Ref.{now}
-use Rattle.scan.proofs.One.{OneAnswer, OneContent}
+-- Any two answers that the promise of a public function allows are equal.
+use mathlib.Core.Path.{sym, _∙_}
+use Rattle.scan.proofs.One.{OneAnswer}
 use Rattle.utf8.proofs.validate.Kinds as validate
 use Rattle.utf8.proofs.validate.Reads as validate-reads
 use Rattle.utf8.proofs.admit.Kinds as admit
@@ -12,12 +11,6 @@ use Rattle.utf8.proofs.char_at.Kinds as char-at
 use Rattle.utf8.proofs.char_at.Reads as char-at-reads
 use Rattle.utf8.proofs.at_start.Kinds as at-start
 use Rattle.utf8.proofs.at_start.Reads as at-start-reads
-use Rattle.utf8.proofs.is_scalar.Kinds as is-scalar
-use Rattle.utf8.proofs.is_scalar.Reads as is-scalar-reads
-use Rattle.utf8.proofs.encoded_size.Kinds as encoded-size
-use Rattle.utf8.proofs.encoded_size.Reads as encoded-size-reads
-use Rattle.utf8.proofs.encode.Kinds as encode
-use Rattle.utf8.proofs.encode.Reads as encode-reads
 
 pub same-validate : OneAnswer validate.ps validate.r validate-reads.Post
 same-validate κs a x y e f p q = p ∙ sym q
@@ -33,15 +26,3 @@ same-char-at κs a x y e f p q = p ∙ sym q
 
 pub same-at-start : OneAnswer at-start.ps at-start.r at-start-reads.Post
 same-at-start κs a x y e f p q = p ∙ sym q
-
-pub same-is-scalar : OneAnswer is-scalar.ps is-scalar.r is-scalar-reads.Post
-same-is-scalar κs a x y e f p q = p ∙ sym q
-
-pub same-encoded-size : OneAnswer encoded-size.ps encoded-size.r encoded-size-reads.Post
-same-encoded-size κs a x y e f p q = p ∙ sym q
-
-pub same-encode : OneAnswer encode.ps encode.r encode-reads.Post
-same-encode κs a x y e f p q = p .0 ∙ sym (q .0)
-
-pub same-encode-out : OneContent encode.ps encode.r encode-reads.Post (λ κs e. now (e .1 .0))
-same-encode-out κs a x y e f p q = let s : x ≡ y = same-encode κs a x y e f p q in cc (p .1, q .1)

@@ -1,9 +1,9 @@
 -- What the functions answer, and document 01's refusals 1 and 2, in that order.
-use Prim.Native.Nat.{ℕ, _+_}
+use Prim.Native.Nat.{ℕ}
 use mathlib.Core.Bool.{cond}
-use mathlib.Core.List.{List, _++_}
+use mathlib.Core.List.{List}
 use lib.Dec.{leb, ltb, eqb}
-use lib.ListN.{length, take, drop}
+use lib.ListN.{length, drop}
 use Rattle.utf8.specs.declared.CharNumber.{CharNumber}
 use Rattle.utf8.specs.declared.Place.{Place}
 use Rattle.utf8.specs.declared.Refusal.{Refusal}
@@ -13,10 +13,8 @@ use Rattle.utf8.specs.declared.Admission.{Admission}
 use Rattle.utf8.specs.declared.Admission.the-variants.{Admitted, Refused}
 use Rattle.utf8.specs.declared.Character.{Character}
 use Rattle.utf8.specs.declared.Character.the-variants.{Scalar, Nothing, IllFormed}
-use Rattle.utf8.specs.declared.Encoding.{Encoding}
-use Rattle.utf8.specs.declared.Encoding.the-variants.{Written, NotScalar, NoRoom}
 use Rattle.utf8.specs.Table.{charLength}
-use Rattle.utf8.specs.Code.{codeOf, isScalar, encoded}
+use Rattle.utf8.specs.Code.{codeOf}
 use Rattle.utf8.specs.Text.{charsOf, prefixEnd, isWellFormed, startOf, charNumber}
 
 -- so many characters
@@ -69,15 +67,3 @@ characterOf xs = let n = charLength xs in cond (eqb n 0) IllFormed (Scalar (code
 
 unfoldable pub characterAt : List ℕ → ℕ → Character
 characterAt xs at = cond (leb (length xs) at) Nothing (characterOf (drop at xs))
-
--- how many bytes of a code point a buffer takes at an offset
-unfoldable pub encodingOf : ℕ → ℕ → ℕ → Encoding
-encodingOf c room at =
-    let n = length (encoded c) in
-    cond (isScalar c) (cond (leb (at + n) room) (Written n) NoRoom) NotScalar
-
--- what the buffer holds then
-abbrev pub leftBy : Encoding → ℕ → ℕ → List ℕ → List ℕ
-leftBy (Written n) c at d = take at d ++ encoded c ++ drop (at + n) d
-leftBy NotScalar c at d = d
-leftBy NoRoom c at d = d

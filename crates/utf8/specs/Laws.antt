@@ -9,14 +9,13 @@ use lib.Dec.{ltb}
 use lib.ListN.{length, take, drop}
 use Rattle.utf8.specs.declared.Character.{Character}
 use Rattle.utf8.specs.declared.Character.the-variants.{Scalar, Nothing, IllFormed}
-use Rattle.utf8.specs.declared.Encoding.the-variants.{Written}
 use Rattle.scan.specs.Byte.{peekAt, lowered}
 use Rattle.scan.specs.Edge.{Bytes}
 use Rattle.scan.specs.Text.{sameText}
 use Rattle.utf8.specs.Table.{isTail, charLength}
 use Rattle.utf8.specs.Code.{codeOf, isScalar, encoded}
 use Rattle.utf8.specs.Text.{charOf, charsOf, codesOf, prefixEnd, WellFormed, isWellFormed, startOf, charNumber}
-use Rattle.utf8.specs.Answers.{characterOf, characterAt, encodingOf}
+use Rattle.utf8.specs.Answers.{characterOf, characterAt}
 
 -- the characters are the one that the bytes begin with, and those of the rest; none where they begin with none
 abbrev pub Steps : Type 0
@@ -74,10 +73,6 @@ FewBytes = (c : ℕ) → length (encoded c) ≤ 4
 -- a byte's value is a character's code point
 abbrev pub ByteScalar : Type 0
 ByteScalar = (c : ℕ) → c ≤ 0xff → isScalar c ≡ true
-
--- a character that has room is written
-abbrev pub EncodingFits : Type 0
-EncodingFits = (c room at : ℕ) → isScalar c ≡ true → at + length (encoded c) ≤ room → encodingOf c room at ≡ Written (length (encoded c))
 
 -- the character at the front is the one that the bytes begin with; where they begin with none there is none
 abbrev pub FirstCharacter : Type 0

@@ -3,8 +3,8 @@ use mathlib.Core.Path.{_≡_, sym, ap, _∙_}
 use denote.Ref.{now}
 use borrow.Author.Needs.{needs}
 use lib.ListN.{length}
-use Rattle.utf8.specs.declared.Encoding.{Encoding}
-use Rattle.utf8.specs.Answers.{encodingOf, leftBy}
+use Rattle.encode.specs.declared.Encoding.{Encoding}
+use Rattle.encode.specs.Answers.{encodingOf, leftBy}
 use Rattle.exports_utf8.specs.Utf8.{encodeCode}
 use Rattle.exports_utf8.proofs.simmerpath_utf8_encode.Statement.{statement}
 use Rattle.exports_utf8.proofs.simmerpath_utf8_encode.Tie as tie

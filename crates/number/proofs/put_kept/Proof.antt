@@ -11,12 +11,12 @@ use denote.Enum.Declared.{tagOf}
 use denote.Ref.{now}
 use borrow.Author.Needs.{needs}
 use Rattle.scan.specs.Byte.{lowered}
-use Rattle.utf8.specs.declared.Encoding.{Encoding}
-use Rattle.utf8.specs.declared.Encoding.the-variants.{Written}
+use Rattle.encode.specs.declared.Encoding.{Encoding}
+use Rattle.encode.specs.declared.Encoding.the-variants.{Written}
 use Rattle.utf8.specs.Code.{isScalar, encoded}
-use Rattle.utf8.specs.Answers.{leftBy}
-use Rattle.utf8.proofs.Bounds.{encoding-fits}
-use Rattle.utf8.proofs.Encoding as encoding
+use Rattle.encode.specs.Answers.{leftBy}
+use Rattle.encode.proofs.Bounds.{encoding-fits}
+use Rattle.encode.proofs.Encoding as encoding
 use Rattle.number.specs.White.{keptBytes}
 use Rattle.number.proofs.Kept.{white-kept, other-kept, lowered-scalar, lowered-below}
 use Rattle.number.proofs.put_kept.Statement.{statement}

@@ -14,14 +14,15 @@ use denote.Ref.{now}
 use lib.Dec.{leb}
 use borrow.Author.Tests.{leb-true}
 use Rattle.scan.proofs.Choice.{told}
-use Rattle.utf8.specs.declared.Encoding.{Encoding}
-use Rattle.utf8.specs.declared.Encoding.the-variants.{Written, NotScalar, NoRoom}
+use Rattle.encode.specs.declared.Encoding.{Encoding}
+use Rattle.encode.specs.declared.Encoding.the-variants.{Written, NotScalar, NoRoom}
 use Rattle.utf8.specs.declared.Reading.{Reading}
 use Rattle.utf8.specs.declared.Reading.the-variants.{Crate, Documented}
 use Rattle.utf8.specs.Code.{isScalar, encoded}
-use Rattle.utf8.specs.Answers.{leftBy}
-use Rattle.utf8.proofs.Bounds.{byte-scalar, encoding-fits}
-use Rattle.utf8.proofs.Encoding as encoding
+use Rattle.encode.specs.Answers.{leftBy}
+use Rattle.utf8.proofs.Bounds.{byte-scalar}
+use Rattle.encode.proofs.Bounds.{encoding-fits}
+use Rattle.encode.proofs.Encoding as encoding
 use Rattle.tile.specs.declared.Form.{Form}
 use Rattle.tile.specs.Tile.{isByte, isAllowed}
 use Rattle.string.specs.Tiles.{givesByte, pieceBytes}

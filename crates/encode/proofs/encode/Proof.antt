@@ -1,4 +1,4 @@
--- `utf8::encode` meets its contract: it is refused before anything is written, and otherwise there is the room that `write_code` asks for.
+-- `encode::encode` meets its contract: it is refused before anything is written, and otherwise there is the room that `write_code` asks for.
 use native.Mathlib.Omega.{arith}
 use Prim.Native.Nat.{ℕ, _+_, _<_, _≤_}
 use mathlib.Core.Bool.{true, false, _||_}
@@ -9,13 +9,13 @@ use denote.Ref.{now}
 use lib.Dec.{leb, ltb}
 use lib.ListN.{length}
 use lib.Seq.{sets-eq}
-use Rattle.utf8.specs.declared.Encoding.the-variants.{NotScalar, NoRoom}
+use Rattle.encode.specs.declared.Encoding.the-variants.{NotScalar, NoRoom}
 use Rattle.utf8.specs.Code.{isScalar, encoded}
-use Rattle.utf8.specs.Answers.{encodingOf}
+use Rattle.encode.specs.Answers.{encodingOf}
 use Rattle.scan.proofs.Choice.{and-left}
-use Rattle.utf8.proofs.Bounds.{encoding-fits}
-use Rattle.utf8.proofs.encode.Statement.{statement}
-use Rattle.utf8.proofs.encode.Tie as tie
+use Rattle.encode.proofs.Bounds.{encoding-fits}
+use Rattle.encode.proofs.encode.Statement.{statement}
+use Rattle.encode.proofs.encode.Tie as tie
 
 is-scalar-requires : tie.Need-is-scalar-requires
 is-scalar-requires c κs = search needs

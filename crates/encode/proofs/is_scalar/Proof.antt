@@ -1,8 +1,8 @@
--- `utf8::is_scalar` meets its contract: each way out knows what the tests before it said.
+-- `encode::is_scalar` meets its contract: each way out knows what the tests before it said.
 use Rattle.scan.proofs.Ways.{ways}
 use Rattle.utf8.specs.Code.{isScalar}
-use Rattle.utf8.proofs.is_scalar.Statement.{statement}
-use Rattle.utf8.proofs.is_scalar.Tie as tie
+use Rattle.encode.proofs.is_scalar.Statement.{statement}
+use Rattle.encode.proofs.is_scalar.Tie as tie
 
 returns : tie.Need-returns
 unfolding isScalar

@@ -1,9 +1,9 @@
--- `utf8::six_bits` meets its contract, which says what it computes.
+-- `encode::six_bits` meets its contract, which says what it computes.
 use mathlib.Core.Path.{refl}
 use Rattle.utf8.specs.Code.{sixBits}
 use borrow.Author.Needs.{needs}
-use Rattle.utf8.proofs.six_bits.Statement.{statement}
-use Rattle.utf8.proofs.six_bits.Tie as tie
+use Rattle.encode.proofs.six_bits.Statement.{statement}
+use Rattle.encode.proofs.six_bits.Tie as tie
 
 add-result : tie.Need-add-result
 add-result c = search needs

@@ -1,8 +1,8 @@
--- `utf8::encoded_size` meets its contract: each way out knows which line of the definition the code point is in.
+-- `encode::encoded_size` meets its contract: each way out knows which line of the definition the code point is in.
 use Rattle.scan.proofs.Ways.{ways}
 use Rattle.utf8.specs.Code.{encoded}
-use Rattle.utf8.proofs.encoded_size.Statement.{statement}
-use Rattle.utf8.proofs.encoded_size.Tie as tie
+use Rattle.encode.proofs.encoded_size.Statement.{statement}
+use Rattle.encode.proofs.encoded_size.Tie as tie
 
 returns : tie.Need-returns
 unfolding encoded

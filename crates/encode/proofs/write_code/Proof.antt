@@ -1,4 +1,4 @@
--- `utf8::write_code` meets its contract: each way through writes the bytes of one line of the definition, one after the other, and
+-- `encode::write_code` meets its contract: each way through writes the bytes of one line of the definition, one after the other, and
 -- what the caller keeps says that they have room.
 use native.Mathlib.Numerals.{add-one, add-two, add-three}
 use native.Mathlib.Omega.{arith}
@@ -7,11 +7,11 @@ use mathlib.Core.List.{List, [], _∷_}
 use mathlib.Core.Path.{_≡_, ap}
 use denote.Ref.{now}
 use lib.ListN.{length, length-set}
 use Rattle.utf8.specs.Code.{sixBits, encoded}
 use Rattle.utf8.proofs.Codes.{one-byte, two-bytes, three-bytes, four-bytes}
 use borrow.Author.Needs.{needs}
-use Rattle.utf8.proofs.write_code.Statement.{statement}
-use Rattle.utf8.proofs.write_code.Tie as tie
+use Rattle.encode.proofs.write_code.Statement.{statement}
+use Rattle.encode.proofs.write_code.Tie as tie
 
 abbrev code : tie.Start → ℕ
 code c = c .args .code
