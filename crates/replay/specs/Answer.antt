@@ -24,11 +24,12 @@ use Rattle.record.specs.Hex.{paired, decoded}
 use Rattle.record.specs.Record.{recordOf}
 use Rattle.token.specs.Words.{keywordOf}
 use Rattle.token.specs.Label.{isLabel}
+use Rattle.listing.specs.Listing.{refusal}
 use Rattle.replay.specs.declared.ops.Op.{Op}
 use Rattle.replay.specs.declared.ops.Op.the-variants as op
 use Rattle.replay.specs.Sizes.{longestLine, mostRoom}
 use Rattle.replay.specs.Rooms.{roomOf}
-use Rattle.replay.specs.Lines.{badRecord, okLine, refusal}
+use Rattle.replay.specs.Lines.{badRecord, okLine}
 use Rattle.replay.specs.Tokens.{keywordAnswer, labelAnswer, displayAnswer}
 use Rattle.replay.specs.Strings.{escapeAnswer, unquoteAnswer}
 use Rattle.replay.specs.Numbers.{numberAnswer}

@@ -19,8 +19,9 @@ use Rattle.duration.specs.declared.Timing.the-variants.{Lasts, Refused}
 use Rattle.display.specs.declared.Displaying.{Displaying}
 use Rattle.display.specs.declared.Displaying.the-variants as displaying
 use Rattle.display.specs.Display.{textOf, displayingOf}
+use Rattle.listing.specs.Listing.{numbered, refusal}
 use Rattle.replay.specs.Sizes.{largestNanos}
-use Rattle.replay.specs.Lines.{badRecord, numbered, hexLine, refusal}
+use Rattle.replay.specs.Lines.{badRecord, hexLine}
 
 -- `ok SECS NANOS`
 unfoldable pub lastsAnswer : Duration → List ℕ

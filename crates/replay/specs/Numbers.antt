@@ -8,7 +8,8 @@ use Rattle.decimal.specs.declared.Number.{Number}
 use Rattle.decimal.specs.Value.{bitsOf}
 use Rattle.number.specs.declared.Parsing.{Parsing}
 use Rattle.number.specs.declared.Parsing.the-variants.{Value, Refused}
-use Rattle.replay.specs.Lines.{hexLine, refusal}
+use Rattle.listing.specs.Listing.{refusal}
+use Rattle.replay.specs.Lines.{hexLine}
 
 -- the last so many bytes of a number, the most significant first
 abbrev pub lastBytes : ℕ → ℕ → List ℕ

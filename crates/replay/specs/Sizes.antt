@@ -21,10 +21,6 @@ mostRoom = 131070
 abbrev pub mostLexemes : ℕ
 mostLexemes = 65536
 
--- none is longer in an answer: a space, a number of 16 bits, and two of 32 bits, each behind a comma
-abbrev pub longestLexeme : ℕ
-longestLexeme = 28
-
 -- no answer is longer: `ok`, all these lexemes, and LF
 abbrev pub mostAnswer : ℕ
 mostAnswer = 1900000

@@ -9,7 +9,8 @@ use Rattle.string.specs.declared.Unquoting.{Unquoting}
 use Rattle.string.specs.declared.Unquoting.the-variants as unquoting
 use Rattle.escape.specs.Escape.{escaped, escapingOf}
 use Rattle.string.specs.Literal.{unquoted, unquotingOf}
-use Rattle.replay.specs.Lines.{hexLine, refusal}
+use Rattle.listing.specs.Listing.{refusal}
+use Rattle.replay.specs.Lines.{hexLine}
 
 -- `escape`: the text escaped
 unfoldable pub escapingAnswer : List ℕ → Escaping → List ℕ

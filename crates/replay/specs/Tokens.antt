@@ -16,8 +16,9 @@ use Rattle.token.specs.declared.Display.{Display}
 use Rattle.token.specs.declared.Display.the-variants.{Length, NoRoom}
 use Rattle.token.specs.Display.{displayOf, displayed}
 use Rattle.token.specs.Classes.{isOperator, isComparisonOperator, isSetOperator, isAggregator, isAggregatorWithParam}
+use Rattle.listing.specs.Listing.{refusal}
 use Rattle.replay.specs.Sizes.{largestKind}
-use Rattle.replay.specs.Lines.{badRecord, okLine, hexLine, refusal}
+use Rattle.replay.specs.Lines.{badRecord, okLine, hexLine}
 
 -- `keyword`: the kind
 unfoldable pub keywordAnswer : Keyword → List ℕ

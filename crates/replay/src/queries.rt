@@ -1,15 +1,16 @@
 // The op on queries: `lex`.
 use crate::says;
 use lex::Lexing;
+use listing::Layout;
 ghost use mathlib.Core.Path.{_≡_};
 ghost use Prim.Native.Nat.{_+_, _≤_, min};
 ghost use mathlib.Core.List.{_++_};
 ghost use lib.ListN.{length, take};
-ghost use Rattle.record.specs.Decimal.{mostDigits};
 ghost use Rattle.lex.specs.Steps.{entry};
-ghost use Rattle.replay.specs.Sizes.{mostAnswer, mostLexemes, longestLexeme};
+ghost use Rattle.listing.specs.Listing.{longestLexeme, lexemeText, zipped};
+ghost use Rattle.replay.specs.Sizes.{mostAnswer, mostLexemes};
 ghost use Rattle.replay.specs.Lines.{Says};
-ghost use Rattle.replay.specs.Queries.{entryText, entriesAnswer, zipped, lexAnswer};
+ghost use Rattle.replay.specs.Queries.{entriesAnswer, lexAnswer};
 
 // No query has more lexemes: one for each byte, and its end.
 const MOST_LEXEMES: usize = 65_536;
@@ -26,14 +27,11 @@ fn offsets() -> [u32; MOST_LEXEMES] {
 
 // A lexeme in an answer: a space, and `KIND,START,LENGTH`.
 fn put_lexeme(out: &mut [u8], at: usize, kind: u16, start: u32, size: u32) -> usize
-    requires { ⌜ at + longestLexeme + mostDigits ≤ length (now out) ⌝ }
-    ensures { λ r. ⌜ Says (take at (now (out .entry)) ++ entryText (entry kind start size)) r (now (out .exit)) ⌝ }
+    requires { ⌜ at + longestLexeme ≤ length (now out) ⌝ }
+    ensures { λ r. ⌜ Says (take at (now (out .entry)) ++ lexemeText Layout.Field (entry kind start size)) r (now (out .exit)) ⌝ }
     ensures { λ r. ⌜ r ≤ at + longestLexeme ⌝ }
 {
-    let first = record::put_text(out, at, b" ");
-    let second = says::put_number(out, first, kind as usize, b",");
-    let third = says::put_number(out, second, start as usize, b",");
-    record::put_decimal(out, third, size as u64)
+    listing::put_lexeme(out, at, Layout::Field, kind, start, size)
 }
 
 // `ok`, and the lexemes that three lists of one length hold.

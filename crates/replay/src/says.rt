@@ -8,8 +8,9 @@ ghost use mathlib.Core.List.{_++_};
 ghost use lib.ListN.{length, take};
 ghost use Rattle.utf8.specs.Answers.{noRoom};
 ghost use Rattle.record.specs.Decimal.{mostDigits};
+ghost use Rattle.listing.specs.Listing.{numbered, refusal};
 ghost use Rattle.replay.specs.Sizes.{mostAnswer};
-ghost use Rattle.replay.specs.Lines.{Says, badRecord, numbered, okLine, hexLine, refusal};
+ghost use Rattle.replay.specs.Lines.{Says, badRecord, okLine, hexLine};
 
 // No answer is longer: `ok`, 65,536 lexemes of 28 bytes each at most, and LF.
 const MOST_ANSWER: usize = 1_900_000;
@@ -69,13 +70,7 @@ pub fn refused(r: Refusal, out: &mut [u8]) -> usize
     requires { ⌜ mostAnswer ≤ length (now out) ⌝ }
     ensures { λ n. ⌜ Says (refusal r) n (now (out .exit)) ⌝ }
 {
-    let place = r.place;
-    let byte = place.byte;
-    let character = place.character;
-    let number = record::put_text(out, 0, b"refused ");
-    let first = put_number(out, number, r.number, b" ");
-    let second = put_number(out, first, byte.0, b" ");
-    put_number(out, second, character.0, b"\n")
+    listing::put_refusal(out, 0, r)
 }
 
 // Refuses for want of room, which has no place.

@@ -1,6 +1,6 @@
 -- Each piece stands behind those before it, and there is room for two numbers.
+use Rattle.listing.specs.Listing.{numbered}
 use Rattle.replay.proofs.Pieces.{past-text, says-text, says-on}
-use Rattle.replay.specs.Lines.{numbered}
 use Rattle.replay.specs.Durations.{lastsAnswer}
 use Rattle.scan.specs.Ascii.{ascii}
 use native.Mathlib.Omega.{arith}

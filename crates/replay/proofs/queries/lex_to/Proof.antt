@@ -1,13 +1,13 @@
--- The arms are those of the definition. The first entries of the three lists are those of the lexemes, and no more than there is room for.
-use Rattle.replay.proofs.Lexemes.{lexed-count, listed-front, zipped-listed}
+-- The arms are those of the definition. The first entries of the three lists are the lexemes (listing's `lists-hold`).
+use Rattle.listing.specs.Listing.{zipped}
+use Rattle.listing.proofs.Lexemes.{lists-hold}
 use Rattle.replay.specs.Queries.{lexingAnswer}
 use Rattle.lex.specs.declared.Lexing.{Lexing}
-use Rattle.lex.specs.Lex.{entriesOf, lexed, listed, leftBy, kindOf, startOf, lengthOf, shortest}
+use Rattle.lex.specs.Lex.{entriesOf, lexed, shortest}
 use denote.Ref.{now}
 use lib.Seq.{length-take-le}
 use lib.ListN.{length, take}
 use mathlib.Core.Path.{_≡_, sym, ap, _∙_}
-use mathlib.Core.List.{map}
 use Prim.Native.Nat.{_≤_}
 use native.Mathlib.Omega.{arith}
 use borrow.Author.Needs.{needs}
@@ -28,58 +28,45 @@ answered c e =
     let same : length (now (a .kinds)) ≡ shortest (length (now (a .kinds))) (length (now (a .starts))) (length (now (a .lengths))) = omega (arith, h) in
     ap (λ room. lexed room (now (a .query))) same ∙ sym (c .lexer .ensures .0) ∙ e
 
--- the first entries of the three lists are the numbers of the lexemes
-front : (c : tie.After-known-told)
+-- their first entries are the lexemes
+held : (c : tie.After-known-told)
     → let a = c .before .before .before .before .before .before .before .before .before .before .before .before .before .before .before .before .before .before .args in
     let p = c .before .before .before .before .before .before .before .before .before .lexer in
     let n = c .before .x .given .0 .0 in
-    (n ≤ length (p .last .1 .0))
-    × (n ≤ length (p .last .1 .1 .0))
-    × (n ≤ length (p .last .1 .1 .1 .0))
-    × (take n (p .last .1 .0) ≡ map kindOf (entriesOf (now (a .query))))
-    × (take n (p .last .1 .1 .0) ≡ map startOf (entriesOf (now (a .query))))
-    × (take n (p .last .1 .1 .1 .0) ≡ map lengthOf (entriesOf (now (a .query))))
-front c =
+    (n ≤ shortest (length (now (a .kinds))) (length (now (a .starts))) (length (now (a .lengths))))
+    × (zipped (take n (p .last .1 .0)) (take n (p .last .1 .1 .0)) (take n (p .last .1 .1 .1 .0)) ≡ entriesOf (now (a .query)))
+held c =
     let a = c .before .before .before .before .before .before .before .before .before .before .before .before .before .before .before .before .before .before .args in
-    let h = c .before .before .before .before .before .before .before .before .before .before .before .before .before .before .before .before .before .before .pre .1 in
-    let p = c .before .before .before .before .before .before .before .before .before .lexer in
-    let q = now (a .query) in
-    let n = c .before .x .given .0 .0 in
-    let told = c .before .x .given .1 in
-    let w = lexed-count q (length (now (a .kinds))) n (answered (c .before .before .before .before .before .before .before .before .before) told) in
-    let kinds = ap (take n) (p .ensures .1 .0 ∙ ap (λ x. leftBy x (listed kindOf q (now (a .kinds))) (now (a .kinds))) told) ∙ listed-front kindOf q (now (a .kinds)) n (w .0) in
-    let starts = ap (take n) (p .ensures .1 .1 .0 ∙ ap (λ x. leftBy x (listed startOf q (now (a .starts))) (now (a .starts))) told) ∙ listed-front startOf q (now (a .starts)) n (w .0) in
-    let lengths = ap (take n) (p .ensures .1 .1 .1 ∙ ap (λ x. leftBy x (listed lengthOf q (now (a .lengths))) (now (a .lengths))) told) ∙ listed-front lengthOf q (now (a .lengths)) n (w .0) in
-    (omega (arith, w .1, h, p .kept), omega (arith, w .1, h, p .kept), omega (arith, w .1, h, p .kept), kinds, starts, lengths)
+    lists-hold (now (a .query)) (now (a .kinds)) (now (a .starts)) (now (a .lengths)) (c .before .before .before .before .before .before .before .before .before .lexer .ensures) (c .before .x .given .1)
 
 slice-reshare-prefix-ok-lexemes : tie.Need-slice-reshare-prefix-ok-lexemes
-slice-reshare-prefix-ok-lexemes c = front c .0
+slice-reshare-prefix-ok-lexemes c = omega (arith, held c .0, c .before .before .before .before .before .before .before .before .before .lexer .kept)
 
 slice-aggregate-ok-lexemes : tie.Need-slice-aggregate-ok-lexemes
-slice-aggregate-ok-lexemes c = sym (length-take-le _ _ (front (c .before) .0))
+slice-aggregate-ok-lexemes c = sym (length-take-le _ _ (omega (arith, held (c .before) .0, c .before .before .before .before .before .before .before .before .before .before .lexer .kept)))
 
 slice-reshare-prefix-ok-lexemes-2 : tie.Need-slice-reshare-prefix-ok-lexemes-2
-slice-reshare-prefix-ok-lexemes-2 c = front (c .before) .1
+slice-reshare-prefix-ok-lexemes-2 c = omega (arith, held (c .before) .0, c .before .before .before .before .before .before .before .before .before .before .lexer .kept)
 
 slice-aggregate-ok-lexemes-2 : tie.Need-slice-aggregate-ok-lexemes-2
-slice-aggregate-ok-lexemes-2 c = sym (length-take-le _ _ (front (c .before .before) .1))
+slice-aggregate-ok-lexemes-2 c = sym (length-take-le _ _ (omega (arith, held (c .before .before) .0, c .before .before .before .before .before .before .before .before .before .before .before .lexer .kept)))
 
 slice-reshare-prefix-ok-lexemes-3 : tie.Need-slice-reshare-prefix-ok-lexemes-3
-slice-reshare-prefix-ok-lexemes-3 c = front (c .before .before) .2
+slice-reshare-prefix-ok-lexemes-3 c = omega (arith, held (c .before .before) .0, c .before .before .before .before .before .before .before .before .before .before .before .lexer .kept)
 
 slice-aggregate-ok-lexemes-3 : tie.Need-slice-aggregate-ok-lexemes-3
-slice-aggregate-ok-lexemes-3 c = sym (length-take-le _ _ (front (c .before .before .before) .2))
+slice-aggregate-ok-lexemes-3 c = sym (length-take-le _ _ (omega (arith, held (c .before .before .before) .0, c .before .before .before .before .before .before .before .before .before .before .before .before .lexer .kept)))
 
 ok-lexemes-requires : tie.Need-ok-lexemes-requires
 ok-lexemes-requires c κs =
-    let f = front (c .before .before .before .before) in
+    let f = held (c .before .before .before .before) .0 in
     let h = c .before .before .before .before .before .before .before .before .before .before .before .before .before .before .before .before .before .before .before .before .before .before .pre in
     let p = c .before .before .before .before .before .before .before .before .before .before .before .before .before .lexer in
     let n = c .before .before .before .before .before .x .given .0 .0 in
-    let kinds = length-take-le n (p .last .1 .0) (f .0) in
-    let starts = length-take-le n (p .last .1 .1 .0) (f .1) in
-    let lengths = length-take-le n (p .last .1 .1 .1 .0) (f .2) in
-    ((omega (arith, kinds, f .0, h, p .kept), omega (arith, h)), (starts ∙ sym kinds, lengths ∙ sym kinds))
+    let kinds = length-take-le n (p .last .1 .0) (omega (arith, p .kept)) in
+    let starts = length-take-le n (p .last .1 .1 .0) (omega (arith, p .kept)) in
+    let lengths = length-take-le n (p .last .1 .1 .1 .0) (omega (arith, p .kept)) in
+    ((omega (arith, kinds, h), omega (arith, h)), (starts ∙ sym kinds, lengths ∙ sym kinds))
 
 enum-known-x-2 : tie.Need-enum-known-x-2
 enum-known-x-2 c = search needs
@@ -101,10 +88,7 @@ same-length-4 c = search needs
 
 returns : tie.Need-returns
 unfolding lexingAnswer
-returns c =
-    let f = front (c .before .before .before .before .before .before .before) in
-    let a = c .before .before .before .before .before .before .before .before .before .before .before .before .before .before .before .before .before .before .before .before .before .before .before .before .before .args in
-    rw (answered (c .before .before .before .before .before .before .before .before .before .before .before .before .before .before .before .before) (c .before .before .before .before .before .before .before .before .x .given .1), ← zipped-listed (now (a .query)) (f .3) (f .4) (f .5)) (c .before .before .ok-lexemes .ensures)
+returns c = rw (answered (c .before .before .before .before .before .before .before .before .before .before .before .before .before .before .before .before) (c .before .before .before .before .before .before .before .before .x .given .1), ← held (c .before .before .before .before .before .before .before) .1) (c .before .before .ok-lexemes .ensures)
 
 same-length-5 : tie.Need-same-length-5
 same-length-5 c = search needs

@@ -1,9 +1,9 @@
 -- The invariant: the text so far is that of the first i lexemes, of which each has a bounded length, so that there is room for all.
 use Rattle.replay.proofs.Pieces.{past-text, says-text}
 use Rattle.replay.proofs.Lexemes.{says-more, says-all}
-use Rattle.replay.specs.Sizes.{longestLexeme}
 use Rattle.replay.specs.Lines.{Says}
-use Rattle.replay.specs.Queries.{entriesText, zipped}
+use Rattle.listing.specs.declared.Layout.the-variants.{Field}
+use Rattle.listing.specs.Listing.{longestLexeme, lexemesText, zipped}
 use Rattle.scan.specs.Ascii.{ascii}
 use mathlib.Core.Path.{_≡_, refl}
 use mathlib.Core.List.{_++_}
@@ -20,7 +20,7 @@ Inv-loop kinds starts lengths out₀ at₀ i₀ t8 out at i =
     (i ≤ length kinds)
     × (length out ≡ length out₀)
     × (at ≤ 2 + i * longestLexeme)
-    × Says (ascii "ok" ++ entriesText (take i (zipped kinds starts lengths))) at out
+    × Says (ascii "ok" ++ lexemesText Field (take i (zipped kinds starts lengths))) at out
 
 abbrev μ-loop : tie.MeasureT-loop
 μ-loop kinds starts lengths out₀ at₀ i₀ t8 out at i = length kinds - i
@@ -32,7 +32,7 @@ put-text-requires : tie.Need-put-text-requires Inv-loop μ-loop
 put-text-requires c κs = search needs
 
 loop-holds : tie.Need-loop-holds Inv-loop μ-loop
-unfolding entriesText
+unfolding lexemesText
 loop-holds c =
     let t = c .before .before .put-text in
     (omega arith, refl, omega (arith, past-text _ 0 (ascii "ok") (t .ensures) (omega arith)), says-text _ 0 (ascii "ok") (t .ensures) (omega arith) (t .kept .0))

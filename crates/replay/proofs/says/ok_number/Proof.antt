@@ -1,6 +1,6 @@
 -- The number stands behind `ok `, and there is room for it.
+use Rattle.listing.specs.Listing.{numbered}
 use Rattle.replay.proofs.Pieces.{past-text, says-text, says-on}
-use Rattle.replay.specs.Lines.{numbered}
 use Rattle.scan.specs.Ascii.{ascii}
 use native.Mathlib.Omega.{arith}
 use borrow.Author.Needs.{needs}

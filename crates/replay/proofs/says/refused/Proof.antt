@@ -1,67 +1,24 @@
--- Each piece stands behind those before it, and there is room for three numbers.
-use Rattle.replay.proofs.Pieces.{past-text, says-text, says-on}
-use Rattle.replay.specs.Lines.{numbered, refusal}
-use Rattle.scan.specs.Ascii.{ascii}
+-- The line of a refusal is short enough (`refusal-few`).
+use Rattle.replay.proofs.Pieces.{says-text}
+use Rattle.listing.specs.Listing.{refusal}
+use Rattle.listing.proofs.Few.{refusal-few}
 use native.Mathlib.Omega.{arith}
 use borrow.Author.Needs.{needs}
 use Rattle.replay.proofs.says.refused.Statement.{statement}
 use Rattle.replay.proofs.says.refused.Tie as tie
 
-slice-aggregate-put-text : tie.Need-slice-aggregate-put-text
-slice-aggregate-put-text c = search needs
-
-put-text-requires : tie.Need-put-text-requires
-put-text-requires c κs = search needs
-
-slice-aggregate-put-number : tie.Need-slice-aggregate-put-number
-slice-aggregate-put-number c = search needs
-
-put-number-requires : tie.Need-put-number-requires
-put-number-requires c κs =
-    let t = c .before .before .before .before .put-text in omega (arith, past-text _ 0 (ascii "refused ") (t .ensures) (omega arith), t .kept .0)
-
-slice-aggregate-put-number-2 : tie.Need-slice-aggregate-put-number-2
-slice-aggregate-put-number-2 c = search needs
-
-put-number-requires-2 : tie.Need-put-number-requires-2
-put-number-requires-2 c κs =
-    let t = c .before .before .before .before .before .before .before .before .before .put-text in
-    omega (arith, past-text _ 0 (ascii "refused ") (t .ensures) (omega arith), t .kept .0, c .before .before .before .before .put-number .ensures, c .before .before .before .before .put-number .kept .0)
-
-slice-aggregate-put-number-3 : tie.Need-slice-aggregate-put-number-3
-slice-aggregate-put-number-3 c = search needs
-
-put-number-requires-3 : tie.Need-put-number-requires-3
-put-number-requires-3 c κs =
-    let t = c .before .before .before .before .before .before .before .before .before .before .before .before .before .before .put-text in
-    omega (arith, past-text _ 0 (ascii "refused ") (t .ensures) (omega arith), t .kept .0, c .before .before .before .before .before .before .before .before .before .put-number .ensures, c .before .before .before .before .before .before .before .before .before .put-number .kept .0, c .before .before .before .before .put-number2 .ensures, c .before .before .before .before .put-number2 .kept .0)
+put-refusal-requires : tie.Need-put-refusal-requires
+put-refusal-requires c κs = search needs
 
 same-length : tie.Need-same-length
 same-length c = search needs
 
 returns : tie.Need-returns
-unfolding refusal
 returns c =
-    let r = c .before .before .before .before .before .before .before .before .before .before .before .before .before .before .before .before .before .before .before .before .before .before .before .before .args .r in
-    let t = c .before .before .before .before .before .before .before .before .before .before .before .before .before .before .before .before .before .put-text in
-    says-on (numbered (r .place .character .0) (ascii "\n"))
-    (says-on (numbered (r .place .byte .0) (ascii " "))
-    (says-on (numbered (r .number) (ascii " ")) (says-text _ 0 (ascii "refused ") (t .ensures) (omega arith) (t .kept .0))
-    (c .before .before .before .before .before .before .before .before .before .before .before .before .put-number .ensures .0))
-    (c .before .before .before .before .before .before .before .put-number2 .ensures .0))
-    (c .before .before .put-number3 .ensures .0)
+    let r = c .before .before .before .before .before .args .r in
+    let p = c .before .before .put-refusal in
+    let few = refusal-few r (omega arith) (omega arith) (omega arith) in
+    says-text _ 0 (refusal r) (p .ensures) (omega arith) (p .kept .0)
 
 pub refused-spec : {M : Type 1} → statement M
-refused-spec =
-    tie.close
-    (tie.spec
-    slice-aggregate-put-text
-    put-text-requires
-    slice-aggregate-put-number
-    put-number-requires
-    slice-aggregate-put-number-2
-    put-number-requires-2
-    slice-aggregate-put-number-3
-    put-number-requires-3
-    same-length
-    returns)
+refused-spec = tie.close (tie.spec put-refusal-requires same-length returns)
