@@ -1,13 +1,13 @@
 -- No number has more digits than its type gives it, so that a lexeme and a refusal have no more bytes than there is room for.
 use Prim.Native.Nat.{ℕ, _+_, _^_, _≤_, _<_}
 use native.Mathlib.Omega.{arith}
+use mathlib.Core.Path.{_≡_}
 use mathlib.Core.List.{List, [], _++_}
 use lib.ListN.{length, length-append}
 use Rattle.scan.specs.Ascii.{ascii}
 use Rattle.utf8.specs.declared.Refusal.{Refusal}
 use Rattle.record.specs.Decimal.{mostDigits, decimalText}
 use Rattle.record.proofs.Decimals.{digits-below, digits-few}
-use mathlib.Core.Path.{_≡_}
 use Rattle.lex.specs.declared.Lexing.the-variants.{Refused}
 use Rattle.lex.specs.Steps.{entry}
 use Rattle.lex.specs.Lex.{lexed}
@@ -16,7 +16,17 @@ use Rattle.listing.specs.declared.Layout.{Layout}
 use Rattle.listing.specs.declared.Layout.the-variants.{Line, Field}
 use Rattle.listing.specs.Listing.{longestLexeme, longestLine, numbered, numbers, refusal, lexemeText}
 
--- a number of so many digits
+-- how many digits stand before the last, in a number of 16, of 32 and of 64 bits
+abbrev before16 : ℕ
+before16 = 4
+
+abbrev before32 : ℕ
+before32 = 9
+
+abbrev before64 : ℕ
+before64 = 19
+
+-- a number of so many digits before the last
 number-few : (k n : ℕ) (after : List ℕ) → n < 10 ^ (k + 1) → length (numbered n after) ≤ k + 1 + length after
 number-few k n after h = omega (arith, length-append (decimalText n) after, digits-below k n h)
 
@@ -34,15 +44,15 @@ numbers-few i j k a b c between after f g h =
     omega (arith, length-append (first ++ second) third, length-append first second, number-few i a between f, number-few j b between g, number-few k c after h)
 
 pub lexeme-few : (l : Layout) (kind start size : ℕ) → kind < 2 ^ 16 → start < 2 ^ 32 → size < 2 ^ 32 → length (lexemeText l (entry kind start size)) ≤ longestLexeme
-lexeme-few Line kind start size f g h = omega (arith, numbers-few 4 9 9 kind start size (ascii " ") (ascii "\n") (omega arith) (omega arith) (omega arith))
+lexeme-few Line kind start size f g h = omega (arith, numbers-few before16 before32 before32 kind start size (ascii " ") (ascii "\n") (omega arith) (omega arith) (omega arith))
 lexeme-few Field kind start size f g h =
-    omega (arith, length-append (ascii " ") (numbers kind start size (ascii ",") []), numbers-few 4 9 9 kind start size (ascii ",") [] (omega arith) (omega arith) (omega arith))
+    omega (arith, length-append (ascii " ") (numbers kind start size (ascii ",") []), numbers-few before16 before32 before32 kind start size (ascii ",") [] (omega arith) (omega arith) (omega arith))
 
 pub refusal-few : (r : Refusal) → r .number < 2 ^ 64 → r .place .byte .0 < 2 ^ 64 → r .place .character .0 < 2 ^ 64 → length (refusal r) ≤ longestLine
 unfolding refusal
 refusal-few r f g h =
     let three = numbers (r .number) (r .place .byte .0) (r .place .character .0) (ascii " ") (ascii "\n") in
-    omega (arith, length-append (ascii "refused ") three, numbers-few 19 19 19 (r .number) (r .place .byte .0) (r .place .character .0) (ascii " ") (ascii "\n") (omega arith) (omega arith) (omega arith))
+    omega (arith, length-append (ascii "refused ") three, numbers-few before64 before64 before64 (r .number) (r .place .byte .0) (r .place .character .0) (ascii " ") (ascii "\n") (omega arith) (omega arith) (omega arith))
 
 -- a refusal of a query
 pub refused-few : (room : ℕ) (q : List ℕ) (r : Refusal) → lexed room q ≡ Refused r → length (refusal r) ≤ longestLine

@@ -1,9 +1,6 @@
 -- The program never lacks room: a query has no more lexemes than bytes, and its end (lex's `entries-few`).
-use Prim.Native.Nat.{ℕ, _≤_}
 use native.Mathlib.Omega.{arith}
 use mathlib.Core.Path.{_≡_, refl, sym, _∙_}
-use mathlib.Core.List.{List}
-use lib.ListN.{length}
 use Rattle.lex.specs.declared.Lexing.{Lexing}
 use Rattle.lex.specs.declared.Lexing.the-variants.{Count, Refused}
 use Rattle.lex.specs.Lex.{measured, lexed}

@@ -9,7 +9,7 @@ use Rattle.lex.specs.Steps.{entry}
 use mathlib.Core.Path.{_≡_, refl}
 use lib.ListN.{length, take, getD}
 use denote.Ref.{now}
-use Prim.Native.Nat.{_+_, _*_, _-_, _≤_}
+use Prim.Native.Nat.{_*_, _-_, _≤_}
 use native.Mathlib.Omega.{arith}
 use Rattle.listing.proofs.put_lexemes.Statement.{statement}
 use Rattle.listing.proofs.put_lexemes.Tie as tie
