@@ -18,7 +18,7 @@ packedAs n b c = refusedFrom + lowOf n * 2 ^ 32 + lowOf b * 2 ^ 16 + lowOf c
 abbrev pub packedOf : Refusal → ℕ
 packedOf r = packedAs (r .number) (r .place .byte .0) (r .place .character .0)
 
--- the greatest number of a refusal
+-- no number of document 01's is greater
 abbrev pub numberLimit : ℕ
 numberLimit = 127
 
