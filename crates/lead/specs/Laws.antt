@@ -1,5 +1,5 @@
 -- What the crates above may know of leads, as statements; `proofs/Leads` has their proofs.
-use Prim.Native.Nat.{ℕ, _<_}
+use Prim.Native.Nat.{ℕ, _^_, _<_}
 use Prim.Native.Char.{code}
 use mathlib.Core.Bool.{Bool, true, _||_}
 use mathlib.Core.List.{List}
@@ -20,13 +20,13 @@ use Rattle.lead.specs.Lead.{isQuote, leadOf, braceLeadOf, bracketLeadOf}
 abbrev pub isWordStart : ℕ → Bool
 isWordStart c = isAlpha c || eqb c (code ":")
 
--- what a lead says of the byte: which it is, or of which class
+-- what a lead says of the byte: which it is, or of which class; and of a sign's kind, that it has 16 bits
 abbrev pub Begun : Lead → ℕ → Type 0
 Begun lead.Letter c = isWordStart c ≡ true
 Begun lead.White c = isSpace c ≡ true
 Begun lead.Hash c = c ≡ code "#"
 Begun lead.Quote c = isQuote c ≡ true
-Begun (lead.Sign k) c = c < 0x80
+Begun (lead.Sign k) c = (c < 0x80) × (k < 2 ^ 16)
 Begun lead.Digit c = isDigit c ≡ true
 Begun lead.Dot c = c ≡ code "."
 Begun lead.Equals c = c ≡ code "="

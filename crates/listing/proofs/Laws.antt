@@ -1,13 +1,26 @@
--- The program never lacks room: a query has no more lexemes than bytes, and its end (lex's `entries-few`).
+-- The program never lacks room: a query has no more lexemes than bytes, and its end (lex's `entries-few`), the numbers of each have the bits of
+-- their lists (`entries-within`), and so no lexeme and no refusal is longer than its room (`lexeme-few`, `refused-few`).
+use Prim.Native.Nat.{ℕ, _*_, _≤_}
 use native.Mathlib.Omega.{arith}
+use mathlib.Core.List.{List, [], _∷_}
 use mathlib.Core.Path.{_≡_, refl, sym, _∙_}
+use lib.Dec.{ltb}
+use lib.ListN.{length, length-append}
+use borrow.Author.Tests.{ltb-false}
+use Rattle.scan.proofs.Choice.{either}
+use Rattle.utf8.specs.Answers.{tooLong}
 use Rattle.lex.specs.declared.Lexing.{Lexing}
 use Rattle.lex.specs.declared.Lexing.the-variants.{Count, Refused}
-use Rattle.lex.specs.Lex.{measured, lexed}
+use Rattle.lex.specs.Steps.{Entry}
+use Rattle.lex.specs.Lex.{entriesOf, measured, lexed}
 use Rattle.lex.proofs.Few.{entries-few}
+use Rattle.lex.proofs.Entries.{AllWithin, entries-within}
 use Rattle.lex.proofs.Measures.{measured-count, fits}
-use Rattle.listing.specs.Listing.{mostLexemes}
-use Rattle.listing.specs.Laws.{RoomEnough}
+use Rattle.listing.specs.declared.Layout.{Layout}
+use Rattle.listing.specs.declared.Layout.the-variants.{Line}
+use Rattle.listing.specs.Listing.{inputLimit, mostLexemes, longestLexeme, mostText, refusal, lexemeText, lexemesText, printedBy, printed}
+use Rattle.listing.specs.Laws.{RoomEnough, TextFits}
+use Rattle.listing.proofs.Few.{lexeme-few, refusal-few, refused-few}
 
 pub room-enough : RoomEnough
 unfolding lexed
@@ -16,3 +29,23 @@ room-enough q h = go (measured q) refl
     go : (x : Lexing) → measured q ≡ x → lexed mostLexemes q ≡ measured q
     go (Count n) e = fits q n mostLexemes e (omega (arith, measured-count q n e .1, entries-few q)) ∙ sym e
     go (Refused r) e = rw e
+
+-- the lexemes of a query within the limit
+lexemes-few : (l : Layout) (size : ℕ) → size ≤ inputLimit → (es : List Entry) → AllWithin size es → length (lexemesText l es) ≤ length es * longestLexeme
+unfolding lexemesText
+lexemes-few l size h [] a = omega arith
+lexemes-few l size h (e ∷ es) a =
+    omega (arith, length-append (lexemeText l e) (lexemesText l es), lexeme-few l (e .kind) (e .start) (e .length) (a .0 .0) (omega (arith, a .0 .1)) (omega (arith, a .0 .1)), lexemes-few l size h es (a .1))
+
+pub text-fits : TextFits
+unfolding printed printedBy
+text-fits q =
+    either (λ (t : List ℕ). length t ≤ mostText) (ltb inputLimit (length q)) (λ e. long)
+    (λ e. go (ltb-false inputLimit (length q) e) (lexed mostLexemes q) refl)
+  where
+    long : length (refusal tooLong) ≤ mostText
+    long = omega (arith, refusal-few tooLong (omega arith) (omega arith) (omega arith))
+
+    go : length q ≤ inputLimit → (x : Lexing) → lexed mostLexemes q ≡ x → length (printedBy q x) ≤ mostText
+    go h (Count n) e = omega (arith, lexemes-few Line (length q) h (entriesOf q) (entries-within q), entries-few q)
+    go h (Refused r) e = omega (arith, refused-few mostLexemes q r e)

@@ -159,7 +159,7 @@ module _ (d : ℕ) (xs : List ℕ) where
   outside-goes look lead.White h = past-one xs (space-ascii (peekAt xs 0) h)
   outside-goes look lead.Hash h = past-comment xs (omega arith)
   outside-goes look lead.Quote h = string-goes (mode d Nothing) xs (quote-ascii (peekAt xs 0) h)
-  outside-goes look (lead.Sign k) h = past-one xs h
+  outside-goes look (lead.Sign k) h = past-one xs (h .0)
   outside-goes look lead.Digit h = number-goes (mode d Nothing) xs (mode d Nothing) (rw h)
   outside-goes look lead.Dot h = dot-goes (mode d Nothing) xs h
   outside-goes look lead.Equals h = equals-goes (mode d Nothing) xs (omega arith)

@@ -1,5 +1,6 @@
 pub mod Table
 pub mod Goes
+pub mod Fits
 pub mod Seam
 pub mod Given
 pub mod Unique

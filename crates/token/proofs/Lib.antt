@@ -4,6 +4,7 @@ pub mod DisplayRows
 pub mod Search
 pub mod Lookup
 pub mod Distinct
+pub mod Fits
 pub mod Shown
 pub mod Labels
 pub mod Unique

@@ -51,7 +51,7 @@ module _ (e : Entry) (h : length (e .text) ≤ widestWord) where
       go (no k) = rw (ne-eqb (length (e .text)) (length w) k, same-not w (e .text) (λ z. k (sym z)))
 
 -- a test of every entry
-abbrev allEntries : (Entry → Bool) → List Entry → Bool
+abbrev pub allEntries : (Entry → Bool) → List Entry → Bool
 allEntries p [] = true
 allEntries p (e ∷ es) = p e && allEntries p es
 

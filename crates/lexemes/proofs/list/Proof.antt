@@ -18,7 +18,8 @@ returns : tie.Need-returns
 returns c =
     let a = c .before .before .before .before .before .before .args in
     let l = c .before .before .list-lexemes in
-    counts _ _ (omega (arith, l .ensures .0, l .kept .1 .0, past-inside (now (a .out)) 0 (printed (now (a .query))) .1 (omega arith)))
+    let inside = past-inside (now (a .out)) 0 (printed (now (a .query))) .1 (omega arith) in
+    (counts _ _ (omega (arith, l .ensures .0, l .kept .1 .0, inside)), l .ensures)
 
 pub list-spec : {M : Type 1} → statement M
 list-spec = tie.close (tie.spec list-lexemes-requires same-length returns)
