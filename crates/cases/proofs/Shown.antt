@@ -3,10 +3,10 @@ use mathlib.Core.List.{List, [], _∷_, _++_}
 use mathlib.Core.Path.{_≡_, refl}
 use lib.Count.{trailingZeros}
 use lib.Ieee.{round, size, span, climb, units as floatUnits, odd, lt, le}
-use Rattle.scan.specs.Ascii.{ascii}
+use Rattle.byte.specs.Ascii.{ascii}
 use Rattle.scan.specs.Run.{runLength}
 use Rattle.scan.specs.Text.{has, sameText}
-use Rattle.scan.specs.Byte.{isWithin, isHexDigit, digitOf, isDigitIn, lowered, isIn, isAlpha}
+use Rattle.byte.specs.Byte.{isWithin, isHexDigit, digitOf, isDigitIn, lowered, isIn, isAlpha}
 use Rattle.utf8.specs.Table.{fits, sizeIn, charLength}
 use Rattle.utf8.specs.Text.{charsPast, sizeOf}
 use Rattle.utf8.specs.Answers.{validityOf, admitted, atStart}
@@ -23,7 +23,7 @@ use Rattle.duration.specs.Duration.{durationRead, timingOf}
 use Rattle.record.specs.Digit.{signOf}
 use Rattle.record.specs.Decimal.{digitsOf as digitsIn, decimalText}
 use Rattle.display.specs.Display.{counted as shownAs, partOf, restOf, textOf}
-use Rattle.scan.specs.Byte.{isSpace, isAlphaNumeric, isWord, isLine}
+use Rattle.byte.specs.Byte.{isSpace, isAlphaNumeric, isWord, isLine}
 use Rattle.utf8.specs.Text.{begunIn, charNumber}
 use Rattle.token.specs.Words.{words, kindIn, keywordOf}
 use Rattle.numeral.specs.Numeral.{isHex, fractionEnd, exponentEnd, numberEnd, isUnit, stopOf, turnOf, durationFrom, numeralOf}

@@ -10,12 +10,12 @@ use mathlib.Core.Path.{_≡_, refl, sym, _∙_}
 use lib.Dec.{eqb}
 use lib.ListN.{length, drop}
 use borrow.Author.Tests.{lt-ltb, le-ltb, eqb-true}
-use Rattle.scan.specs.Ascii.{ascii}
-use Rattle.scan.specs.declared.Class.the-variants.{Digit}
-use Rattle.scan.specs.Byte.{peekAt, isIn, lowered}
+use Rattle.byte.specs.Ascii.{ascii}
+use Rattle.byte.specs.declared.Class.the-variants.{Digit}
+use Rattle.byte.specs.Byte.{peekAt, isIn, lowered}
 use Rattle.scan.specs.Run.{runEnd}
-use Rattle.scan.proofs.Choice.{either, and-right}
-use Rattle.scan.proofs.Classes.{within-bounds, lowered-above}
+use Rattle.byte.proofs.Choice.{either, and-right}
+use Rattle.byte.proofs.Classes.{within-bounds, lowered-above}
 use Rattle.scan.proofs.Runs.{run-passes}
 use Rattle.utf8.specs.Laws.{isAscii}
 use Rattle.utf8.proofs.Ascii.{by-bytes, lowered-other}

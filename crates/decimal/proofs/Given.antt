@@ -12,7 +12,7 @@ use lib.Ieee.{Float, nan, inf, fin, binary64, round, size, units, odd}
 use lib.Ieee.Scale.{round-same}
 use lib.ListN.{length}
 use borrow.Author.Tests.{lt-ltb, eq-eqb, ne-eqb}
-use Rattle.scan.proofs.Choice.{exactly}
+use Rattle.byte.proofs.Choice.{exactly}
 use Rattle.scan.proofs.Tests.{Tests, affirmed, decided, itself}
 use Rattle.decimal.specs.declared.Number.{Number}
 use Rattle.decimal.specs.declared.Decimal.{Decimal}

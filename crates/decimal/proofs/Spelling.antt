@@ -9,10 +9,10 @@ use mathlib.Core.List.{List, [], _∷_, _++_, map}
 use mathlib.Core.Logic.{_↔_, _⊎_, inl, inr}
 use mathlib.Core.Path.{_≡_, ap, _∙_}
 use lib.ListN.{length, drop, length-drop}
-use Rattle.scan.specs.Ascii.{ascii}
-use Rattle.scan.specs.declared.Class.the-variants.{Digit}
-use Rattle.scan.specs.Byte.{peekAt, isIn, lowered}
-use Rattle.scan.proofs.Classes.{below-not, end-in-none}
+use Rattle.byte.specs.Ascii.{ascii}
+use Rattle.byte.specs.declared.Class.the-variants.{Digit}
+use Rattle.byte.specs.Byte.{peekAt, isIn, lowered}
+use Rattle.byte.proofs.Classes.{below-not, end-in-none}
 use Rattle.scan.proofs.Runs.{run-stopped}
 use Rattle.scan.proofs.Same.{same-is-equal}
 use Rattle.scan.proofs.Tests.{Tests, affirmed, tests-or, tests-and, itself, tests-eq, tests-lt}

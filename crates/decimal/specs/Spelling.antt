@@ -7,9 +7,9 @@ use mathlib.Core.List.{List, [], _∷_, _++_, map}
 use mathlib.Core.Logic.{_↔_, _⊎_}
 use mathlib.Core.Path.{_≡_}
 use lib.ListN.{length}
-use Rattle.scan.specs.Ascii.{ascii}
-use Rattle.scan.specs.declared.Class.the-variants.{Digit}
-use Rattle.scan.specs.Byte.{lowered, isIn}
+use Rattle.byte.specs.Ascii.{ascii}
+use Rattle.byte.specs.declared.Class.the-variants.{Digit}
+use Rattle.byte.specs.Byte.{lowered, isIn}
 use Rattle.sign.specs.Sign.{isMinus}
 use Rattle.decimal.specs.Grammar.{isNumeral, isInfinite, isNan, fractionOf, digitsOf, exponentOf, isNegativeExponent}
 

@@ -8,7 +8,7 @@ use lib.IntN.{pos}
 use lib.Ieee as Ieee
 use lib.Ieee.{Float, nan, inf, fin, binary64, round, toBits}
 use lib.ListN.{length, take}
-use Rattle.scan.specs.Byte.{digitOf}
+use Rattle.byte.specs.Byte.{digitOf}
 use Rattle.utf8.specs.Text.{codesOf, isWellFormed}
 use Rattle.decimal.specs.declared.Notation.{Notation}
 use Rattle.decimal.specs.declared.Notation.the-variants as notation

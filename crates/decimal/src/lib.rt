@@ -1,7 +1,7 @@
 // Decimal texts, by the grammar of Rust's f64, and their values where these are exact; the number that every reader of numbers answers with.
 mod tens;
 
-use scan::Class;
+use byte::Class;
 use tens::POWERS;
 ghost use mathlib.Core.Bool.{false, _&&_, _||_};
 ghost use mathlib.Core.Path.{_≡_};
@@ -10,8 +10,8 @@ ghost use mathlib.Core.List.{map};
 ghost use lib.IntN.{pos};
 ghost use lib.Ieee.{fin, inf, nan};
 ghost use lib.ListN.{length};
-ghost use Rattle.scan.specs.Ascii.{ascii};
-ghost use Rattle.scan.specs.Byte.{lowered};
+ghost use Rattle.byte.specs.Ascii.{ascii};
+ghost use Rattle.byte.specs.Byte.{lowered};
 ghost use Rattle.scan.specs.Text.{sameText};
 ghost use Rattle.sign.specs.Sign.{isMinus};
 ghost use Rattle.decimal.specs.Grammar.{pastPoint, isExponent, pastExponent, between, partsOf, hasDigits, exponentHasDigits, isNumeral, digitsOf, exponentOf};
@@ -77,7 +77,7 @@ fn past_point(s: &[u8], at: usize) -> usize
     requires { ⌜ at ≤ length (now s) ⌝ }
     ensures { λ r. ⌜ r ≡ pastPoint (now (s .entry)) at ⌝ }
 {
-    if scan::peek(s, at) == b'.' as usize {
+    if byte::peek(s, at) == b'.' as usize {
         at + 1
     } else {
         at
@@ -88,7 +88,7 @@ fn past_point(s: &[u8], at: usize) -> usize
 fn is_exponent(s: &[u8], at: usize) -> bool
     ensures { λ r. ⌜ r ≡ isExponent (now (s .entry)) at ⌝ }
 {
-    scan::lowered(scan::peek(s, at)) == b'e' as usize
+    byte::lowered(byte::peek(s, at)) == b'e' as usize
 }
 
 // The place past an `e` and its sign, where it stands.
@@ -152,7 +152,7 @@ fn is_named(word: &[u8], name: &[u8]) -> bool
     }
     let mut i = 0;
     while i < word.len() {
-        if scan::lowered(word[i] as usize) != name[i] as usize {
+        if byte::lowered(word[i] as usize) != name[i] as usize {
             return false;
         }
         i += 1;
@@ -193,7 +193,7 @@ pub fn digits_value(start: u64, notation: Notation, digits: &[u8]) -> u64
         if last < value {
             return MOST_TOLD;
         }
-        value = value * radix + scan::digit_of(digits[i] as usize) as u64;
+        value = value * radix + byte::digit_of(digits[i] as usize) as u64;
         i += 1;
     }
     capped(value)
@@ -214,7 +214,7 @@ fn zeros_before(s: &[u8], from: usize, to: usize) -> usize
 {
     let mut at = to;
     while from < at {
-        if scan::digit_of(s[at - 1] as usize) != 0 {
+        if byte::digit_of(s[at - 1] as usize) != 0 {
             return to - at;
         }
         at -= 1;

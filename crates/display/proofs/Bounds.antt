@@ -8,7 +8,7 @@ use mathlib.Core.Path.{_≡_, refl}
 use lib.Dec.{eqb}
 use lib.ListN.{length, drop, length-append}
 use borrow.Author.Tests.{eqb-true}
-use Rattle.scan.proofs.Choice.{either}
+use Rattle.byte.proofs.Choice.{either}
 use Rattle.record.specs.Decimal.{decimalText}
 use Rattle.record.proofs.Decimals.{digits-below}
 use Rattle.span.specs.Unit.{Unit, unit, milli, second, minute, hour, day, week, year}

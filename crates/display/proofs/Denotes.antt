@@ -10,12 +10,12 @@ use mathlib.Core.Path.{_≡_, refl, sym, ap, ap₂, subst, _∙_}
 use lib.Dec.{eqb}
 use lib.ListN.{length}
 use borrow.Author.Tests.{eqb-true, eqb-false}
-use Rattle.scan.specs.Ascii.{ascii}
-use Rattle.scan.specs.declared.Class.the-variants.{Digit, Alpha}
-use Rattle.scan.specs.Byte.{isWithin, isAlpha, isIn, digitOf}
+use Rattle.byte.specs.Ascii.{ascii}
+use Rattle.byte.specs.declared.Class.the-variants.{Digit, Alpha}
+use Rattle.byte.specs.Byte.{isWithin, isAlpha, isIn, digitOf}
 use Rattle.scan.specs.Run.{runLength}
 use Rattle.scan.specs.Text.{sameText}
-use Rattle.scan.proofs.Choice.{and-left, and-right}
+use Rattle.byte.proofs.Choice.{and-left, and-right}
 use Rattle.scan.proofs.Same.{same-is-equal}
 use Rattle.span.specs.Unit.{Unit, units, second, nanosAMilli}
 use Rattle.span.specs.Spans.{isZero}

@@ -7,7 +7,7 @@ use mathlib.Core.Bool.{cond}
 use mathlib.Core.Path.{_≡_, refl}
 use lib.Dec.{eqb}
 use lib.ListN.{length}
-use Rattle.scan.proofs.Choice.{exactly}
+use Rattle.byte.proofs.Choice.{exactly}
 use Rattle.utf8.specs.Answers.{atStart, noRoom}
 use Rattle.span.specs.declared.Duration.{Duration}
 use Rattle.display.specs.declared.Displaying.{Displaying}

@@ -9,11 +9,11 @@ use mathlib.Core.Path.{_≡_, refl, sym, ap, ap₂, _∙_}
 use lib.ListN.{length, take, drop}
 use lib.Seq.{take-append-seam, drop-append-seam, drop-drop}
 use borrow.Author.Tests.{lt-ltb, ne-eqb}
-use Rattle.scan.specs.declared.Class.the-variants.{Digit, Alpha}
-use Rattle.scan.specs.Byte.{isAlpha, isIn}
+use Rattle.byte.specs.declared.Class.the-variants.{Digit, Alpha}
+use Rattle.byte.specs.Byte.{isAlpha, isIn}
 use Rattle.scan.specs.Run.{runLength}
 use Rattle.scan.specs.Text.{sameText}
-use Rattle.scan.proofs.Classes.{within-bounds, below-not}
+use Rattle.byte.proofs.Classes.{within-bounds, below-not}
 use Rattle.scan.proofs.Runs.{run-past}
 use Rattle.decimal.specs.Grammar.{between}
 use Rattle.decimal.specs.Value.{valueOf}

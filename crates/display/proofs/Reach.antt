@@ -4,7 +4,7 @@ use native.Mathlib.Omega.{arith}
 use lib.Dec.{leb}
 use lib.ListN.{length}
 use borrow.Author.Tests.{leb-true}
-use Rattle.scan.proofs.Choice.{either}
+use Rattle.byte.proofs.Choice.{either}
 use Rattle.utf8.proofs.Bounds as within
 use Rattle.span.specs.declared.Duration.{Duration}
 use Rattle.span.specs.Unit.{nanosASecond}

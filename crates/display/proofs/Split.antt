@@ -5,7 +5,7 @@ use native.Mathlib.Omega.{arith}
 use mathlib.Core.Bool.{Bool, true, false}
 use mathlib.Core.List.{List, []}
 use mathlib.Core.Path.{_≡_, ap, sym, _∙_}
-use Rattle.scan.specs.Ascii.{ascii}
+use Rattle.byte.specs.Ascii.{ascii}
 use Rattle.span.specs.Unit.{unit, milli, second}
 use Rattle.display.specs.Display.{Row, row, isLeftOut, counted, partOf, restOf}
 use Rattle.display.specs.Steps.{rowBy}

@@ -8,7 +8,7 @@ use mathlib.Core.Path.{_≡_, sym, ap, ap₂, subst, _∙_}
 use lib.ListN.{length, take, length-append}
 use lib.Seq.{length-take-le}
 use borrow.Author.Tests.{eq-eqb, ne-eqb}
-use Rattle.scan.specs.Ascii.{ascii}
+use Rattle.byte.specs.Ascii.{ascii}
 use Rattle.record.specs.Decimal.{decimalText}
 use Rattle.record.specs.Put.{putAt, pastAt}
 use Rattle.record.proofs.Writes.{put-stands}

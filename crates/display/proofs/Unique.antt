@@ -1,7 +1,7 @@
 -- Any two answers that the promise of a public function allows are equal, and so are the contents that they leave in what was lent.
 use mathlib.Core.Path.{_≡_, sym, _∙_}
 use denote.Ref.{now}
-use Rattle.scan.proofs.One.{OneAnswer, OneContent}
+use Rattle.byte.proofs.One.{OneAnswer, OneContent}
 use Rattle.display.proofs.display_duration.Kinds as display-duration
 use Rattle.display.proofs.display_duration.Reads as display-duration-reads
 

@@ -12,9 +12,9 @@ use lib.IntN.{pos}
 use lib.Ieee.{nan, inf, fin, lt, le}
 use lib.ListN.{length}
 use borrow.Author.Tests.{eq-eqb, ne-eqb}
-use Rattle.scan.specs.Ascii.{ascii}
+use Rattle.byte.specs.Ascii.{ascii}
 use Rattle.scan.specs.Text.{sameText}
-use Rattle.scan.proofs.Choice.{exactly}
+use Rattle.byte.proofs.Choice.{exactly}
 use Rattle.scan.proofs.Same.{same-is-equal}
 use Rattle.scan.proofs.Tests.{Tests, affirmed, decided, itself, tests-and}
 use Rattle.utf8.specs.Text.{prefixEnd, WellFormed}

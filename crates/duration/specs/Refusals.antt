@@ -8,7 +8,7 @@ use mathlib.Core.Path.{_≡_}
 use lib.IntN.{pos}
 use lib.Ieee.{Float, fin, lt, le}
 use lib.ListN.{length}
-use Rattle.scan.specs.Ascii.{ascii}
+use Rattle.byte.specs.Ascii.{ascii}
 use Rattle.utf8.specs.Text.{prefixEnd}
 use Rattle.utf8.specs.Answers.{placeAt, tooLong, notUtf8}
 use Rattle.utf8.specs.Refusals.{TooLong, NotUtf8, Taken}

@@ -3,7 +3,7 @@ use Prim.Native.Nat.{ℕ, _+_, _≤_}
 use lib.Dec.{leb}
 use lib.ListN.{length}
 use borrow.Author.Tests.{le-leb}
-use Rattle.scan.proofs.Choice.{either}
+use Rattle.byte.proofs.Choice.{either}
 use Rattle.utf8.specs.Code.{isScalar, encoded}
 use Rattle.utf8.proofs.Bounds.{encoded-bound}
 use Rattle.encode.specs.declared.Encoding.{Encoding}

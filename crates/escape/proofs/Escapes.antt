@@ -12,8 +12,8 @@ use lib.Dec.{eqb, leb}
 use lib.ListN.{length, getD, drop}
 use lib.Seq.{take-length, drop-cons, sets, sets-eq}
 use borrow.Author.Tests.{eq-eqb, ne-eqb, le-leb, lt-leb, lt-ltb}
-use Rattle.scan.specs.Byte.{peekAt, backslash}
-use Rattle.scan.proofs.Choice.{either, told}
+use Rattle.byte.specs.Byte.{peekAt, backslash}
+use Rattle.byte.proofs.Choice.{either, told}
 use Rattle.utf8.specs.Table.{charLength}
 use Rattle.utf8.specs.Code.{codeOf, encoded}
 use Rattle.utf8.specs.Text.{WellFormed}

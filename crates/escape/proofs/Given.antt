@@ -9,7 +9,7 @@ use mathlib.Core.Path.{_≡_, refl}
 use lib.Dec.{eqb}
 use lib.ListN.{length}
 use borrow.Author.Tests.{le-leb, lt-leb}
-use Rattle.scan.proofs.Choice.{exactly}
+use Rattle.byte.proofs.Choice.{exactly}
 use Rattle.utf8.specs.Text.{prefixEnd, WellFormed}
 use Rattle.utf8.specs.Answers.{textLimit, placeAt, tooLong, notUtf8, noRoom}
 use Rattle.utf8.specs.Refusals.{TooLong, NotUtf8, Taken}

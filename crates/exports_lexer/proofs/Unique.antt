@@ -2,7 +2,7 @@
 -- the definition.
 use mathlib.Core.Path.{sym, _∙_}
 use denote.Ref.{now}
-use Rattle.scan.proofs.One.{OneAnswer, OneContent}
+use Rattle.byte.proofs.One.{OneAnswer, OneContent}
 use Rattle.exports_lexer.proofs.simmerpath_lexer.Kinds as lexer
 use Rattle.exports_lexer.proofs.simmerpath_lexer.Reads as lexer-reads
 

@@ -4,7 +4,7 @@ use native.Mathlib.Omega.{arith}
 use mathlib.Core.Path.{_≡_, refl}
 use lib.Dec.{leb}
 use lib.ListN.{length}
-use Rattle.scan.proofs.Choice.{either}
+use Rattle.byte.proofs.Choice.{either}
 use Rattle.token.specs.declared.Display.{Display}
 use Rattle.token.specs.Display.{displayOf, fitted}
 use Rattle.token.proofs.Displays.{short}

@@ -2,7 +2,7 @@
 -- the definition.
 use mathlib.Core.Path.{sym, _∙_}
 use denote.Ref.{now}
-use Rattle.scan.proofs.One.{OneAnswer, OneContent}
+use Rattle.byte.proofs.One.{OneAnswer, OneContent}
 use Rattle.exports_token.proofs.simmerpath_get_keyword_token.Kinds as get-keyword-token
 use Rattle.exports_token.proofs.simmerpath_get_keyword_token.Reads as get-keyword-token-reads
 use Rattle.exports_token.proofs.simmerpath_token_display.Kinds as token-display

@@ -2,7 +2,7 @@
 -- the definition.
 use mathlib.Core.Path.{sym, _∙_}
 use denote.Ref.{now}
-use Rattle.scan.proofs.One.{OneAnswer, OneContent}
+use Rattle.byte.proofs.One.{OneAnswer, OneContent}
 use Rattle.exports_utf8.proofs.simmerpath_utf8_validate.Kinds as validate
 use Rattle.exports_utf8.proofs.simmerpath_utf8_validate.Reads as validate-reads
 use Rattle.exports_utf8.proofs.simmerpath_utf8_char_number.Kinds as char-number

@@ -12,8 +12,8 @@ use mathlib.Core.List.{List, [], _∷_}
 use mathlib.Core.Path.{_≡_, refl, sym, ap, _∙_}
 use lib.ListN.{length, take, drop, length-drop}
 use lib.Seq.{drop-length, drop-append-seam, drop-append-le, drop-append-add, drop-drop, getD-drop}
-use Rattle.scan.specs.declared.Class.the-variants as class
-use Rattle.scan.specs.Byte.{end, peekAt, isIn}
+use Rattle.byte.specs.declared.Class.the-variants as class
+use Rattle.byte.specs.Byte.{end, peekAt, isIn}
 use Rattle.scan.specs.Run.{runLength, runEnd}
 use Rattle.token.specs.Words.{keywordOf}
 use Rattle.token.specs.declared.Keyword.the-variants.{Kind}

@@ -7,10 +7,10 @@ use mathlib.Core.Bool.{Bool, true, false, cond, _||_, not}
 use mathlib.Core.List.{List, [], _∷_}
 use mathlib.Core.Path.{_≡_, refl}
 use lib.ListN.{length}
-use Rattle.scan.specs.declared.Class.the-variants as class
-use Rattle.scan.specs.Byte.{isWithin, isSpace, isAlpha, isDigit, isIn}
+use Rattle.byte.specs.declared.Class.the-variants as class
+use Rattle.byte.specs.Byte.{isWithin, isSpace, isAlpha, isDigit, isIn}
 use Rattle.scan.specs.Run.{runLength}
-use Rattle.scan.proofs.Below.{below}
+use Rattle.byte.proofs.Below.{below}
 use Rattle.scan.proofs.Edges.{space-ascii}
 use Rattle.token.specs.Words.{keywordOf}
 use Rattle.lead.specs.Lead.{leadOf, braceLeadOf, bracketLeadOf}

@@ -8,9 +8,9 @@ use mathlib.Core.Logic.{_⊎_, inl, inr}
 use mathlib.Core.Path.{_≡_, refl, ap, _∙_}
 use lib.Dec.{eqb}
 use borrow.Author.Tests.{eqb-true, ne-eqb}
-use Rattle.scan.specs.Byte.{end, peekAt, isWithin, isSpace, isAlpha, isDigit}
-use Rattle.scan.proofs.Choice.{either}
-use Rattle.scan.proofs.Classes.{within-bounds, below-not}
+use Rattle.byte.specs.Byte.{end, peekAt, isWithin, isSpace, isAlpha, isDigit}
+use Rattle.byte.proofs.Choice.{either}
+use Rattle.byte.proofs.Classes.{within-bounds, below-not}
 use Rattle.scan.proofs.Edges.{ascii-inside, one-ascii, or-ascii, alpha-ascii}
 use Rattle.scan.proofs.Tests.{tests-or, tests-eq}
 use Rattle.lead.specs.Lead.{isQuote, symbolOf, leadOf, braceSymbolOf, braceLeadOf, bracketSymbolOf, bracketLeadOf}

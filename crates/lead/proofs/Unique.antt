@@ -1,6 +1,6 @@
 -- Any two answers that the promise of a public function allows are equal: both equal the definition.
 use mathlib.Core.Path.{sym, _∙_}
-use Rattle.scan.proofs.One.{OneAnswer}
+use Rattle.byte.proofs.One.{OneAnswer}
 use Rattle.lead.proofs.lead_of.Kinds as lead-of
 use Rattle.lead.proofs.lead_of.Reads as lead-of-reads
 use Rattle.lead.proofs.brace_lead_of.Kinds as brace-lead-of

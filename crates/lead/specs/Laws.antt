@@ -6,7 +6,7 @@ use mathlib.Core.List.{List}
 use mathlib.Core.Path.{_≡_}
 use lib.Dec.{eqb}
 use lib.ListN.{length}
-use Rattle.scan.specs.Byte.{end, peekAt, isSpace, isAlpha, isDigit}
+use Rattle.byte.specs.Byte.{end, peekAt, isSpace, isAlpha, isDigit}
 use Rattle.scan.specs.Edge.{AsciiAlone}
 use Rattle.lead.specs.declared.Lead.{Lead}
 use Rattle.lead.specs.declared.Lead.the-variants as lead

@@ -3,7 +3,7 @@ use Prim.Native.Nat.{ℕ}
 use Prim.Native.Char.{code}
 use mathlib.Core.Bool.{Bool, cond, _||_}
 use lib.Dec.{eqb}
-use Rattle.scan.specs.Byte.{end, isSpace, isAlpha, isDigit}
+use Rattle.byte.specs.Byte.{end, isSpace, isAlpha, isDigit}
 use Rattle.lead.specs.declared.Lead.{Lead}
 use Rattle.lead.specs.declared.Lead.the-variants as lead
 use Rattle.lead.specs.declared.BraceLead.{BraceLead}

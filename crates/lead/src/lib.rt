@@ -128,7 +128,7 @@ fn symbol(c: usize) -> Lead
         DOUBLE_QUOTE | QUOTE | BACKQUOTE => Lead::Quote,
         COLON => Lead::Letter,
         HASH => Lead::Hash,
-        scan::END => Lead::End,
+        byte::END => Lead::End,
         _ => Lead::Other,
     }
 }
@@ -137,13 +137,13 @@ fn symbol(c: usize) -> Lead
 pub fn lead_of(c: usize) -> Lead
     ensures { λ r. ⌜ r ≡ leadOf c ⌝ }
 {
-    if scan::is_alpha(c) {
+    if byte::is_alpha(c) {
         return Lead::Letter;
     }
-    if scan::is_space(c) {
+    if byte::is_space(c) {
         return Lead::White;
     }
-    if scan::is_digit(c) {
+    if byte::is_digit(c) {
         return Lead::Digit;
     }
     symbol(c)
@@ -161,7 +161,7 @@ fn brace_symbol(c: usize) -> BraceLead
         RIGHT_BRACE => BraceLead::RightBrace,
         LEFT_BRACE => BraceLead::LeftBrace,
         HASH => BraceLead::Hash,
-        scan::END => BraceLead::End,
+        byte::END => BraceLead::End,
         _ => BraceLead::Other,
     }
 }
@@ -170,10 +170,10 @@ fn brace_symbol(c: usize) -> BraceLead
 pub fn brace_lead_of(c: usize) -> BraceLead
     ensures { λ r. ⌜ r ≡ braceLeadOf c ⌝ }
 {
-    if scan::is_alpha(c) {
+    if byte::is_alpha(c) {
         return BraceLead::Letter;
     }
-    if scan::is_space(c) {
+    if byte::is_space(c) {
         return BraceLead::White;
     }
     brace_symbol(c)
@@ -187,7 +187,7 @@ fn bracket_symbol(c: usize) -> BracketLead
         RIGHT_BRACKET => BracketLead::RightBracket,
         COLON => BracketLead::Colon,
         LEFT_BRACKET => BracketLead::LeftBracket,
-        scan::END => BracketLead::End,
+        byte::END => BracketLead::End,
         _ => BracketLead::Other,
     }
 }
@@ -196,10 +196,10 @@ fn bracket_symbol(c: usize) -> BracketLead
 pub fn bracket_lead_of(c: usize) -> BracketLead
     ensures { λ r. ⌜ r ≡ bracketLeadOf c ⌝ }
 {
-    if scan::is_digit(c) {
+    if byte::is_digit(c) {
         return BracketLead::Digit;
     }
-    if scan::is_space(c) {
+    if byte::is_space(c) {
         return BracketLead::White;
     }
     bracket_symbol(c)

@@ -2,7 +2,7 @@
 use mathlib.Core.Path.{refl}
 use Rattle.scan.specs.Run.{runLength}
 use Rattle.scan.specs.Text.{has, sameText}
-use Rattle.scan.specs.Byte.{isWithin, lowered, isIn, isAlpha, isSpace, isAlphaNumeric, isWord, isLine}
+use Rattle.byte.specs.Byte.{isWithin, lowered, isIn, isAlpha, isSpace, isAlphaNumeric, isWord, isLine}
 use Rattle.utf8.specs.Table.{fits, sizeIn, charLength}
 use Rattle.utf8.specs.Text.{charsPast, sizeOf, begunIn, charNumber}
 use Rattle.utf8.specs.Answers.{validityOf, admitted}

@@ -7,7 +7,7 @@ use mathlib.Core.Path.{_≡_, refl, sym, _∙_}
 use lib.Dec.{ltb}
 use lib.ListN.{length, length-append}
 use borrow.Author.Tests.{ltb-false}
-use Rattle.scan.proofs.Choice.{either}
+use Rattle.byte.proofs.Choice.{either}
 use Rattle.utf8.specs.Answers.{tooLong}
 use Rattle.lex.specs.declared.Lexing.{Lexing}
 use Rattle.lex.specs.declared.Lexing.the-variants.{Count, Refused}

@@ -2,7 +2,7 @@
 -- list: each equals the same definition of what was lent.
 use mathlib.Core.Path.{sym, _∙_}
 use denote.Ref.{now}
-use Rattle.scan.proofs.One.{OneAnswer, OneContent}
+use Rattle.byte.proofs.One.{OneAnswer, OneContent}
 use Rattle.listing.proofs.put_refusal.Kinds as put-refusal
 use Rattle.listing.proofs.put_refusal.Reads as put-refusal-reads
 use Rattle.listing.proofs.put_lexeme.Kinds as put-lexeme

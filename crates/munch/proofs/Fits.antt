@@ -7,10 +7,10 @@ use mathlib.Core.Bool.{Bool}
 use mathlib.Core.List.{List}
 use lib.Dec.{eqb}
 use lib.ListN.{take, drop}
-use Rattle.scan.specs.declared.Class.the-variants.{AlphaNumeric, Word}
-use Rattle.scan.specs.Byte.{end, peekAt, isDigit, isIn}
+use Rattle.byte.specs.declared.Class.the-variants.{AlphaNumeric, Word}
+use Rattle.byte.specs.Byte.{end, peekAt, isDigit, isIn}
 use Rattle.scan.specs.Run.{runEnd}
-use Rattle.scan.proofs.Choice.{either}
+use Rattle.byte.proofs.Choice.{either}
 use Rattle.token.specs.Words.{keywordOf}
 use Rattle.token.specs.Kinds.{lte, lss, gte, gtr}
 use Rattle.token.proofs.Fits.{keyword-fits}

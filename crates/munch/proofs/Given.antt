@@ -10,8 +10,8 @@ use mathlib.Core.Path.{_≡_, refl, ap, subst, _∙_}
 use lib.Dec.{eqb}
 use lib.ListN.{drop}
 use borrow.Author.Tests.{eqb-true, eqb-false, ne-eqb}
-use Rattle.scan.specs.Byte.{end, peekAt, isWithin, isSpace, isAlpha, isDigit}
-use Rattle.scan.proofs.Choice.{either}
+use Rattle.byte.specs.Byte.{end, peekAt, isWithin, isSpace, isAlpha, isDigit}
+use Rattle.byte.proofs.Choice.{either}
 use Rattle.token.specs.declared.Keyword.{Keyword}
 use Rattle.token.specs.declared.Keyword.the-variants as keyword
 use Rattle.numeral.specs.declared.Numeral.{Numeral}

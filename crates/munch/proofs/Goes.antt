@@ -11,12 +11,12 @@ use mathlib.Core.Path.{_≡_, ap}
 use lib.Dec.{eqb}
 use lib.ListN.{drop, length-drop}
 use borrow.Author.Tests.{eqb-true}
-use Rattle.scan.specs.declared.Class.{Class}
-use Rattle.scan.specs.declared.Class.the-variants.{AlphaNumeric, Word}
-use Rattle.scan.specs.Byte.{end, peekAt, isWithin, isDigit, isIn}
+use Rattle.byte.specs.declared.Class.{Class}
+use Rattle.byte.specs.declared.Class.the-variants.{AlphaNumeric, Word}
+use Rattle.byte.specs.Byte.{end, peekAt, isWithin, isDigit, isIn}
 use Rattle.scan.specs.Edge.{Bytes, Edge, first, last, behind, AsciiAlone}
 use Rattle.scan.specs.Run.{runEnd}
-use Rattle.scan.proofs.Choice.{either}
+use Rattle.byte.proofs.Choice.{either}
 use Rattle.scan.proofs.Edges.{ascii-inside, edge-within, edge-past, edge-run, one-ascii, alpha-ascii, space-ascii, alpha-numeric-ascii, word-ascii}
 use Rattle.token.specs.declared.Keyword.{Keyword}
 use Rattle.token.specs.Kinds.{eqlc, neq, lte, lss, gte, gtr, eqlRegex, neqRegex}

@@ -13,11 +13,11 @@ use mathlib.Core.Path.{_≡_, refl, sym}
 use lib.Dec.{eqb}
 use lib.ListN.{length, take, List·getD-append, List·getD-eq-default}
 use lib.Seq.{take-append-le}
-use Rattle.scan.specs.declared.Class.{Class}
-use Rattle.scan.specs.declared.Class.the-variants as class
-use Rattle.scan.specs.Byte.{end, peekAt, isWithin, isAlpha, isDigit, isAlphaNumeric, isWord, isIn}
+use Rattle.byte.specs.declared.Class.{Class}
+use Rattle.byte.specs.declared.Class.the-variants as class
+use Rattle.byte.specs.Byte.{end, peekAt, isWithin, isAlpha, isDigit, isAlphaNumeric, isWord, isIn}
 use Rattle.scan.specs.Run.{runEnd}
-use Rattle.scan.proofs.Choice.{either}
+use Rattle.byte.proofs.Choice.{either}
 use Rattle.scan.proofs.Runs.{run-within, run-append, run-inside, peek-append}
 use Rattle.token.specs.declared.Keyword.{Keyword}
 use Rattle.token.specs.declared.Keyword.the-variants as keyword

@@ -3,8 +3,8 @@ use Prim.Native.Nat.{ℕ}
 use mathlib.Core.List.{List}
 use mathlib.Core.Path.{_≡_, refl}
 use lib.ListN.{take}
-use Rattle.scan.specs.declared.Class.the-variants as class
-use Rattle.scan.specs.Byte.{peekAt, isIn}
+use Rattle.byte.specs.declared.Class.the-variants as class
+use Rattle.byte.specs.Byte.{peekAt, isIn}
 use Rattle.scan.specs.Run.{runEnd}
 use Rattle.token.specs.Words.{keywordOf}
 use Rattle.token.specs.WordRows.{wordTable, keywordIn}

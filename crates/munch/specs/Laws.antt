@@ -6,8 +6,8 @@ use mathlib.Core.Bool.{true}
 use mathlib.Core.List.{List, _∷_, _++_}
 use mathlib.Core.Path.{_≡_}
 use lib.ListN.{length, take}
-use Rattle.scan.specs.declared.Class.the-variants as class
-use Rattle.scan.specs.Byte.{end, peekAt, isIn}
+use Rattle.byte.specs.declared.Class.the-variants as class
+use Rattle.byte.specs.Byte.{end, peekAt, isIn}
 use Rattle.scan.specs.Edge.{Edge, Bytes}
 use Rattle.scan.specs.Run.{runEnd}
 use Rattle.token.specs.declared.Keyword.{Keyword}

@@ -7,8 +7,8 @@ use mathlib.Core.Bool.{Bool, true, false, cond}
 use mathlib.Core.List.{List}
 use lib.Dec.{eqb, ltb}
 use lib.ListN.{take, drop}
-use Rattle.scan.specs.declared.Class.the-variants.{AlphaNumeric, Word}
-use Rattle.scan.specs.Byte.{end, peekAt, isDigit, isIn}
+use Rattle.byte.specs.declared.Class.the-variants.{AlphaNumeric, Word}
+use Rattle.byte.specs.Byte.{end, peekAt, isDigit, isIn}
 use Rattle.scan.specs.Run.{runEnd}
 use Rattle.token.specs.declared.Keyword.{Keyword}
 use Rattle.token.specs.Words.{keywordOf}

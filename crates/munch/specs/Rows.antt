@@ -7,7 +7,7 @@ use mathlib.Core.List.{List}
 use mathlib.Core.Logic.{_↔_, _⊎_}
 use mathlib.Core.Path.{_≡_}
 use lib.ListN.{drop}
-use Rattle.scan.specs.Byte.{end, peekAt, isDigit}
+use Rattle.byte.specs.Byte.{end, peekAt, isDigit}
 use Rattle.token.specs.declared.Keyword.{Keyword}
 use Rattle.numeral.specs.declared.Numeral.the-variants.{Neither}
 use Rattle.numeral.specs.Numeral.{numeralOf}

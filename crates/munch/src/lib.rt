@@ -2,18 +2,18 @@
 // Document 01's rows that refuse it are numbered in `refusals`.
 mod refusals;
 
+use byte::Class;
 use lead::BraceLead;
 use lead::BracketLead;
 use lead::Lead;
 use numeral::Numeral;
 use quoted::Quoted;
-use scan::Class;
 use token::kinds;
 ghost use mathlib.Core.Path.{_≡_};
 ghost use mathlib.Core.Bool.{true};
 ghost use Prim.Native.Nat.{_<_};
 ghost use lib.ListN.{length};
-ghost use Rattle.scan.specs.Byte.{peekAt};
+ghost use Rattle.byte.specs.Byte.{peekAt};
 ghost use Rattle.token.specs.WordRows.{keywordIn};
 ghost use Rattle.lead.specs.Lead.{isQuote, leadOf, braceLeadOf, bracketLeadOf};
 ghost use Rattle.munch.specs.Munch.{mode, deeper, ifNext, numberStep, dotStep, quotedStep, commentStep, wordStep, equalsStep, bangStep, compareStep, leftBracketStep, rightParenStep, endStep, outsideStep, braceWord, braceEquals, braceBang, braceStep, colonStep, bracketStep, munchedBy, munched};
@@ -77,7 +77,7 @@ fn deeper(depth: usize) -> usize
 fn if_next(s: &[u8], c: usize, two: Step, one: Step) -> Step
     ensures { λ r. ⌜ r ≡ ifNext (now (s .entry)) c two one ⌝ }
 {
-    if scan::peek(s, 1) == c { two } else { one }
+    if byte::peek(s, 1) == c { two } else { one }
 }
 
 // A number or a duration.
@@ -145,12 +145,12 @@ fn in_mode(depth: usize, inside: Inside) -> Mode
 fn dot_step(s: &[u8], mode: Mode) -> Step
     ensures { λ r. ⌜ r ≡ dotStep mode (now (s .entry)) ⌝ }
 {
-    if scan::is_digit(scan::peek(s, 1)) {
+    if byte::is_digit(byte::peek(s, 1)) {
         return number_step(s, mode);
     }
     if_next(
         s,
-        scan::END,
+        byte::END,
         refused(refusals::END_AFTER_DOT, 0),
         refused(refusals::AFTER_DOT, 1),
     )
@@ -175,7 +175,7 @@ fn bang_step(s: &[u8], mode: Mode) -> Step
 {
     let one = if_next(
         s,
-        scan::END,
+        byte::END,
         refused(refusals::END_AFTER_BANG, 1),
         refused(refusals::AFTER_BANG, 1),
     );
@@ -230,7 +230,7 @@ fn outside_step(words: &[u8], s: &[u8], depth: usize) -> Step
     ensures { λ r. ⌜ r ≡ outsideStep (keywordIn (now (words .entry))) depth (now (s .entry)) (leadOf (peekAt (now (s .entry)) 0)) ⌝ }
 {
     let here = in_mode(depth, Inside::Nothing);
-    let l = lead::lead_of(scan::peek(s, 0));
+    let l = lead::lead_of(byte::peek(s, 0));
     match l {
         Lead::Letter => word_step(words, s, here),
         Lead::White => Step::Space { mode: here },
@@ -276,7 +276,7 @@ fn brace_bang(s: &[u8], mode: Mode) -> Step
 {
     let one = if_next(
         s,
-        scan::END,
+        byte::END,
         refused(refusals::END_AFTER_BANG, 1),
         refused(refusals::AFTER_BANG_IN_BRACES, 1),
     );
@@ -289,7 +289,7 @@ fn brace_step(s: &[u8], depth: usize) -> Step
     ensures { λ r. ⌜ r ≡ braceStep depth (now (s .entry)) (braceLeadOf (peekAt (now (s .entry)) 0)) ⌝ }
 {
     let here = in_mode(depth, Inside::Braces);
-    let l = lead::brace_lead_of(scan::peek(s, 0));
+    let l = lead::brace_lead_of(byte::peek(s, 0));
     match l {
         BraceLead::Letter => brace_word(s, here),
         BraceLead::White => Step::Space { mode: here },
@@ -328,7 +328,7 @@ fn bracket_step(s: &[u8], depth: usize, seen: bool, fresh: bool) -> Step
 {
     let inside = Inside::Brackets { seen, fresh: false };
     let here = in_mode(depth, inside);
-    let l = lead::bracket_lead_of(scan::peek(s, 0));
+    let l = lead::bracket_lead_of(byte::peek(s, 0));
     match l {
         BracketLead::Digit => number_step(s, here),
         BracketLead::White => Step::Space { mode: here },

@@ -4,7 +4,7 @@ use native.Mathlib.Omega.{arith}
 use mathlib.Core.Bool.{Bool, _&&_}
 use mathlib.Core.List.{List}
 use lib.Ieee.{unlike}
-use Rattle.scan.proofs.Choice.{either}
+use Rattle.byte.proofs.Choice.{either}
 use Rattle.utf8.specs.declared.Admission.{Admission}
 use Rattle.utf8.specs.declared.Admission.the-variants as admission
 use Rattle.utf8.specs.Answers.{admitted}

@@ -11,8 +11,8 @@ use mathlib.Core.Path.{_≡_, refl, sym, ap, _∙_}
 use lib.Dec.{eqb}
 use lib.Ieee.{nan, inf}
 use lib.ListN.{length}
-use Rattle.scan.specs.Byte.{peekAt, isDigitIn}
-use Rattle.scan.proofs.Choice.{and-left, and-right, exactly}
+use Rattle.byte.specs.Byte.{peekAt, isDigitIn}
+use Rattle.byte.proofs.Choice.{and-left, and-right, exactly}
 use Rattle.scan.proofs.Tests.{Tests, affirmed, decided, itself, tests-or, tests-and, tests-not, tests-eq, tests-lt, tests-le, tests-has}
 use Rattle.utf8.specs.Text.{prefixEnd, WellFormed}
 use Rattle.utf8.specs.Answers.{placeAt, tooLong, notUtf8}

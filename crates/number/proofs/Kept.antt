@@ -7,8 +7,8 @@ use mathlib.Core.List.{List, [], _∷_, _++_, append-nil}
 use mathlib.Core.Logic.{_⊎_, inl, inr, ⊎-elim}
 use mathlib.Core.Path.{_≡_, refl, ap, _∙_}
 use lib.ListN.{length, drop, length-append, drop-of-length-le}
-use Rattle.scan.specs.Byte.{lowered}
-use Rattle.scan.proofs.Classes.{lowered-above, lowered-ascii}
+use Rattle.byte.specs.Byte.{lowered}
+use Rattle.byte.proofs.Classes.{lowered-above, lowered-ascii}
 use Rattle.utf8.specs.Code.{isScalar, encoded}
 use Rattle.utf8.specs.Text.{codesOf, WellFormed}
 use Rattle.utf8.specs.Laws.{textOf, Standing}

@@ -10,9 +10,9 @@ use mathlib.Core.Path.{_≡_, refl, ap, _∙_}
 use lib.Dec.{eqb}
 use lib.ListN.{length, drop}
 use borrow.Author.Tests.{eq-eqb, ne-eqb, eqb-true}
-use Rattle.scan.specs.Ascii.{ascii}
-use Rattle.scan.specs.Byte.{end, peekAt}
-use Rattle.scan.proofs.Classes.{digit-bounds}
+use Rattle.byte.specs.Ascii.{ascii}
+use Rattle.byte.specs.Byte.{end, peekAt}
+use Rattle.byte.proofs.Classes.{digit-bounds}
 use Rattle.sign.specs.Sign.{pastSign, isMinus}
 use Rattle.decimal.specs.declared.Notation.{Notation}
 use Rattle.decimal.specs.declared.Notation.the-variants.{Decimal, Hex, Octal}

@@ -8,7 +8,7 @@ use mathlib.Core.Logic.{_↔_, _⊎_}
 use mathlib.Core.Path.{_≡_}
 use lib.Ieee.{nan, inf, unlike}
 use lib.ListN.{length}
-use Rattle.scan.specs.Byte.{peekAt, isDigitIn}
+use Rattle.byte.specs.Byte.{peekAt, isDigitIn}
 use Rattle.scan.specs.Text.{Stands}
 use Rattle.utf8.specs.Text.{prefixEnd}
 use Rattle.utf8.specs.Answers.{placeAt, tooLong, notUtf8}

@@ -3,7 +3,7 @@ use Prim.Native.Nat.{ℕ}
 use mathlib.Core.Bool.{Bool, cond, _||_}
 use mathlib.Core.List.{List, [], _∷_}
 use lib.Dec.{eqb}
-use Rattle.scan.specs.Byte.{isWithin, lowered}
+use Rattle.byte.specs.Byte.{isWithin, lowered}
 use Rattle.utf8.specs.Text.{codesOf}
 use Rattle.utf8.specs.Laws.{textOf}
 

@@ -15,7 +15,7 @@ ghost use lib.Ieee as Ieee;
 ghost use lib.Ieee.{binary64};
 ghost use lib.ListN.{length};
 ghost use lib.Seq.{sets};
-ghost use Rattle.scan.specs.Byte.{isWithin};
+ghost use Rattle.byte.specs.Byte.{isWithin};
 ghost use Rattle.utf8.specs.Code.{isScalar};
 ghost use Rattle.utf8.specs.Refusals.{Taken};
 ghost use Rattle.number.specs.White.{isWhite, keptBytes, plainText};
@@ -112,7 +112,7 @@ fn put_kept(code: u32, out: &mut [u8], at: usize) -> usize
     if is_white(code) {
         return at;
     }
-    let e = encode::encode(scan::lowered(code as usize) as u32, out, ByteOffset(at));
+    let e = encode::encode(byte::lowered(code as usize) as u32, out, ByteOffset(at));
     let Encoding::Written(n) = e else {
         return at;
     };
@@ -129,7 +129,7 @@ fn put_ascii(byte: u8, out: &mut [u8], at: usize) -> usize
     if is_white(byte as u32) {
         return at;
     }
-    out[at] = scan::lowered(byte as usize) as u8;
+    out[at] = byte::lowered(byte as usize) as u8;
     at + 1
 }
 
@@ -196,7 +196,7 @@ fn is_digits(radix: usize, s: &[u8]) -> bool
 {
     let mut i = 0;
     while i < s.len() {
-        if !scan::is_digit_in(radix, s[i] as usize) {
+        if !byte::is_digit_in(radix, s[i] as usize) {
             return false;
         }
         i += 1;
@@ -226,7 +226,7 @@ fn read_integer(notation: Notation, s: &[u8]) -> Integer
 fn is_zero_at(t: &[u8], at: usize) -> bool
     ensures { λ r. ⌜ r ≡ isZeroAt (now (t .entry)) at ⌝ }
 {
-    scan::peek(t, at) == b'0' as usize
+    byte::peek(t, at) == b'0' as usize
 }
 
 // Whether a text has a point, an 8 or a 9.
@@ -293,7 +293,7 @@ fn marked(t: &[u8]) -> Parsing
     }
     let behind = from + 1;
     let outer = sign::is_minus(t, 0);
-    if scan::peek(t, behind) == b'x' as usize {
+    if byte::peek(t, behind) == b'x' as usize {
         return integer_number(Notation::Hex, outer, &t[behind + 1..]);
     }
     integer_number(Notation::Octal, outer, &t[behind..])

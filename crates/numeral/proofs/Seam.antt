@@ -8,11 +8,11 @@ use mathlib.Core.Path.{_≡_, refl, ap, _∙_}
 use lib.Dec.{eqb}
 use lib.ListN.{length, drop}
 use lib.Seq.{drop-append-le}
-use Rattle.scan.specs.declared.Class.{Class}
-use Rattle.scan.specs.declared.Class.the-variants.{Digit, HexDigit}
-use Rattle.scan.specs.Byte.{end, peekAt, lowered, isWithin, isAlpha, isHexDigit, isIn}
+use Rattle.byte.specs.declared.Class.{Class}
+use Rattle.byte.specs.declared.Class.the-variants.{Digit, HexDigit}
+use Rattle.byte.specs.Byte.{end, peekAt, lowered, isWithin, isAlpha, isHexDigit, isIn}
 use Rattle.scan.specs.Run.{runEnd}
-use Rattle.scan.proofs.Choice.{either-same}
+use Rattle.byte.proofs.Choice.{either-same}
 use Rattle.scan.proofs.Edges.{edge-within, alpha-ascii}
 use Rattle.scan.proofs.Runs.{run-within, run-append, peek-append}
 use Rattle.sign.specs.Sign.{isSign, pastSign}

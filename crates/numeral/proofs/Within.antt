@@ -9,13 +9,13 @@ use mathlib.Core.List.{List}
 use mathlib.Core.Path.{_≡_, refl}
 use lib.Dec.{eqb}
 use lib.ListN.{length, drop}
-use Rattle.scan.specs.declared.Class.{Class}
-use Rattle.scan.specs.declared.Class.the-variants.{Digit, HexDigit}
-use Rattle.scan.specs.Byte.{peekAt, lowered, isWithin, isAlpha, isDigit, isIn}
+use Rattle.byte.specs.declared.Class.{Class}
+use Rattle.byte.specs.declared.Class.the-variants.{Digit, HexDigit}
+use Rattle.byte.specs.Byte.{peekAt, lowered, isWithin, isAlpha, isDigit, isIn}
 use Rattle.scan.specs.Edge.{Edge, first, behind, AsciiAlone}
 use Rattle.scan.specs.Run.{runEnd}
-use Rattle.scan.proofs.Choice.{either, and-right}
-use Rattle.scan.proofs.Classes.{end-in-none}
+use Rattle.byte.proofs.Choice.{either, and-right}
+use Rattle.byte.proofs.Classes.{end-in-none}
 use Rattle.scan.proofs.Edges.{edge-past, edge-run, one-ascii, within-ascii, or-ascii, digit-ascii, hex-ascii, alpha-ascii}
 use Rattle.scan.proofs.Runs.{goes-on, run-stops}
 use Rattle.sign.specs.Sign.{isSign, pastSign}

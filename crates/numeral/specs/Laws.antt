@@ -5,7 +5,7 @@ use mathlib.Core.Bool.{true, _||_}
 use mathlib.Core.List.{List, _∷_, _++_}
 use mathlib.Core.Path.{_≡_}
 use lib.Dec.{eqb}
-use Rattle.scan.specs.Byte.{peekAt, isDigit}
+use Rattle.byte.specs.Byte.{peekAt, isDigit}
 use Rattle.scan.specs.Edge.{Edge}
 use Rattle.numeral.specs.declared.Numeral.{Numeral}
 use Rattle.numeral.specs.declared.Numeral.the-variants.{Number, Duration, Neither}

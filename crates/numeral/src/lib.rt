@@ -1,6 +1,6 @@
 // Numbers and durations in a query: where the one or the other ends that bytes begin with. What it says is read by `number`, and by
 // `duration`.
-use scan::Class;
+use byte::Class;
 ghost use mathlib.Core.Path.{_≡_};
 ghost use lib.ListN.{drop};
 ghost use Rattle.numeral.specs.Numeral.{isHex, fractionEnd, exponentEnd, mantissaEnd, numberEnd, isUnit, stopOf, turnOf, durationFrom, numeralOf};
@@ -30,15 +30,15 @@ pub enum Turn {
 fn is_hex(s: &[u8]) -> bool
     ensures { λ r. ⌜ r ≡ isHex (now (s .entry)) ⌝ }
 {
-    let mark = scan::peek(s, 1);
-    scan::peek(s, 0) == b'0' as usize && (mark == b'x' as usize || mark == b'X' as usize)
+    let mark = byte::peek(s, 1);
+    byte::peek(s, 0) == b'0' as usize && (mark == b'x' as usize || mark == b'X' as usize)
 }
 
 // The place past a point and the digits behind it, where one stands.
 fn fraction_end(k: Class, s: &[u8], at: usize) -> usize
     ensures { λ r. ⌜ r ≡ fractionEnd k (now (s .entry)) at ⌝ }
 {
-    if scan::peek(s, at) == b'.' as usize {
+    if byte::peek(s, at) == b'.' as usize {
         scan::run_end(k, s, at + 1)
     } else {
         at
@@ -49,7 +49,7 @@ fn fraction_end(k: Class, s: &[u8], at: usize) -> usize
 fn exponent_end(s: &[u8], at: usize) -> usize
     ensures { λ r. ⌜ r ≡ exponentEnd (now (s .entry)) at ⌝ }
 {
-    if scan::lowered(scan::peek(s, at)) == b'e' as usize {
+    if byte::lowered(byte::peek(s, at)) == b'e' as usize {
         scan::run_end(Class::Digit, s, sign::past_sign(s, at + 1))
     } else {
         at
@@ -100,7 +100,7 @@ fn stop_of(part: Part, c: usize) -> Turn
         }
         Part::UnitS => {}
     }
-    if scan::is_alpha(c) {
+    if byte::is_alpha(c) {
         Turn::Fails
     } else {
         Turn::Ends
@@ -111,7 +111,7 @@ fn stop_of(part: Part, c: usize) -> Turn
 fn turn_of(part: Part, c: usize) -> Turn
     ensures { λ r. ⌜ r ≡ turnOf part c ⌝ }
 {
-    if scan::is_digit(c) {
+    if byte::is_digit(c) {
         return Turn::On(Part::Digits);
     }
     stop_of(part, c)
@@ -124,7 +124,7 @@ fn duration(s: &[u8], from: usize) -> Numeral
     let mut part = Part::Unit;
     let mut n = from;
     loop {
-        let t = turn_of(part, scan::peek(s, n));
+        let t = turn_of(part, byte::peek(s, n));
         match t {
             Turn::On(next) => {
                 part = next;
@@ -145,11 +145,11 @@ pub fn scan_number(s: &[u8]) -> Numeral
     ensures { λ r. ⌜ r ≡ numeralOf (now (s .entry)) ⌝ }
 {
     let n = number_end(s);
-    let c = scan::peek(s, n);
+    let c = byte::peek(s, n);
     if c == b'.' as usize {
         return Numeral::Neither(n);
     }
-    if !scan::is_alpha(c) {
+    if !byte::is_alpha(c) {
         return Numeral::Number(n);
     }
     if c == b'y' as usize || is_unit(c) {

@@ -1,6 +1,6 @@
 -- Any two answers that the promise of a public function allows are equal: both equal the definition.
 use mathlib.Core.Path.{sym, _∙_}
-use Rattle.scan.proofs.One.{OneAnswer}
+use Rattle.byte.proofs.One.{OneAnswer}
 use Rattle.packed.proofs.packed.Kinds as packed
 use Rattle.packed.proofs.packed.Reads as packed-reads
 use Rattle.packed.proofs.packed_at_start.Kinds as packed-at-start

@@ -10,13 +10,13 @@ use mathlib.Core.Path.{_≡_, refl, sym, ap, subst}
 use lib.Dec.{ltb}
 use lib.ListN.{length, length-append}
 use borrow.Author.Tests.{lt-ltb, ltb-true, ltb-false}
-use Rattle.scan.specs.declared.Class.the-variants.{Line}
-use Rattle.scan.specs.Byte.{end, isIn, isLine, peekAt}
+use Rattle.byte.specs.declared.Class.the-variants.{Line}
+use Rattle.byte.specs.Byte.{end, isIn, isLine, peekAt}
 use Rattle.scan.specs.Edge.{Edge, last, behind}
 use Rattle.scan.specs.Run.{runEnd}
-use Rattle.scan.proofs.Below.{below}
-use Rattle.scan.proofs.Choice.{either}
-use Rattle.scan.proofs.Classes.{end-in-none}
+use Rattle.byte.proofs.Below.{below}
+use Rattle.byte.proofs.Choice.{either}
+use Rattle.byte.proofs.Classes.{end-in-none}
 use Rattle.scan.proofs.Runs.{run-within, run-stopped, run-append}
 use Rattle.quoted.specs.Quoted.{commentEnd}
 use Rattle.quoted.specs.Laws.{CommentWithin, CommentSeam}

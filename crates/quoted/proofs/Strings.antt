@@ -9,9 +9,9 @@ use mathlib.Core.Logic.{inl, inr}
 use mathlib.Core.Path.{_≡_, refl, sym, subst}
 use lib.Dec.{eqb}
 use lib.ListN.{length, drop}
-use Rattle.scan.specs.Byte.{end, peekAt, backslash}
+use Rattle.byte.specs.Byte.{end, peekAt, backslash}
 use Rattle.scan.specs.Edge.{Edge, first, last}
-use Rattle.scan.proofs.Choice.{either}
+use Rattle.byte.proofs.Choice.{either}
 use Rattle.scan.proofs.Edges.{edge-past, one-ascii}
 use Rattle.quoted.specs.declared.Quoted.{Quoted}
 use Rattle.quoted.specs.declared.Quoted.the-variants.{Closed}

@@ -9,10 +9,10 @@ use mathlib.Core.List.{List, [], _∷_}
 use lib.ListN.{length, take, drop}
 use lib.Dec.{leb, ltb, eqb}
 use borrow.Author.Tests.{leb-true, ltb-true, eqb-true}
-use Rattle.scan.specs.declared.Class.the-variants.{AlphaNumeric}
-use Rattle.scan.specs.Byte.{peekAt, isIn}
+use Rattle.byte.specs.declared.Class.the-variants.{AlphaNumeric}
+use Rattle.byte.specs.Byte.{peekAt, isIn}
 use Rattle.scan.specs.Run.{runEnd}
-use Rattle.scan.proofs.Choice.{either, and-left, and-right}
+use Rattle.byte.proofs.Choice.{either, and-left, and-right}
 use Rattle.record.specs.declared.Decoded.the-variants as decoding
 use Rattle.record.specs.declared.Decoded.the-variants.{Bytes, NoRoom}
 use Rattle.record.specs.declared.Decimal.{Decimal}

@@ -4,8 +4,8 @@ use mathlib.Core.Path.{_≡_, refl}
 use mathlib.Core.List.{[], _∷_}
 use Rattle.record.specs.declared.Room.the-variants.{Given, Enough}
 use Rattle.record.specs.declared.Record.the-variants.{Fields, Bad}
-use Rattle.scan.specs.Ascii.{ascii}
-use Rattle.scan.specs.Byte.{isWithin, isAlpha, isHexDigit, isAlphaNumeric, isIn, digitOf}
+use Rattle.byte.specs.Ascii.{ascii}
+use Rattle.byte.specs.Byte.{isWithin, isAlpha, isHexDigit, isAlphaNumeric, isIn, digitOf}
 use Rattle.scan.specs.Run.{runLength}
 use Rattle.record.specs.Digit.{signOf}
 use Rattle.record.specs.Hex.{hexed, hexText, hexEnd}

@@ -11,7 +11,7 @@ use lib.ListN.{length, drop, drop-of-length-le, set, length-set, length-append}
 use lib.Seq.{drop-cons, drop-set-lt, getD-set-same, lt-length-set}
 use lib.Dec.{ltb}
 use borrow.Author.Tests.{lt-ltb, le-ltb, ltb-false}
-use Rattle.scan.specs.Byte.{peekAt, digitOf}
+use Rattle.byte.specs.Byte.{peekAt, digitOf}
 use Rattle.record.specs.Digit.{signOf}
 use Rattle.record.specs.Decimal.{mostDigits, valueFrom, digitsBy, digitsOf, decimalText}
 use Rattle.record.specs.Claims.{DigitsOf, DigitsFew}

@@ -6,9 +6,9 @@ use mathlib.Core.Bool.{true, false, not}
 use mathlib.Core.Path.{_≡_, refl}
 use lib.Dec.{eqb}
 use borrow.Author.Tests.{eqb-true, not-true}
-use Rattle.scan.specs.declared.Class.the-variants.{HexDigit, Digit}
-use Rattle.scan.specs.Byte.{isWithin, isHexDigit, isIn, digitOf}
-use Rattle.scan.proofs.Below.{below}
+use Rattle.byte.specs.declared.Class.the-variants.{HexDigit, Digit}
+use Rattle.byte.specs.Byte.{isWithin, isHexDigit, isIn, digitOf}
+use Rattle.byte.proofs.Below.{below}
 use Rattle.record.specs.Digit.{decimalBase, hexBase, signOf}
 
 pub digit-sign : (d : ℕ) → d < hexBase → digitOf (signOf d) ≡ d

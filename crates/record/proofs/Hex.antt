@@ -11,11 +11,11 @@ use lib.ListN.{length, getD, take, drop}
 use lib.Seq.{drop-cons, length-take-le, getD-take, getD-drop}
 use lib.Dec.{eqb}
 use borrow.Author.Tests.{eq-eqb, ne-eqb, eqb-true}
-use Rattle.scan.specs.declared.Class.the-variants.{HexDigit}
-use Rattle.scan.specs.Ascii.{ascii}
-use Rattle.scan.specs.Byte.{end, peekAt, isIn, digitOf}
+use Rattle.byte.specs.declared.Class.the-variants.{HexDigit}
+use Rattle.byte.specs.Ascii.{ascii}
+use Rattle.byte.specs.Byte.{end, peekAt, isIn, digitOf}
 use Rattle.scan.specs.Run.{runLength, runEnd}
-use Rattle.scan.proofs.Choice.{either}
+use Rattle.byte.proofs.Choice.{either}
 use Rattle.scan.proofs.Runs.{run-bound, run-within, run-take, peek-inside}
 use Rattle.record.specs.Digit.{signOf}
 use Rattle.record.specs.Hex.{hexed, paired, hexText, hexEnd, isHexText}

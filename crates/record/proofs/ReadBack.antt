@@ -8,8 +8,8 @@ use mathlib.Core.List.{List, [], _∷_, _++_}
 use lib.ListN.{length, length-append}
 use lib.Dec.{ltb, eqb, eqb·suc-zero}
 use borrow.Author.Tests.{lt-ltb, ltb-true, ltb-false, eq-eqb, le-leb}
-use Rattle.scan.specs.declared.Class.the-variants.{HexDigit, Digit}
-use Rattle.scan.specs.Byte.{isIn, digitOf}
+use Rattle.byte.specs.declared.Class.the-variants.{HexDigit, Digit}
+use Rattle.byte.specs.Byte.{isIn, digitOf}
 use Rattle.scan.specs.Run.{runLength, runEnd}
 use Rattle.scan.proofs.Runs.{run-past}
 use Rattle.record.specs.Digit.{signOf}

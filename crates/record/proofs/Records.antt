@@ -9,7 +9,7 @@ use mathlib.Core.List.{List, [], _∷_}
 use lib.ListN.{length, take, drop, length-drop}
 use lib.Seq.{take-all}
 use lib.Dec.{eqb}
-use Rattle.scan.specs.Byte.{peekAt}
+use Rattle.byte.specs.Byte.{peekAt}
 use Rattle.record.specs.declared.Room.the-variants.{Enough}
 use Rattle.record.specs.declared.Record.the-variants.{Fields, Bad}
 use Rattle.record.specs.Decimal.{decimalRead}

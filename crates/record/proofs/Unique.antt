@@ -2,7 +2,7 @@
 -- list: each equals the same definition of what was lent.
 use mathlib.Core.Path.{sym, _∙_}
 use denote.Ref.{now}
-use Rattle.scan.proofs.One.{OneAnswer, OneContent}
+use Rattle.byte.proofs.One.{OneAnswer, OneContent}
 use Rattle.record.proofs.read_record.Kinds as read-record
 use Rattle.record.proofs.read_record.Reads as read-record-reads
 use Rattle.record.proofs.read_decimal.Kinds as read-decimal

@@ -1,4 +1,4 @@
--- The digit that stands for a number; what a digit stands for is `digitOf` of crate scan.
+-- The digit that stands for a number; what a digit stands for is `digitOf` of crate byte.
 use Prim.Native.Nat.{ℕ, _+_, _-_}
 use Prim.Native.Char.{code}
 use mathlib.Core.Bool.{cond}

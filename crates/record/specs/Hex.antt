@@ -5,9 +5,9 @@ use mathlib.Core.Bool.{Bool, cond, _&&_, not}
 use mathlib.Core.List.{List, [], _∷_}
 use lib.ListN.{length}
 use lib.Dec.{eqb, leb}
-use Rattle.scan.specs.declared.Class.the-variants.{HexDigit}
-use Rattle.scan.specs.Ascii.{ascii}
-use Rattle.scan.specs.Byte.{peekAt, isIn, digitOf}
+use Rattle.byte.specs.declared.Class.the-variants.{HexDigit}
+use Rattle.byte.specs.Ascii.{ascii}
+use Rattle.byte.specs.Byte.{peekAt, isIn, digitOf}
 use Rattle.scan.specs.Run.{runEnd}
 use Rattle.record.specs.declared.Decoded.{Decoded}
 use Rattle.record.specs.declared.Decoded.the-variants.{Bytes, Bad, NoRoom}

@@ -5,8 +5,8 @@ use mathlib.Core.Bool.{cond, _&&_}
 use mathlib.Core.List.{List, [], _∷_}
 use lib.Dec.{eqb, ltb}
 use lib.ListN.{drop}
-use Rattle.scan.specs.declared.Class.the-variants.{AlphaNumeric}
-use Rattle.scan.specs.Byte.{peekAt, isIn}
+use Rattle.byte.specs.declared.Class.the-variants.{AlphaNumeric}
+use Rattle.byte.specs.Byte.{peekAt, isIn}
 use Rattle.scan.specs.Run.{runEnd}
 use Rattle.record.specs.declared.Decimal.{Decimal}
 use Rattle.record.specs.declared.Decimal.the-variants as decimal

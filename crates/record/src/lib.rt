@@ -1,6 +1,6 @@
 // The lines of a replay: records `OP HEX` and `OP HEX ROOM` are read, and the texts of answers are written.
 // A line is without its newline. Nothing is written where an answer is a refusal or a text does not fit.
-use scan::Class;
+use byte::Class;
 ghost use mathlib.Core.Path.{_≡_};
 ghost use Prim.Native.Nat.{_<_, _≤_};
 ghost use lib.ListN.{length, drop, getD};
@@ -88,7 +88,7 @@ pub fn read_decimal(text: &[u8]) -> Decimal
     let mut value: u64 = 0;
     let mut i = 0;
     while i < text.len() {
-        let digit = scan::digit_of(scan::peek(text, i)) as u64;
+        let digit = byte::digit_of(byte::peek(text, i)) as u64;
         if value > (LARGEST - digit) / DECIMAL_BASE {
             return Decimal::Bad;
         }
@@ -102,7 +102,7 @@ pub fn read_decimal(text: &[u8]) -> Decimal
 fn hex_end(s: &[u8], from: usize) -> usize
     ensures { λ r. ⌜ r ≡ hexEnd (now (s .entry)) from ⌝ }
 {
-    if scan::peek(s, from) == NO_BYTES {
+    if byte::peek(s, from) == NO_BYTES {
         return from + 1;
     }
     let end = scan::run_end(Class::HexDigit, s, from);
@@ -131,7 +131,7 @@ fn with_room(op: usize, hex: usize, rest: &[u8]) -> Record
             room: Room::Enough,
         };
     }
-    if scan::peek(rest, 0) != SPACE {
+    if byte::peek(rest, 0) != SPACE {
         return Record::Bad;
     }
     let r = read_decimal(&rest[1..]);
@@ -153,7 +153,7 @@ pub fn read_record(line: &[u8]) -> Record
     if op == 0 {
         return Record::Bad;
     }
-    if scan::peek(line, op) != SPACE {
+    if byte::peek(line, op) != SPACE {
         return Record::Bad;
     }
     let start = op + 1;
@@ -193,8 +193,8 @@ fn item(form: Form, src: &[u8], i: usize) -> u8
         }
         Form::Bytes => {
             let first = i * DIGITS_A_BYTE;
-            (scan::digit_of(scan::peek(src, first)) * HEX_BASE
-                + scan::digit_of(scan::peek(src, first + 1))) as u8
+            (byte::digit_of(byte::peek(src, first)) * HEX_BASE
+                + byte::digit_of(byte::peek(src, first + 1))) as u8
         }
     }
 }

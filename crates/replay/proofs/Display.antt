@@ -5,7 +5,7 @@ use mathlib.Core.Path.{_≡_, refl}
 use mathlib.Core.List.{List}
 use lib.Dec.{leb}
 use lib.ListN.{length, take}
-use Rattle.scan.proofs.Choice.{either}
+use Rattle.byte.proofs.Choice.{either}
 use Rattle.record.specs.declared.Decimal.{Decimal}
 use Rattle.record.specs.declared.Decimal.the-variants.{Value, Bad}
 use Rattle.record.specs.Decimal.{decimalRead}

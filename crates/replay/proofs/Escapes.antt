@@ -7,7 +7,7 @@ use mathlib.Core.List.{List}
 use lib.Dec.{leb}
 use lib.ListN.{length, take}
 use borrow.Author.Tests.{le-leb}
-use Rattle.scan.proofs.Choice.{either}
+use Rattle.byte.proofs.Choice.{either}
 use Rattle.utf8.specs.declared.CharNumber.{CharNumber}
 use Rattle.utf8.specs.declared.Admission.{Admission}
 use Rattle.utf8.specs.declared.Admission.the-variants as admission

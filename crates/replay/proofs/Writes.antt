@@ -9,10 +9,10 @@ use mathlib.Core.List.{List}
 use lib.Dec.{leb, ltb, eqb}
 use lib.ListN.{length, take, drop}
 use borrow.Author.Tests.{leb-false, ltb-true}
-use Rattle.scan.specs.declared.Class.the-variants.{Digit}
-use Rattle.scan.specs.Byte.{peekAt, isIn}
+use Rattle.byte.specs.declared.Class.the-variants.{Digit}
+use Rattle.byte.specs.Byte.{peekAt, isIn}
 use Rattle.scan.specs.Run.{runEnd}
-use Rattle.scan.proofs.Choice.{either, either-same}
+use Rattle.byte.proofs.Choice.{either, either-same}
 use Rattle.utf8.specs.declared.Refusal.{Refusal}
 use Rattle.record.specs.declared.Decimal.{Decimal}
 use Rattle.record.specs.declared.Decimal.the-variants.{Value, Bad}

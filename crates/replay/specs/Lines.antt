@@ -4,7 +4,7 @@ use mathlib.Core.Path.{_≡_}
 use mathlib.Core.List.{List, _++_}
 use lib.ListN.{take}
 use Rattle.io.specs.Counts.{Counts}
-use Rattle.scan.specs.Ascii.{ascii}
+use Rattle.byte.specs.Ascii.{ascii}
 use Rattle.record.specs.Hex.{hexText}
 use Rattle.listing.specs.Listing.{numbered}
 

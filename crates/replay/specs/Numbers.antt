@@ -1,7 +1,7 @@
 -- What `number` is answered with: the bits of a number's f64 in hex, and how it is written, or the refusal.
 use Prim.Native.Nat.{ℕ, zero, suc, _*_, _/_, _%_, _^_}
 use mathlib.Core.List.{List, [], _∷_}
-use Rattle.scan.specs.Ascii.{ascii}
+use Rattle.byte.specs.Ascii.{ascii}
 use Rattle.decimal.specs.declared.Notation.{Notation}
 use Rattle.decimal.specs.declared.Notation.the-variants.{Decimal, Hex, Octal}
 use Rattle.decimal.specs.declared.Number.{Number}

@@ -1,7 +1,7 @@
 -- What the ops that ask string are answered with: a text in hex, or the refusal.
 use Prim.Native.Nat.{ℕ}
 use mathlib.Core.List.{List}
-use Rattle.scan.specs.Ascii.{ascii}
+use Rattle.byte.specs.Ascii.{ascii}
 use Rattle.utf8.specs.declared.Reading.{Reading}
 use Rattle.escape.specs.declared.Escaping.{Escaping}
 use Rattle.escape.specs.declared.Escaping.the-variants.{Written, Refused}

@@ -1,9 +1,9 @@
 // The ops on durations: `duration` and `durwrite`.
 use crate::says;
+use byte::Class;
 use display::Displaying;
 use duration::Timing;
 use record::Decimal;
-use scan::Class;
 use span::Duration;
 ghost use Prim.Native.Nat.{_≤_};
 ghost use lib.ListN.{length};
@@ -78,7 +78,7 @@ pub fn durwrite(bytes: &[u8], text: &mut [u8], out: &mut [u8]) -> usize
     ensures { λ r. ⌜ Says (durwriteAnswer (length (now (text .entry))) (now (bytes .entry))) r (now (out .exit)) ⌝ }
 {
     let end = scan::run_end(Class::Digit, bytes, 0);
-    if scan::peek(bytes, end) != SPACE {
+    if byte::peek(bytes, end) != SPACE {
         return says::bad_record(out);
     }
     let start = end + 1;

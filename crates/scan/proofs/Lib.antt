@@ -1,11 +1,6 @@
-pub mod Ways
-pub mod Choice
 pub mod Tests
-pub mod Below
-pub mod Classes
 pub mod Runs
 pub mod Edges
 pub mod Same
 pub mod Stores
-pub mod One
 pub mod Unique

@@ -9,7 +9,7 @@ use mathlib.Core.List.{List, [], _∷_, _++_}
 use lib.Dec.{eqb}
 use lib.Seq.{drop-append-le, getD-drop}
 use lib.ListN.{length, take, drop, length-drop}
-use Rattle.scan.specs.Byte.{end, peekAt}
+use Rattle.byte.specs.Byte.{end, peekAt}
 use Rattle.scan.specs.Run.{runLength, runEnd}
 use Rattle.scan.specs.Laws.{RunWithin, RunPasses, RunStopped, RunStops, RunAppend, RunInside}
 

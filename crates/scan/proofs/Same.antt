@@ -10,7 +10,7 @@ use lib.ListN.{length, getD, drop, drop-of-length-le}
 use lib.Seq.{drop-cons}
 use lib.Dec.{eqb}
 use borrow.Author.Tests.{eq-eqb, eqb-true}
-use Rattle.scan.proofs.Choice.{and-left, and-right}
+use Rattle.byte.proofs.Choice.{and-left, and-right}
 use Rattle.scan.specs.Text.{sameText}
 use Rattle.scan.specs.Laws.{SameIsEqual}
 

@@ -4,7 +4,7 @@ use mathlib.Core.Bool.{Bool, true}
 use mathlib.Core.List.{List}
 use mathlib.Core.Path.{_≡_}
 use lib.ListN.{length}
-use Rattle.scan.specs.Byte.{end, peekAt}
+use Rattle.byte.specs.Byte.{end, peekAt}
 
 pub data Edge (xs : List ℕ) : ℕ → Type 0 where
   first : Edge xs 0

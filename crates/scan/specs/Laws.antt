@@ -4,7 +4,7 @@ use mathlib.Core.Bool.{Bool, true, false}
 use mathlib.Core.List.{List, _∷_, _++_}
 use mathlib.Core.Path.{_≡_}
 use lib.ListN.{length}
-use Rattle.scan.specs.Byte.{end, peekAt}
+use Rattle.byte.specs.Byte.{end, peekAt}
 use Rattle.scan.specs.Run.{runEnd}
 use Rattle.scan.specs.Text.{sameText}
 

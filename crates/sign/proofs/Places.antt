@@ -8,8 +8,8 @@ use mathlib.Core.Path.{_≡_, refl}
 use lib.Dec.{eqb}
 use lib.ListN.{length}
 use borrow.Author.Tests.{eqb-true}
-use Rattle.scan.specs.Byte.{end, peekAt}
-use Rattle.scan.proofs.Choice.{either}
+use Rattle.byte.specs.Byte.{end, peekAt}
+use Rattle.byte.proofs.Choice.{either}
 use Rattle.scan.proofs.Runs.{inside}
 use Rattle.sign.specs.Sign.{isSign, pastSign}
 

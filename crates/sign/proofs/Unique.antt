@@ -1,6 +1,6 @@
 -- Any two answers that the promise of a public function allows are equal: both equal the definition.
 use mathlib.Core.Path.{sym, _∙_}
-use Rattle.scan.proofs.One.{OneAnswer}
+use Rattle.byte.proofs.One.{OneAnswer}
 use Rattle.sign.proofs.past_sign.Kinds as past-sign
 use Rattle.sign.proofs.past_sign.Reads as past-sign-reads
 use Rattle.sign.proofs.is_minus.Kinds as is-minus

@@ -4,7 +4,7 @@ use Prim.Native.Char.{code}
 use mathlib.Core.Bool.{Bool, cond, _||_}
 use mathlib.Core.List.{List}
 use lib.Dec.{eqb}
-use Rattle.scan.specs.Byte.{peekAt}
+use Rattle.byte.specs.Byte.{peekAt}
 
 unfoldable pub isSign : ℕ → Bool
 isSign c = eqb c (code "+") || eqb c (code "-")

@@ -13,7 +13,7 @@ fn is_sign(c: usize) -> bool
 pub fn past_sign(s: &[u8], at: usize) -> usize
     ensures { λ r. ⌜ r ≡ pastSign (now (s .entry)) at ⌝ }
 {
-    if is_sign(scan::peek(s, at)) {
+    if is_sign(byte::peek(s, at)) {
         at + 1
     } else {
         at
@@ -24,5 +24,5 @@ pub fn past_sign(s: &[u8], at: usize) -> usize
 pub fn is_minus(s: &[u8], at: usize) -> bool
     ensures { λ r. ⌜ r ≡ isMinus (now (s .entry)) at ⌝ }
 {
-    scan::peek(s, at) == b'-' as usize
+    byte::peek(s, at) == b'-' as usize
 }

@@ -1,6 +1,6 @@
 -- Any two answers that the promise of a public function allows are equal: both equal the definition.
 use mathlib.Core.Path.{sym, _∙_}
-use Rattle.scan.proofs.One.{OneAnswer}
+use Rattle.byte.proofs.One.{OneAnswer}
 use Rattle.span.proofs.is_zero.Kinds as is-zero
 use Rattle.span.proofs.is_zero.Reads as is-zero-reads
 use Rattle.span.proofs.from_secs_f64.Kinds as from-secs-f64

@@ -2,7 +2,7 @@
 use Prim.Native.Nat.{ℕ, _*_}
 use Prim.Native.String.{String}
 use mathlib.Core.List.{List, [], _∷_}
-use Rattle.scan.specs.Ascii.{ascii}
+use Rattle.byte.specs.Ascii.{ascii}
 
 -- how many milliseconds each has; a year has 365 days, as in the Rust
 abbrev pub milli : ℕ

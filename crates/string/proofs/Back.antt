@@ -11,9 +11,9 @@ use lib.ListN.{length, length-append}
 use lib.Seq.{take-append-seam, getD-append-seam}
 use borrow.Author.Tests.{ne-eqb, eqb-true, eqb-false, le-leb, not-true}
 use Rattle.scan.specs.Text.{has}
-use Rattle.scan.specs.Byte.{end, peekAt, backslash}
-use Rattle.scan.proofs.Below.{below}
-use Rattle.scan.proofs.Choice.{and-left, and-right}
+use Rattle.byte.specs.Byte.{end, peekAt, backslash}
+use Rattle.byte.proofs.Below.{below}
+use Rattle.byte.proofs.Choice.{and-left, and-right}
 use Rattle.utf8.specs.declared.Reading.{Reading}
 use Rattle.utf8.specs.declared.Reading.the-variants.{Crate, Documented}
 use Rattle.utf8.specs.Text.{WellFormed}

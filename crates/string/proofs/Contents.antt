@@ -9,7 +9,7 @@ use lib.ListN.{length, drop, length-drop, length-append, drop-of-length-le}
 use lib.Seq.{drop-drop}
 use lib.Dec.{leb}
 use borrow.Author.Tests.{leb-true}
-use Rattle.scan.proofs.Choice.{either}
+use Rattle.byte.proofs.Choice.{either}
 use Rattle.utf8.specs.declared.Reading.{Reading}
 use Rattle.utf8.specs.Code.{encoded}
 use Rattle.utf8.proofs.Ascii.{ascii-bytes}

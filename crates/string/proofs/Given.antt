@@ -10,8 +10,8 @@ use mathlib.Core.Path.{_≡_, refl, sym, ap, subst}
 use lib.Dec.{eqb, leb}
 use lib.ListN.{length}
 use borrow.Author.Tests.{le-leb, lt-leb, leb-false, not-true}
-use Rattle.scan.specs.Byte.{peekAt, backslash}
-use Rattle.scan.proofs.Choice.{exactly}
+use Rattle.byte.specs.Byte.{peekAt, backslash}
+use Rattle.byte.proofs.Choice.{exactly}
 use Rattle.scan.proofs.Tests.{Tests, affirmed, decided, tests-or, tests-and, tests-not, tests-eq, tests-has}
 use Rattle.utf8.specs.declared.Reading.{Reading}
 use Rattle.utf8.specs.Text.{prefixEnd, WellFormed}

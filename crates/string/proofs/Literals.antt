@@ -9,9 +9,9 @@ use lib.Dec.{eqb, leb}
 use lib.ListN.{length, take, drop, getD}
 use borrow.Author.Tests.{eqb-true, leb-true, le-leb, lt-leb, not-false}
 use Rattle.scan.specs.Text.{has}
-use Rattle.scan.specs.Byte.{end, peekAt}
-use Rattle.scan.proofs.Choice.{and-left, and-right, told}
-use Rattle.scan.proofs.Classes.{getD-any, below-not}
+use Rattle.byte.specs.Byte.{end, peekAt}
+use Rattle.byte.proofs.Choice.{and-left, and-right, told}
+use Rattle.byte.proofs.Classes.{getD-any, below-not}
 use Rattle.utf8.specs.declared.CharNumber.{CharNumber}
 use Rattle.utf8.specs.declared.Reading.{Reading}
 use Rattle.utf8.specs.declared.Refusal.{Refusal}

@@ -7,8 +7,8 @@ use mathlib.Core.Logic.{_⊎_, inl, inr}
 use mathlib.Core.Path.{_≡_, refl, sym, ap, subst, _∙_}
 use lib.ListN.{length, take, drop, length-drop}
 use lib.Seq.{drop-drop}
-use Rattle.scan.proofs.Choice.{told}
-use Rattle.scan.specs.Byte.{peekAt}
+use Rattle.byte.proofs.Choice.{told}
+use Rattle.byte.specs.Byte.{peekAt}
 use Rattle.utf8.specs.Table.{charLength}
 use Rattle.utf8.specs.Text.{WellFormed}
 use Rattle.utf8.proofs.Laws.{none-empty}

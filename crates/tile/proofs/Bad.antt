@@ -9,8 +9,8 @@ use mathlib.Core.Logic.{_⊎_, inl, inr}
 use mathlib.Core.Path.{_≡_, refl, sym, ap, subst, _∙_}
 use lib.Dec.{eqb}
 use borrow.Author.Tests.{le-leb, eq-eqb, ne-eqb, eqb-true, eqb-false, leb-true, not-true}
-use Rattle.scan.specs.Byte.{peekAt, backslash, isWithin, isHexDigit, digitOf, isDigitIn}
-use Rattle.scan.proofs.Choice.{either, told}
+use Rattle.byte.specs.Byte.{peekAt, backslash, isWithin, isHexDigit, digitOf, isDigitIn}
+use Rattle.byte.proofs.Choice.{either, told}
 use Rattle.scan.proofs.Tests.{Tests, denied, tests-and, tests-not, tests-eq}
 use Rattle.utf8.specs.Table.{charLength}
 use Rattle.utf8.specs.Code.{isScalar}

@@ -9,11 +9,11 @@ use mathlib.Core.Path.{_≡_, refl, sym, _∙_}
 use lib.Dec.{eqb, ltb}
 use lib.ListN.{drop}
 use borrow.Author.Tests.{eqb-true, eqb-false, ltb-true, not-true}
-use Rattle.scan.specs.Ascii.{ascii}
-use Rattle.scan.specs.Byte.{peekAt, backslash, digitOf, isDigitIn}
+use Rattle.byte.specs.Ascii.{ascii}
+use Rattle.byte.specs.Byte.{peekAt, backslash, digitOf, isDigitIn}
 use Rattle.scan.specs.Text.{Stands}
-use Rattle.scan.proofs.Choice.{either, and-left, and-right}
-use Rattle.scan.proofs.Classes.{digit-bounds}
+use Rattle.byte.proofs.Choice.{either, and-left, and-right}
+use Rattle.byte.proofs.Classes.{digit-bounds}
 use Rattle.utf8.specs.declared.Character.the-variants.{Nothing, IllFormed}
 use Rattle.utf8.specs.Table.{charLength}
 use Rattle.utf8.specs.Text.{WellFormed}

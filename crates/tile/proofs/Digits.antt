@@ -11,10 +11,10 @@ use mathlib.Core.Path.{_≡_, refl, sym, ap, _∙_}
 use lib.Dec.{leb}
 use lib.ListN.{length, List·getD-eq-default}
 use borrow.Author.Tests.{leb-true}
-use Rattle.scan.specs.Byte.{end, peekAt, isWithin, isHexDigit, digitOf, isDigitIn}
-use Rattle.scan.proofs.Below.{below}
-use Rattle.scan.proofs.Choice.{told}
-use Rattle.scan.proofs.Classes.{digit-bound}
+use Rattle.byte.specs.Byte.{end, peekAt, isWithin, isHexDigit, digitOf, isDigitIn}
+use Rattle.byte.proofs.Below.{below}
+use Rattle.byte.proofs.Choice.{told}
+use Rattle.byte.proofs.Classes.{digit-bound}
 use Rattle.tile.specs.declared.Numeral.{Numeral}
 use Rattle.tile.specs.declared.Numeral.the-variants.{Value, NotDigits}
 use Rattle.tile.specs.Tile.{numeralFrom}

@@ -5,7 +5,7 @@ use mathlib.Core.List.{List}
 use mathlib.Core.Path.{_≡_}
 use lib.ListN.{length, List·getD-eq-default}
 use borrow.Author.Tests.{ne-eqb}
-use Rattle.scan.specs.Byte.{end, peekAt, isWithin, isHexDigit, isDigitIn}
+use Rattle.byte.specs.Byte.{end, peekAt, isWithin, isHexDigit, isDigitIn}
 use Rattle.tile.specs.declared.Form.the-variants.{Letter, Hex, Octal, Point}
 use Rattle.tile.specs.declared.Tile.the-variants.{Piece, Bad}
 use Rattle.tile.specs.Tile.{noValue, letterValue, numeralFrom, numbered, escapeOf}

@@ -8,8 +8,8 @@ use mathlib.Core.Logic.{_⊎_}
 use mathlib.Core.Path.{_≡_, refl, sym, subst, _∙_}
 use lib.Dec.{eqb}
 use borrow.Author.Tests.{eq-eqb, ne-eqb, eqb-false, not-true}
-use Rattle.scan.specs.Ascii.{ascii}
-use Rattle.scan.specs.Byte.{backslash}
+use Rattle.byte.specs.Ascii.{ascii}
+use Rattle.byte.specs.Byte.{backslash}
 use Rattle.scan.specs.Text.{has, Stands}
 use Rattle.scan.proofs.Tests.{Tests, tests-or, tests-eq, tests-has}
 use Rattle.tile.specs.Tile.{noValue, letterValue}

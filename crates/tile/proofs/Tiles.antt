@@ -11,8 +11,8 @@ use lib.Dec.{eqb}
 use lib.ListN.{length, List·getD-eq-default}
 use lib.Seq.{length-take-le}
 use borrow.Author.Tests.{eqb-false, ne-eqb, not-true}
-use Rattle.scan.specs.Byte.{end, peekAt}
-use Rattle.scan.proofs.Choice.{either}
+use Rattle.byte.specs.Byte.{end, peekAt}
+use Rattle.byte.proofs.Choice.{either}
 use Rattle.utf8.specs.Table.{charLength}
 use Rattle.utf8.specs.Code.{codeOf}
 use Rattle.utf8.specs.declared.Character.the-variants.{Nothing, IllFormed}

@@ -1,6 +1,6 @@
 -- Any two answers that the promise of a public function allows are equal.
 use mathlib.Core.Path.{sym, _∙_}
-use Rattle.scan.proofs.One.{OneAnswer}
+use Rattle.byte.proofs.One.{OneAnswer}
 use Rattle.tile.proofs.is_byte.Kinds as is-byte
 use Rattle.tile.proofs.is_byte.Reads as is-byte-reads
 use Rattle.tile.proofs.unquote_char.Kinds as unquote-char

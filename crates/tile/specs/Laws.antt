@@ -6,8 +6,8 @@ use mathlib.Core.List.{List}
 use mathlib.Core.Logic.{_↔_, _⊎_}
 use mathlib.Core.Path.{_≡_}
 use lib.ListN.{length, drop}
-use Rattle.scan.specs.Ascii.{ascii}
-use Rattle.scan.specs.Byte.{peekAt, backslash}
+use Rattle.byte.specs.Ascii.{ascii}
+use Rattle.byte.specs.Byte.{peekAt, backslash}
 use Rattle.scan.specs.Text.{Stands}
 use Rattle.utf8.specs.Table.{charLength}
 use Rattle.utf8.specs.Code.{isScalar, encoded}

@@ -5,7 +5,7 @@ use Prim.Native.Char.{code}
 use mathlib.Core.Bool.{Bool, true, false, cond, _&&_, not}
 use mathlib.Core.List.{List}
 use lib.Dec.{eqb, leb}
-use Rattle.scan.specs.Byte.{peekAt, backslash, isDigitIn, digitOf}
+use Rattle.byte.specs.Byte.{peekAt, backslash, isDigitIn, digitOf}
 use Rattle.utf8.specs.declared.Character.{Character}
 use Rattle.utf8.specs.declared.Character.the-variants.{Scalar, Nothing, IllFormed}
 use Rattle.utf8.specs.Code.{isScalar}

@@ -89,11 +89,11 @@ fn read_digits(s: &[u8], at: usize, count: usize, radix: usize) -> Numeral
     let mut value = 0;
     let mut i = 0;
     while i < count {
-        let c = scan::peek(s, at + i);
-        if !scan::is_digit_in(radix, c) {
+        let c = byte::peek(s, at + i);
+        if !byte::is_digit_in(radix, c) {
             return Numeral::NotDigits;
         }
-        value = value * radix as u32 + scan::digit_of(c) as u32;
+        value = value * radix as u32 + byte::digit_of(c) as u32;
         i += 1;
     }
     Numeral::Value(value)
@@ -173,7 +173,7 @@ fn begins_escape(quote: u8, c: usize) -> bool
 pub fn unquote_char(s: &[u8], quote: u8) -> Tile
     ensures { λ r. ⌜ r ≡ tileOf quote (now (s .entry)) ⌝ }
 {
-    let first = scan::peek(s, 0);
+    let first = byte::peek(s, 0);
     if first == quote as usize {
         return Tile::Bad;
     }

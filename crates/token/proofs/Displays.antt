@@ -8,7 +8,7 @@ use mathlib.Core.List.{List, [], _∷_}
 use lib.Dec.{leb, ltb, eqb, lit≤}
 use lib.ListN.{length, getD}
 use borrow.Author.Tests.{leb-true, ltb-true, eq-eqb, ne-eqb, eqb-false, not-true}
-use Rattle.scan.proofs.Choice.{either, and-left, and-right}
+use Rattle.byte.proofs.Choice.{either, and-left, and-right}
 use Rattle.token.specs.Display.{Shown, displays, textIn, displayOf, unknown, noEntry, entry, KindsDistinct, KindShown, OtherUnknown}
 use Rattle.token.specs.DisplayRows.{pastKinds, textSize}
 

@@ -10,7 +10,7 @@ use lib.Dec.{eqb}
 use lib.ListN.{length, getD}
 use borrow.Author.Tests.{eqb-true}
 use Rattle.scan.specs.Text.{sameText}
-use Rattle.scan.proofs.Below.{allBelow, below}
+use Rattle.byte.proofs.Below.{allBelow, below}
 use Rattle.scan.proofs.Same.{same-is-equal}
 use Rattle.token.specs.declared.Keyword.the-variants.{Kind, Nothing}
 use Rattle.token.specs.Words.{Entry, word, words, kindIn}

@@ -5,9 +5,9 @@ use mathlib.Core.List.{List, [], _∷_, map}
 use mathlib.Core.Path.{_≡_, refl}
 use lib.Dec.{ltb}
 use borrow.Author.Tests.{ltb-true}
-use Rattle.scan.specs.Byte.{lowered}
+use Rattle.byte.specs.Byte.{lowered}
 use Rattle.scan.specs.Text.{sameText}
-use Rattle.scan.proofs.Choice.{either, and-left, and-right}
+use Rattle.byte.proofs.Choice.{either, and-left, and-right}
 use Rattle.utf8.specs.Text.{codesOf, isWellFormed}
 use Rattle.token.specs.declared.Keyword.{Keyword}
 use Rattle.token.specs.declared.Keyword.the-variants.{Kind, Nothing}

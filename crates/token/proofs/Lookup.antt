@@ -10,9 +10,9 @@ use lib.Dec.{eqb, leb, ltb}
 use lib.ListN.{length, getD, take, length-append, length-map, List·getD-append}
 use lib.Seq.{take-at, drop-at, getD-at, getD-append-add, take-append-le}
 use borrow.Author.Tests.{eq-eqb, ne-eqb, le-ltb, leb-true, ltb-true}
-use Rattle.scan.specs.Byte.{lowered}
+use Rattle.byte.specs.Byte.{lowered}
 use Rattle.scan.specs.Text.{sameText}
-use Rattle.scan.proofs.Choice.{either, and-left, and-right}
+use Rattle.byte.proofs.Choice.{either, and-left, and-right}
 use Rattle.scan.proofs.Same.{same-not}
 use Rattle.utf8.specs.Laws.{isAscii}
 use Rattle.utf8.proofs.Ascii.{by-bytes, lowered-other}

@@ -5,7 +5,7 @@ use mathlib.Core.Path.{_≡_, refl}
 use lib.Dec.{eqb}
 use borrow.Author.Tests.{eqb-true}
 use Rattle.scan.specs.Text.{sameText}
-use Rattle.scan.proofs.Below.{below}
+use Rattle.byte.proofs.Below.{below}
 use Rattle.scan.proofs.Same.{same-is-equal}
 use Rattle.token.specs.Display.{displays, textIn, displayOf}
 use Rattle.token.specs.Words.{words}

@@ -2,13 +2,13 @@
 // their own, and labels. A kind is a number of document 01; every other number has no class and is shown as an unknown token.
 pub mod kinds;
 
-use scan::Class;
+use byte::Class;
 ghost use mathlib.Core.Path.{_≡_};
 ghost use mathlib.Core.List.{map};
 ghost use Prim.Native.Nat.{_≤_};
 ghost use lib.ListN.{length};
 ghost use lib.Seq.{sets};
-ghost use Rattle.scan.specs.Byte.{isWithin, lowered};
+ghost use Rattle.byte.specs.Byte.{isWithin, lowered};
 ghost use Rattle.token.specs.Classes.{isOperator, isComparisonOperator, isSetOperator, isAggregator, isAggregatorWithParam};
 ghost use Rattle.token.specs.Display.{displayOf, fitted, displayed, leftBy};
 ghost use Rattle.token.specs.DisplayRows.{pastKinds, table};
@@ -268,7 +268,7 @@ fn lower_into(word: &[u8], buf: &mut [u8; WIDEST_WORD])
 {
     let mut i = 0;
     while i < word.len() {
-        buf[i] = scan::lowered(word[i] as usize) as u8;
+        buf[i] = byte::lowered(word[i] as usize) as u8;
         i += 1;
     }
 }
@@ -328,5 +328,5 @@ pub fn get_keyword_token(word: &[u8]) -> Keyword
 pub fn is_label(text: &[u8]) -> bool
     ensures { λ r. ⌜ r ≡ isLabel (now (text .entry)) ⌝ }
 {
-    scan::is_alpha(scan::peek(text, 0)) && scan::run_end(Class::AlphaNumeric, text, 1) == text.len()
+    byte::is_alpha(byte::peek(text, 0)) && scan::run_end(Class::AlphaNumeric, text, 1) == text.len()
 }

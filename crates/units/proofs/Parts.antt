@@ -8,9 +8,9 @@ use mathlib.Core.Path.{_≡_, ap}
 use lib.Dec.{leb}
 use lib.ListN.{length}
 use borrow.Author.Tests.{lt-leb, leb-true}
-use Rattle.scan.specs.declared.Class.the-variants.{Digit, Alpha}
-use Rattle.scan.specs.Byte.{isIn}
-use Rattle.scan.proofs.Choice.{either}
+use Rattle.byte.specs.declared.Class.the-variants.{Digit, Alpha}
+use Rattle.byte.specs.Byte.{isIn}
+use Rattle.byte.proofs.Choice.{either}
 use Rattle.scan.proofs.Runs.{run-within}
 use Rattle.span.specs.Unit.{second, year}
 use Rattle.decimal.specs.Value.{mostTold}

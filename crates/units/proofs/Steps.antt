@@ -9,7 +9,7 @@ use mathlib.Core.Path.{_≡_, refl, sym, ap, _∙_}
 use lib.ListN.{length, drop, length-drop}
 use borrow.Author.Tests.{eq-eqb, ne-eqb}
 use lib.Seq.{drop-drop}
-use Rattle.scan.proofs.Choice.{either}
+use Rattle.byte.proofs.Choice.{either}
 use Rattle.span.specs.Unit.{Unit, units, second, year}
 use Rattle.units.specs.declared.Taken.{Taken}
 use Rattle.units.specs.Units.{isPart, partEnd, partValue, behind, sumBy, counted, isUnitText, unitSum}

@@ -1,6 +1,6 @@
 -- Any two answers that the promise of the public function allows are equal: both equal the definition.
 use mathlib.Core.Path.{sym, _∙_}
-use Rattle.scan.proofs.One.{OneAnswer}
+use Rattle.byte.proofs.One.{OneAnswer}
 use Rattle.units.proofs.read_units.Kinds as read-units
 use Rattle.units.proofs.read_units.Reads as read-units-reads
 

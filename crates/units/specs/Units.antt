@@ -6,8 +6,8 @@ use mathlib.Core.Bool.{Bool, cond, _&&_}
 use mathlib.Core.List.{List, [], _∷_}
 use lib.Dec.{eqb, leb, ltb}
 use lib.ListN.{length, take, drop}
-use Rattle.scan.specs.declared.Class.the-variants.{Digit, Alpha}
-use Rattle.scan.specs.Byte.{isIn}
+use Rattle.byte.specs.declared.Class.the-variants.{Digit, Alpha}
+use Rattle.byte.specs.Byte.{isIn}
 use Rattle.scan.specs.Run.{runEnd}
 use Rattle.scan.specs.Text.{sameText}
 use Rattle.span.specs.Unit.{Unit, units, second, nanosAMilli}

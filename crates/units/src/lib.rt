@@ -1,6 +1,6 @@
 // Unit texts, as `1d12h`: numbers of years, weeks, days, hours, minutes, seconds and milliseconds, each at most once and in this order.
+use byte::Class;
 use decimal::Notation;
-use scan::Class;
 use span::Duration;
 ghost use mathlib.Core.Path.{_≡_};
 ghost use Prim.Native.Nat.{_+_, _*_, _^_, _≤_};

@@ -9,10 +9,10 @@ use mathlib.Core.Path.{_≡_, refl, sym, ap, _∙_}
 use lib.Dec.{eqb, ltb}
 use lib.ListN.{length, replicate}
 use borrow.Author.Tests.{ltb-true, lt-ltb, le-ltb, eq-eqb, ne-eqb}
-use Rattle.scan.specs.Byte.{lowered}
+use Rattle.byte.specs.Byte.{lowered}
 use Rattle.scan.specs.Text.{sameText}
-use Rattle.scan.proofs.Choice.{either, and-left, and-right}
-use Rattle.scan.proofs.Classes.{lowered-above}
+use Rattle.byte.proofs.Choice.{either, and-left, and-right}
+use Rattle.byte.proofs.Classes.{lowered-above}
 use Rattle.utf8.specs.Table.{tail, fits, charLength}
 use Rattle.utf8.specs.Lead.{sizeBy}
 use Rattle.utf8.specs.Code.{codeOf}

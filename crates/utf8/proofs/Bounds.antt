@@ -19,8 +19,8 @@ use Rattle.utf8.specs.Code.{codeOf, isScalar, encoded}
 use Rattle.utf8.specs.Text.{Char, charsOf, sizeOf, prefixEnd, begunIn, charNumber}
 use Rattle.utf8.specs.Laws.{ByteScalar, FirstCharacter, AsciiAt, FewBytes, StandsAt, CharacterStands}
 use Rattle.utf8.specs.Answers.{validityOf, admittedAs, admitted, characterAt}
-use Rattle.scan.specs.Byte.{end, peekAt}
-use Rattle.scan.proofs.Choice.{either}
+use Rattle.byte.specs.Byte.{end, peekAt}
+use Rattle.byte.proofs.Choice.{either}
 use Rattle.scan.proofs.Runs.{peek-inside}
 use Rattle.utf8.proofs.Chars.{char-bound, chars-some}
 use Rattle.utf8.proofs.Texts.{Filled, filled, prefix-bound}

@@ -6,9 +6,9 @@ use mathlib.Core.List.{List, [], _∷_, _++_}
 use mathlib.Core.Path.{_≡_}
 use lib.ListN.{length, length-append, List·getD-append}
 use lib.Seq.{getD-append-add}
-use Rattle.scan.specs.Byte.{end, peekAt}
+use Rattle.byte.specs.Byte.{end, peekAt}
 use Rattle.scan.specs.Edge.{Bytes}
-use Rattle.scan.proofs.Classes.{within-bounds}
+use Rattle.byte.proofs.Classes.{within-bounds}
 use Rattle.utf8.specs.Table.{charLength}
 use Rattle.utf8.specs.Lead.{sizeBy}
 use Rattle.utf8.specs.Text.{WellFormed}

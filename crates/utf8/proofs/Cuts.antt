@@ -10,7 +10,7 @@ use mathlib.Core.Path.{_≡_, refl, sym, ap, _∙_}
 use lib.ListN.{length, take, drop, length-append, length-take, length-drop, take-append-drop, List·getD-append}
 use lib.Seq.{take-append-add, drop-append-add, length-take-le, take-length, getD-append-add}
 use borrow.Author.Tests.{ne-eqb}
-use Rattle.scan.specs.Byte.{end, peekAt}
+use Rattle.byte.specs.Byte.{end, peekAt}
 use Rattle.utf8.specs.Table.{isTail, charLength}
 use Rattle.utf8.specs.Text.{Char, charOf, charsPast, charsOf, sizeOf, WellFormed, startOf, begunIn, charNumber}
 use Rattle.utf8.specs.Laws.{Longest, Cut, TextCut, Boundary, AsciiBoundary}

@@ -7,7 +7,7 @@ use mathlib.Core.List.{List}
 use mathlib.Core.Path.{_≡_}
 use lib.ListN.{length}
 use borrow.Author.Tests.{eq-eqb, ne-eqb, lt-ltb, le-ltb}
-use Rattle.scan.proofs.Choice.{told}
+use Rattle.byte.proofs.Choice.{told}
 use Rattle.utf8.specs.declared.Admission.{Admission}
 use Rattle.utf8.specs.declared.Admission.the-variants.{Admitted, Refused}
 use Rattle.utf8.specs.Text.{charsOf, prefixEnd, WellFormed}

@@ -11,9 +11,9 @@ use lib.Dec.{leb, ltb, eqb}
 use lib.ListN.{length, take, length-append}
 use lib.Seq.{length-take-le, take-length}
 use borrow.Author.Tests.{le-leb, lt-leb, lt-ltb, le-ltb, eqb-true, leb-true, leb-false, ltb-true}
-use Rattle.scan.specs.Byte.{isWithin}
-use Rattle.scan.proofs.Classes.{within-yes, within-bounds}
-use Rattle.scan.proofs.Choice.{either, and-left, and-right}
+use Rattle.byte.specs.Byte.{isWithin}
+use Rattle.byte.proofs.Classes.{within-yes, within-bounds}
+use Rattle.byte.proofs.Choice.{either, and-left, and-right}
 use Rattle.utf8.specs.declared.Character.the-variants.{Scalar, IllFormed}
 use Rattle.utf8.specs.Table.{tail, isTail, fits, charLength}
 use Rattle.utf8.specs.Lead.{sizeBy, lowSecond, highSecond, withTails}

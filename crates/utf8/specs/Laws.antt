@@ -9,7 +9,7 @@ use lib.Dec.{ltb}
 use lib.ListN.{length, take, drop}
 use Rattle.utf8.specs.declared.Character.{Character}
 use Rattle.utf8.specs.declared.Character.the-variants.{Scalar, Nothing, IllFormed}
-use Rattle.scan.specs.Byte.{peekAt, lowered}
+use Rattle.byte.specs.Byte.{peekAt, lowered}
 use Rattle.scan.specs.Edge.{Bytes}
 use Rattle.scan.specs.Text.{sameText}
 use Rattle.utf8.specs.Table.{isTail, charLength}

@@ -4,7 +4,7 @@ use Prim.Native.Nat.{ℕ}
 use mathlib.Core.Bool.{cond}
 use mathlib.Core.List.{List}
 use lib.Dec.{eqb, leb}
-use Rattle.scan.specs.Byte.{peekAt}
+use Rattle.byte.specs.Byte.{peekAt}
 use Rattle.utf8.specs.Table.{isTail}
 
 unfoldable pub sizeBy : ℕ → ℕ

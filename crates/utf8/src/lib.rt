@@ -103,7 +103,7 @@ fn high_second(a: usize) -> u8
 fn is_tail(c: usize) -> bool
     ensures { λ r. ⌜ r ≡ isTail c ⌝ }
 {
-    scan::is_within(0x80, 0xbf, c)
+    byte::is_within(0x80, 0xbf, c)
 }
 
 // The size n of a character where its third byte and its fourth, so far as it has them, go on with it, else 0.
@@ -113,25 +113,25 @@ fn with_tails(n: usize, s: &[u8]) -> usize
     if n <= 2 {
         return n;
     }
-    if !is_tail(scan::peek(s, 2)) {
+    if !is_tail(byte::peek(s, 2)) {
         return 0;
     }
     if n <= 3 {
         return n;
     }
-    if is_tail(scan::peek(s, 3)) { n } else { 0 }
+    if is_tail(byte::peek(s, 3)) { n } else { 0 }
 }
 
 // The length of the character that s begins with, or 0 where none does.
 fn char_length(s: &[u8]) -> usize
     ensures { λ r. ⌜ r ≡ charLength (now (s .entry)) ⌝ }
 {
-    let a = scan::peek(s, 0);
+    let a = byte::peek(s, 0);
     let n = size_by(a);
     if n <= 1 {
         return n;
     }
-    if scan::is_within(low_second(a), high_second(a), scan::peek(s, 1)) {
+    if byte::is_within(low_second(a), high_second(a), byte::peek(s, 1)) {
         with_tails(n, s)
     } else {
         0
@@ -212,19 +212,19 @@ pub fn char_number(text: &[u8], to: ByteOffset) -> CharNumber
 fn code_of(s: &[u8], n: usize) -> u32
     ensures { λ r. ⌜ r ≡ codeOf n (now (s .entry)) ⌝ }
 {
-    let a = scan::peek(s, 0);
+    let a = byte::peek(s, 0);
     if n <= 1 {
         return (a % 128) as u32;
     }
-    let b = scan::peek(s, 1);
+    let b = byte::peek(s, 1);
     if n <= 2 {
         return (a % 32 * 64 + b % 64) as u32;
     }
-    let c = scan::peek(s, 2);
+    let c = byte::peek(s, 2);
     if n <= 3 {
         return ((a % 16 * 64 + b % 64) * 64 + c % 64) as u32;
     }
-    let d = scan::peek(s, 3);
+    let d = byte::peek(s, 3);
     (((a % 8 * 64 + b % 64) * 64 + c % 64) * 64 + d % 64) as u32
 }
 

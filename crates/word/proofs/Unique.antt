@@ -1,6 +1,6 @@
 -- Any two answers that the promise of a public function allows are equal: both equal the definition.
 use mathlib.Core.Path.{sym, _∙_}
-use Rattle.scan.proofs.One.{OneAnswer}
+use Rattle.byte.proofs.One.{OneAnswer}
 use Rattle.word.proofs.rule_by.Kinds as rule-by
 use Rattle.word.proofs.rule_by.Reads as rule-by-reads
 use Rattle.word.proofs.brace_rule.Kinds as brace-rule

@@ -10,8 +10,8 @@ use mathlib.Core.Path.{_≡_, refl, sym, _∙_}
 use lib.Dec.{eqb}
 use lib.ListN.{length, take, length-map, List·getD-eq-default}
 use lib.Seq.{length-take-le}
-use Rattle.scan.specs.Ascii.{ascii}
-use Rattle.scan.specs.Byte.{end, peekAt, isWithin, lowered}
+use Rattle.byte.specs.Ascii.{ascii}
+use Rattle.byte.specs.Byte.{end, peekAt, isWithin, lowered}
 use Rattle.scan.specs.Text.{sameText}
 use Rattle.scan.proofs.Same.{same-not}
 use Rattle.word.specs.Word.{isOr}

@@ -5,9 +5,9 @@ use mathlib.Core.Bool.{Bool, cond, _&&_}
 use mathlib.Core.List.{List, map}
 use lib.Dec.{eqb}
 use lib.ListN.{take}
-use Rattle.scan.specs.declared.Class.the-variants.{Space}
-use Rattle.scan.specs.Ascii.{ascii}
-use Rattle.scan.specs.Byte.{peekAt, isWithin, lowered, isIn}
+use Rattle.byte.specs.declared.Class.the-variants.{Space}
+use Rattle.byte.specs.Ascii.{ascii}
+use Rattle.byte.specs.Byte.{peekAt, isWithin, lowered, isIn}
 use Rattle.scan.specs.Run.{runEnd}
 use Rattle.scan.specs.Text.{sameText, has}
 use Rattle.token.specs.declared.Keyword.{Keyword}

@@ -1,5 +1,5 @@
 // The rule that gives a word its kind. A word is the first n bytes of those that are left.
-use scan::Class;
+use byte::Class;
 use token::Keyword;
 use token::kinds;
 ghost use mathlib.Core.Path.{_≡_};
@@ -57,7 +57,7 @@ pub fn rule_by(own: Keyword, s: &[u8], n: usize) -> Rule
     if !is_fill(kind) {
         return Rule::Table(kind);
     }
-    if scan::peek(s, past_white(s, n)) == b'(' as usize {
+    if byte::peek(s, past_white(s, n)) == b'(' as usize {
         return Rule::FillCalled(kind);
     }
     Rule::FillAlone
@@ -70,9 +70,9 @@ fn is_or(s: &[u8], n: usize) -> bool
     if n != OR_LENGTH {
         return false;
     }
-    scan::lowered(scan::peek(s, 0)) == b'o' as usize
-        && (scan::lowered(scan::peek(s, 1)) == b'r' as usize
-            && scan::peek(s, OR_LENGTH) == b' ' as usize)
+    byte::lowered(byte::peek(s, 0)) == b'o' as usize
+        && (byte::lowered(byte::peek(s, 1)) == b'r' as usize
+            && byte::peek(s, OR_LENGTH) == b' ' as usize)
 }
 
 // The rule of a word in braces.

@@ -8,8 +8,8 @@ use lib.Ieee.{Float, inf, nan}
 use lib.ListN.{length, take, drop}
 use denote.Ref.{now}
 use borrow.Author.Tests.{lt-ltb, not-true, not-false}
-use Rattle.scan.specs.Ascii.{ascii}
-use Rattle.scan.specs.Byte.{lowered}
+use Rattle.byte.specs.Ascii.{ascii}
+use Rattle.byte.specs.Byte.{lowered}
 use Rattle.scan.specs.Text.{sameText}
 use Rattle.utf8.proofs.Chars.{rest-of}
 use Rattle.decimal.specs.declared.Decimal.the-variants.{NotDecimal, Named}

@@ -4,7 +4,7 @@ use mathlib.Core.Path.{sym, subst, _∙_}
 use native.Mathlib.Omega.{arith}
 use Prim.Native.Nat.{ℕ}
 use denote.Ref.{now}
-use Rattle.scan.specs.Ascii.{ascii}
+use Rattle.byte.specs.Ascii.{ascii}
 use Rattle.display.specs.Steps.{Shows}
 use Rattle.display.proofs.Steps.{shows-text, text-zero}
 use borrow.Author.Needs.{needs}

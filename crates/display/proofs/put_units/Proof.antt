@@ -6,7 +6,7 @@ use mathlib.Core.Path.{_≡_, refl, sym, ap, _∙_}
 use native.Mathlib.Omega.{arith}
 use lib.ListN.{length, take, drop}
 use denote.Ref.{now}
-use Rattle.scan.specs.Ascii.{ascii}
+use Rattle.byte.specs.Ascii.{ascii}
 use Rattle.span.specs.Unit.{unit, milli}
 use Rattle.display.specs.declared.Left.{Left}
 use Rattle.display.specs.Display.{row, rows, counted, partOf, millisOf, textOf}

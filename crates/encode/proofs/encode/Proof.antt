@@ -12,7 +12,7 @@ use lib.Seq.{sets-eq}
 use Rattle.encode.specs.declared.Encoding.the-variants.{NotScalar, NoRoom}
 use Rattle.utf8.specs.Code.{isScalar, encoded}
 use Rattle.encode.specs.Answers.{encodingOf}
-use Rattle.scan.proofs.Choice.{and-left}
+use Rattle.byte.proofs.Choice.{and-left}
 use Rattle.encode.proofs.Bounds.{encoding-fits}
 use Rattle.encode.proofs.encode.Statement.{statement}
 use Rattle.encode.proofs.encode.Tie as tie

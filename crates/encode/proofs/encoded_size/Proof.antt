@@ -1,5 +1,5 @@
 -- `encode::encoded_size` meets its contract: each way out knows which line of the definition the code point is in.
-use Rattle.scan.proofs.Ways.{ways}
+use Rattle.byte.proofs.Ways.{ways}
 use Rattle.utf8.specs.Code.{encoded}
 use Rattle.encode.proofs.encoded_size.Statement.{statement}
 use Rattle.encode.proofs.encoded_size.Tie as tie

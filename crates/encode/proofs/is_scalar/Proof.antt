@@ -1,5 +1,5 @@
 -- `encode::is_scalar` meets its contract: each way out knows what the tests before it said.
-use Rattle.scan.proofs.Ways.{ways}
+use Rattle.byte.proofs.Ways.{ways}
 use Rattle.utf8.specs.Code.{isScalar}
 use Rattle.encode.proofs.is_scalar.Statement.{statement}
 use Rattle.encode.proofs.is_scalar.Tie as tie

@@ -6,7 +6,7 @@ use mathlib.Core.Path.{_≡_, refl, sym, ap, _∙_}
 use lib.ListN.{length, length-set}
 use denote.Ref.{now}
 use borrow.Author.Needs.{needs}
-use Rattle.scan.specs.Byte.{backslash}
+use Rattle.byte.specs.Byte.{backslash}
 use Rattle.escape.specs.Escape.{letterOf}
 use Rattle.escape.specs.Bytes.{escapedByte}
 use Rattle.escape.proofs.Escapes.{copied, lettered}

@@ -1,5 +1,5 @@
 -- The test is that of the definition.
-use Rattle.scan.proofs.Ways.{ways}
+use Rattle.byte.proofs.Ways.{ways}
 use Rattle.exports_string.specs.String.{readingOf}
 use Rattle.exports_string.proofs.reading_of.Statement.{statement}
 use Rattle.exports_string.proofs.reading_of.Tie as tie

@@ -1,6 +1,6 @@
 -- The two layouts are those of the definition, and there is room for three numbers and a space.
 use Rattle.listing.proofs.Puts.{puts, puts-on}
-use Rattle.scan.specs.Ascii.{ascii}
+use Rattle.byte.specs.Ascii.{ascii}
 use native.Mathlib.Omega.{arith}
 use borrow.Author.Needs.{needs}
 use Rattle.listing.proofs.spell_lexeme.Statement.{statement}

@@ -2,7 +2,7 @@
 use native.Mathlib.Omega.{arith}
 use mathlib.Core.Path.{_≡_, sym, ap, subst, _∙_}
 use denote.Ref.{now}
-use Rattle.scan.specs.Byte.{peekAt, isAlpha}
+use Rattle.byte.specs.Byte.{peekAt, isAlpha}
 use Rattle.scan.proofs.Edges.{ascii-inside, alpha-ascii}
 use Rattle.lead.specs.declared.BraceLead.{BraceLead}
 use Rattle.lead.specs.Lead.{braceLeadOf}

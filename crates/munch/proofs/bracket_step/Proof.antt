@@ -1,7 +1,7 @@
 -- Each arm is the clause of the definition for what begins here.
 use mathlib.Core.Path.{_≡_, sym, ap, _∙_}
 use denote.Ref.{now}
-use Rattle.scan.specs.Byte.{peekAt}
+use Rattle.byte.specs.Byte.{peekAt}
 use Rattle.lead.specs.declared.BracketLead.{BracketLead}
 use Rattle.lead.specs.Lead.{bracketLeadOf}
 use Rattle.munch.specs.Munch.{bracketStep}

@@ -2,7 +2,7 @@
 use native.Mathlib.Omega.{arith}
 use mathlib.Core.Path.{_≡_, sym, ap, subst, _∙_}
 use denote.Ref.{now}
-use Rattle.scan.specs.Byte.{peekAt}
+use Rattle.byte.specs.Byte.{peekAt}
 use Rattle.scan.proofs.Edges.{ascii-inside}
 use Rattle.token.specs.WordRows.{keywordIn}
 use Rattle.lead.specs.declared.Lead.{Lead}

@@ -5,8 +5,8 @@ use native.Mathlib.Omega.{arith}
 use mathlib.Core.Path.{_≡_, sym, ap, ap₂, subst, _∙_}
 use denote.Ref.{now}
 use lib.ListN.{drop, length-drop}
-use Rattle.scan.specs.Byte.{end, peekAt}
-use Rattle.scan.proofs.Classes.{getD-any}
+use Rattle.byte.specs.Byte.{end, peekAt}
+use Rattle.byte.proofs.Classes.{getD-any}
 use Rattle.scan.proofs.Edges.{edge-within}
 use Rattle.utf8.proofs.Chars.{rest-of}
 use Rattle.token.specs.Kinds.{string}

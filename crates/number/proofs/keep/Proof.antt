@@ -11,8 +11,8 @@ use types.Run.{OneOf}
 use denote.Enum.Declared.{tagOf}
 use denote.Ref.{now}
 use borrow.Author.Needs.{needs}
-use Rattle.scan.specs.Byte.{end, peekAt}
-use Rattle.scan.proofs.Classes.{getD-any}
+use Rattle.byte.specs.Byte.{end, peekAt}
+use Rattle.byte.proofs.Classes.{getD-any}
 use Rattle.scan.proofs.Stores.{sets-join}
 use Rattle.utf8.specs.declared.Character.{Character}
 use Rattle.utf8.specs.declared.Character.the-variants.{Scalar, Nothing, IllFormed}

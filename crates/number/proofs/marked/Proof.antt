@@ -10,7 +10,7 @@ use lib.Dec.{eqb}
 use lib.ListN.{length, drop}
 use denote.Ref.{now}
 use borrow.Author.Tests.{eq-eqb, ne-eqb, not-true, not-false}
-use Rattle.scan.specs.Byte.{peekAt}
+use Rattle.byte.specs.Byte.{peekAt}
 use Rattle.scan.proofs.Runs.{peek-inside}
 use Rattle.utf8.proofs.Chars.{rest-of}
 use Rattle.decimal.specs.declared.Notation.the-variants.{Hex, Octal}

@@ -10,7 +10,7 @@ use types.Run.{OneOf}
 use denote.Enum.Declared.{tagOf}
 use denote.Ref.{now}
 use borrow.Author.Needs.{needs}
-use Rattle.scan.specs.Byte.{lowered}
+use Rattle.byte.specs.Byte.{lowered}
 use Rattle.encode.specs.declared.Encoding.{Encoding}
 use Rattle.encode.specs.declared.Encoding.the-variants.{Written}
 use Rattle.utf8.specs.Code.{isScalar, encoded}

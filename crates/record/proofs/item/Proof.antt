@@ -6,7 +6,7 @@ use native.Mathlib.Omega.{arith}
 use lib.ListN.{length}
 use borrow.Author.Tests.{eq-eqb, ne-eqb}
 use Rattle.record.specs.Hex.{hexed, paired}
-use Rattle.scan.proofs.Classes.{digit-bound}
+use Rattle.byte.proofs.Classes.{digit-bound}
 use Rattle.record.proofs.Hex.{hexed-length, hexed-at, paired-length, paired-at}
 use borrow.Author.Needs.{needs}
 use Rattle.record.proofs.item.Statement.{statement}

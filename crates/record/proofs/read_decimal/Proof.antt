@@ -1,7 +1,7 @@
 -- The invariant: the value of the text is that of what is left after the digits read. A value above the largest stays above it.
 use Rattle.record.proofs.Decimals.{value-turn, value-out, value-grows}
 use Rattle.record.specs.Decimal.{valueFrom, valueOf, isDecimal, decimalRead}
-use Rattle.scan.proofs.Classes.{digit-bound}
+use Rattle.byte.proofs.Classes.{digit-bound}
 use denote.Ref.{now}
 use lib.ListN.{length, drop}
 use borrow.Author.Tests.{eq-eqb, ne-eqb, lt-ltb, le-ltb}

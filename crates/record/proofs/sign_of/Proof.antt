@@ -1,6 +1,6 @@
 -- The test is the one of the definition.
 use Rattle.record.specs.Digit.{signOf}
-use Rattle.scan.proofs.Ways.{ways}
+use Rattle.byte.proofs.Ways.{ways}
 use borrow.Author.Needs.{needs}
 use Rattle.record.proofs.sign_of.Statement.{statement}
 use Rattle.record.proofs.sign_of.Tie as tie

@@ -13,7 +13,7 @@ use denote.Enum.Declared.{tagOf}
 use denote.Ref.{now}
 use lib.Dec.{leb}
 use borrow.Author.Tests.{leb-true}
-use Rattle.scan.proofs.Choice.{told}
+use Rattle.byte.proofs.Choice.{told}
 use Rattle.encode.specs.declared.Encoding.{Encoding}
 use Rattle.encode.specs.declared.Encoding.the-variants.{Written, NotScalar, NoRoom}
 use Rattle.utf8.specs.declared.Reading.{Reading}

@@ -5,8 +5,8 @@ use mathlib.Core.List.{List}
 use mathlib.Core.Path.{_≡_, sym, ap, _∙_}
 use lib.ListN.{getD}
 use denote.Ref.{now}
-use Rattle.scan.specs.Byte.{end, peekAt}
-use Rattle.scan.proofs.Classes.{getD-any}
+use Rattle.byte.specs.Byte.{end, peekAt}
+use Rattle.byte.proofs.Classes.{getD-any}
 use Rattle.tile.specs.Tile.{noValue, letterValue, numbered}
 use borrow.Author.Needs.{needs}
 use Rattle.tile.proofs.Forms.{none, letter, hex, short, long, octal}

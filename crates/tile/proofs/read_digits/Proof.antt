@@ -7,8 +7,8 @@ use mathlib.Core.Path.{_≡_, sym, ap, _∙_}
 use denote.Ref.{now}
 use borrow.Author.Needs.{needs}
 use borrow.Author.Tests.{not-true, not-false}
-use Rattle.scan.specs.Byte.{peekAt, digitOf, isDigitIn}
-use Rattle.scan.proofs.Classes.{digit-bound}
+use Rattle.byte.specs.Byte.{peekAt, digitOf, isDigitIn}
+use Rattle.byte.proofs.Classes.{digit-bound}
 use Rattle.tile.specs.Tile.{numeralFrom}
 use Rattle.tile.proofs.Digits.{fits, grown, digits-on, digits-stop, digits-out}
 use Rattle.tile.proofs.read_digits.Statement.{statement}

@@ -9,8 +9,8 @@ use lib.ListN as listn
 use lib.Seq.{length-take-le}
 use denote.Ref.{now}
 use borrow.Author.Tests.{lt-ltb, le-ltb, not-true, not-false}
-use Rattle.scan.specs.declared.Class.the-variants.{Digit, Alpha}
-use Rattle.scan.specs.Byte.{isIn}
+use Rattle.byte.specs.declared.Class.the-variants.{Digit, Alpha}
+use Rattle.byte.specs.Byte.{isIn}
 use Rattle.scan.specs.Run.{runEnd}
 use Rattle.scan.specs.Text.{sameText}
 use Rattle.utf8.proofs.Chars.{rest-of}

@@ -1,5 +1,5 @@
 -- `utf8::high_second` meets its contract: each arm knows its byte.
-use Rattle.scan.proofs.Ways.{ways}
+use Rattle.byte.proofs.Ways.{ways}
 use Rattle.utf8.specs.Lead.{highSecond}
 use Rattle.utf8.proofs.high_second.Statement.{statement}
 use Rattle.utf8.proofs.high_second.Tie as tie

@@ -1,6 +1,6 @@
 -- Each way out knows what the two tests said.
-use Rattle.scan.proofs.Ways.{ways}
-use Rattle.scan.specs.Byte.{isWithin}
+use Rattle.byte.proofs.Ways.{ways}
+use Rattle.byte.specs.Byte.{isWithin}
 use Rattle.word.specs.Word.{isFill}
 use Rattle.word.proofs.is_fill.Statement.{statement}
 use Rattle.word.proofs.is_fill.Tie as tie

@@ -5,7 +5,7 @@ use mathlib.Core.Path.{_≡_, sym, ap, _∙_}
 use lib.Dec.{eqb}
 use borrow.Author.Tests.{eq-eqb, ne-eqb}
 use denote.Ref.{now}
-use Rattle.scan.specs.Byte.{peekAt, lowered}
+use Rattle.byte.specs.Byte.{peekAt, lowered}
 use Rattle.word.specs.Word.{isOr}
 use Rattle.word.proofs.Words.{or-letters, or-other}
 use borrow.Author.Needs.{needs}

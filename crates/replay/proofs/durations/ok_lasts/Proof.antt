@@ -2,7 +2,7 @@
 use Rattle.listing.specs.Listing.{numbered}
 use Rattle.replay.proofs.Pieces.{past-text, says-text, says-on}
 use Rattle.replay.specs.Durations.{lastsAnswer}
-use Rattle.scan.specs.Ascii.{ascii}
+use Rattle.byte.specs.Ascii.{ascii}
 use native.Mathlib.Omega.{arith}
 use borrow.Author.Needs.{needs}
 use Rattle.replay.proofs.durations.ok_lasts.Statement.{statement}

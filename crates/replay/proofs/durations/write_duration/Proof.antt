@@ -4,7 +4,7 @@ use Rattle.replay.proofs.Writes.{written-front}
 use Rattle.replay.specs.Durations.{displayingAnswer}
 use Rattle.display.specs.Display.{textOf, leftBy}
 use Rattle.display.specs.Laws.{longest}
-use Rattle.scan.specs.Ascii.{ascii}
+use Rattle.byte.specs.Ascii.{ascii}
 use denote.Ref.{now}
 use lib.Seq.{length-take-le}
 use lib.ListN.{length, take}

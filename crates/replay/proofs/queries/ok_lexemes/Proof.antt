@@ -4,7 +4,7 @@ use Rattle.replay.proofs.Lexemes.{says-more, says-all}
 use Rattle.replay.specs.Lines.{Says}
 use Rattle.listing.specs.declared.Layout.the-variants.{Field}
 use Rattle.listing.specs.Listing.{longestLexeme, lexemesText, zipped}
-use Rattle.scan.specs.Ascii.{ascii}
+use Rattle.byte.specs.Ascii.{ascii}
 use mathlib.Core.Path.{_≡_, refl}
 use mathlib.Core.List.{_++_}
 use lib.ListN.{length, take}

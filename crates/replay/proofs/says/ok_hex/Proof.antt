@@ -1,7 +1,7 @@
 -- Each piece stands behind those before it, and there is room for all.
 use Rattle.replay.proofs.Pieces.{past-text, says-text, says-on}
 use Rattle.record.specs.Hex.{hexText}
-use Rattle.scan.specs.Ascii.{ascii}
+use Rattle.byte.specs.Ascii.{ascii}
 use mathlib.Core.List.{_++_}
 use lib.ListN.{length, length-append}
 use denote.Ref.{now}

@@ -1,7 +1,7 @@
 -- The number stands behind `ok `, and there is room for it.
 use Rattle.listing.specs.Listing.{numbered}
 use Rattle.replay.proofs.Pieces.{past-text, says-text, says-on}
-use Rattle.scan.specs.Ascii.{ascii}
+use Rattle.byte.specs.Ascii.{ascii}
 use native.Mathlib.Omega.{arith}
 use borrow.Author.Needs.{needs}
 use Rattle.replay.proofs.says.ok_number.Statement.{statement}

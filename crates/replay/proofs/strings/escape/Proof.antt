@@ -5,7 +5,7 @@ use Rattle.replay.specs.Sizes.{mostRoom}
 use Rattle.replay.specs.Strings.{escapingAnswer}
 use Rattle.escape.proofs.Bounds.{escaping-bound}
 use Rattle.escape.specs.Escape.{escaped, leftBy}
-use Rattle.scan.specs.Ascii.{ascii}
+use Rattle.byte.specs.Ascii.{ascii}
 use denote.Ref.{now}
 use lib.Seq.{length-take-le}
 use lib.ListN.{length, take}

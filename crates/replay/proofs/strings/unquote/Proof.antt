@@ -6,7 +6,7 @@ use Rattle.replay.specs.Lines.{hexLine}
 use Rattle.replay.specs.Strings.{unquotingAnswer}
 use Rattle.string.specs.Laws.{isRead}
 use Rattle.string.specs.Literal.{unquoted}
-use Rattle.scan.specs.Ascii.{ascii}
+use Rattle.byte.specs.Ascii.{ascii}
 use denote.Ref.{now}
 use lib.ListN.{length}
 use mathlib.Core.Path.{_≡_, _∙_}

@@ -1,6 +1,6 @@
 -- The test is the one of the definition.
 use Rattle.replay.specs.Tokens.{flagOf}
-use Rattle.scan.proofs.Ways.{ways}
+use Rattle.byte.proofs.Ways.{ways}
 use Rattle.replay.proofs.tokens.flag.Statement.{statement}
 use Rattle.replay.proofs.tokens.flag.Tie as tie
 

@@ -1,9 +1,9 @@
--- `scan::is_digit_in` meets its contract: each way out knows what the two tests said.
+-- `byte::is_digit_in` meets its contract: each way out knows what the two tests said.
 use borrow.Author.Needs.{needs}
 use mathlib.Core.Path.{_≡_}
-use Rattle.scan.specs.Byte.{isHexDigit, isDigitIn}
-use Rattle.scan.proofs.is_digit_in.Statement.{statement}
-use Rattle.scan.proofs.is_digit_in.Tie as tie
+use Rattle.byte.specs.Byte.{isHexDigit, isDigitIn}
+use Rattle.byte.proofs.is_digit_in.Statement.{statement}
+use Rattle.byte.proofs.is_digit_in.Tie as tie
 
 is-hex-digit-requires : tie.Need-is-hex-digit-requires
 is-hex-digit-requires c κs = search needs

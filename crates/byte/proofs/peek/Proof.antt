@@ -1,13 +1,13 @@
--- `scan::peek` meets its contract: within the slice the default of a read does not matter, and past it the read is the default.
+-- `byte::peek` meets its contract: within the slice the default of a read does not matter, and past it the read is the default.
 use native.Mathlib.Omega.{arith}
 use mathlib.Core.Path.{sym}
 use borrow.Author.Needs.{needs}
 use denote.Ref.{now}
 use lib.ListN.{List·getD-eq-default}
-use Rattle.scan.specs.Byte.{end}
-use Rattle.scan.proofs.Classes.{getD-any}
-use Rattle.scan.proofs.peek.Statement.{statement}
-use Rattle.scan.proofs.peek.Tie as tie
+use Rattle.byte.specs.Byte.{end}
+use Rattle.byte.proofs.Classes.{getD-any}
+use Rattle.byte.proofs.peek.Statement.{statement}
+use Rattle.byte.proofs.peek.Tie as tie
 
 shared-slice-read-result : tie.Need-shared-slice-read-result
 shared-slice-read-result c = search needs

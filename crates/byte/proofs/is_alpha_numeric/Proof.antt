@@ -1,8 +1,8 @@
--- `scan::is_alpha_numeric` meets its contract: each way out knows what the tests before it said.
-use Rattle.scan.specs.Byte.{isAlphaNumeric}
+-- `byte::is_alpha_numeric` meets its contract: each way out knows what the tests before it said.
+use Rattle.byte.specs.Byte.{isAlphaNumeric}
 use borrow.Author.Needs.{needs}
-use Rattle.scan.proofs.is_alpha_numeric.Statement.{statement}
-use Rattle.scan.proofs.is_alpha_numeric.Tie as tie
+use Rattle.byte.proofs.is_alpha_numeric.Statement.{statement}
+use Rattle.byte.proofs.is_alpha_numeric.Tie as tie
 
 is-alpha-requires : tie.Need-is-alpha-requires
 is-alpha-requires c κs = search needs

@@ -1,8 +1,8 @@
--- `scan::is_space` meets its contract: each way out knows what the tests before it said.
-use Rattle.scan.proofs.Ways.{ways}
-use Rattle.scan.specs.Byte.{isSpace}
-use Rattle.scan.proofs.is_space.Statement.{statement}
-use Rattle.scan.proofs.is_space.Tie as tie
+-- `byte::is_space` meets its contract: each way out knows what the tests before it said.
+use Rattle.byte.proofs.Ways.{ways}
+use Rattle.byte.specs.Byte.{isSpace}
+use Rattle.byte.proofs.is_space.Statement.{statement}
+use Rattle.byte.proofs.is_space.Tie as tie
 
 returns : tie.Need-returns
 unfolding isSpace

@@ -1,12 +1,12 @@
--- `scan::lowered` meets its contract: each way out knows whether the letter is a capital, which leaves room for what is added.
+-- `byte::lowered` meets its contract: each way out knows whether the letter is a capital, which leaves room for what is added.
 use Prim.Native.Char.{code}
 use native.Mathlib.Omega.{arith}
 use mathlib.Core.Path.{sym, _∙_}
-use Rattle.scan.proofs.Classes.{within-bounds}
-use Rattle.scan.specs.Byte.{lowered}
+use Rattle.byte.proofs.Classes.{within-bounds}
+use Rattle.byte.specs.Byte.{lowered}
 use borrow.Author.Needs.{needs}
-use Rattle.scan.proofs.lowered.Statement.{statement}
-use Rattle.scan.proofs.lowered.Tie as tie
+use Rattle.byte.proofs.lowered.Statement.{statement}
+use Rattle.byte.proofs.lowered.Tie as tie
 
 is-within-requires : tie.Need-is-within-requires
 is-within-requires c κs = search needs

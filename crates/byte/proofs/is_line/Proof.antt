@@ -1,8 +1,8 @@
--- `scan::is_line` meets its contract: each way out knows what the tests before it said.
-use Rattle.scan.proofs.Ways.{ways}
-use Rattle.scan.specs.Byte.{isLine}
-use Rattle.scan.proofs.is_line.Statement.{statement}
-use Rattle.scan.proofs.is_line.Tie as tie
+-- `byte::is_line` meets its contract: each way out knows what the tests before it said.
+use Rattle.byte.proofs.Ways.{ways}
+use Rattle.byte.specs.Byte.{isLine}
+use Rattle.byte.proofs.is_line.Statement.{statement}
+use Rattle.byte.proofs.is_line.Tie as tie
 
 returns : tie.Need-returns
 unfolding isLine

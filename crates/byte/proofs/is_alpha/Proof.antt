@@ -1,8 +1,8 @@
--- `scan::is_alpha` meets its contract: each way out knows what the tests before it said.
-use Rattle.scan.specs.Byte.{isAlpha}
+-- `byte::is_alpha` meets its contract: each way out knows what the tests before it said.
+use Rattle.byte.specs.Byte.{isAlpha}
 use borrow.Author.Needs.{needs}
-use Rattle.scan.proofs.is_alpha.Statement.{statement}
-use Rattle.scan.proofs.is_alpha.Tie as tie
+use Rattle.byte.proofs.is_alpha.Statement.{statement}
+use Rattle.byte.proofs.is_alpha.Tie as tie
 
 is-within-requires : tie.Need-is-within-requires
 is-within-requires c κs = search needs

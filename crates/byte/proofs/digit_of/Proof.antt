@@ -1,12 +1,12 @@
--- `scan::digit_of` meets its contract: each way out knows what the tests before it said, and a byte within bounds is at least the lower.
-use Rattle.scan.proofs.Classes.{within-bounds}
-use Rattle.scan.specs.Byte.{digitOf}
+-- `byte::digit_of` meets its contract: each way out knows what the tests before it said, and a byte within bounds is at least the lower.
+use Rattle.byte.proofs.Classes.{within-bounds}
+use Rattle.byte.specs.Byte.{digitOf}
 use native.Mathlib.Omega.{arith}
 use mathlib.Core.Path.{sym, _∙_}
 use Prim.Native.Char.{code}
 use borrow.Author.Needs.{needs}
-use Rattle.scan.proofs.digit_of.Statement.{statement}
-use Rattle.scan.proofs.digit_of.Tie as tie
+use Rattle.byte.proofs.digit_of.Statement.{statement}
+use Rattle.byte.proofs.digit_of.Tie as tie
 
 is-digit-requires : tie.Need-is-digit-requires
 is-digit-requires c κs = search needs

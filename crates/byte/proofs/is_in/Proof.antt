@@ -1,8 +1,8 @@
--- `scan::is_in` meets its contract: each arm knows its class, and its test is that class in the definition.
-use Rattle.scan.specs.Byte.{isIn}
+-- `byte::is_in` meets its contract: each arm knows its class, and its test is that class in the definition.
+use Rattle.byte.specs.Byte.{isIn}
 use borrow.Author.Needs.{needs}
-use Rattle.scan.proofs.is_in.Statement.{statement}
-use Rattle.scan.proofs.is_in.Tie as tie
+use Rattle.byte.proofs.is_in.Statement.{statement}
+use Rattle.byte.proofs.is_in.Tie as tie
 
 enum-told : tie.Need-enum-told
 enum-told c = search needs

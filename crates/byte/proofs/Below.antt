@@ -5,7 +5,7 @@ use native.Mathlib.Omega.{arith}
 use native.Mathlib.Decide.{decLt}
 use mathlib.Core.Bool.{Bool, true, _&&_}
 use mathlib.Core.Path.{_≡_, subst}
-use Rattle.scan.proofs.Choice.{and-left, and-right}
+use Rattle.byte.proofs.Choice.{and-left, and-right}
 
 abbrev pub allBelow : (ℕ → Bool) → ℕ → Bool
 allBelow p zero = true

@@ -1,8 +1,8 @@
--- `scan::is_word` meets its contract: each way out knows what the tests before it said.
-use Rattle.scan.specs.Byte.{isWord}
+-- `byte::is_word` meets its contract: each way out knows what the tests before it said.
+use Rattle.byte.specs.Byte.{isWord}
 use borrow.Author.Needs.{needs}
-use Rattle.scan.proofs.is_word.Statement.{statement}
-use Rattle.scan.proofs.is_word.Tie as tie
+use Rattle.byte.proofs.is_word.Statement.{statement}
+use Rattle.byte.proofs.is_word.Tie as tie
 
 is-alpha-numeric-requires : tie.Need-is-alpha-numeric-requires
 is-alpha-numeric-requires c κs = search needs

@@ -10,10 +10,10 @@ use mathlib.Core.Path.{_≡_, refl}
 use lib.Dec.{leb, ltb}
 use lib.ListN.{length, getD, List·getD-map}
 use borrow.Author.Tests.{le-leb, lt-leb, leb-true}
-use Rattle.scan.specs.declared.Class.{Class}
-use Rattle.scan.specs.declared.Class.the-variants.{Space, Alpha, Digit, HexDigit, AlphaNumeric, Word, Line}
-use Rattle.scan.specs.Byte.{end, isWithin, isSpace, isAlpha, isDigit, isHexDigit, digitOf, isDigitIn, lowered, isAlphaNumeric, isWord, isLine, isIn}
-use Rattle.scan.proofs.Choice.{either, and-left, and-right}
+use Rattle.byte.specs.declared.Class.{Class}
+use Rattle.byte.specs.declared.Class.the-variants.{Space, Alpha, Digit, HexDigit, AlphaNumeric, Word, Line}
+use Rattle.byte.specs.Byte.{end, isWithin, isSpace, isAlpha, isDigit, isHexDigit, digitOf, isDigitIn, lowered, isAlphaNumeric, isWord, isLine, isIn}
+use Rattle.byte.proofs.Choice.{either, and-left, and-right}
 
 pub getD-any : (xs : List ℕ) (i a b : ℕ) → i < length xs → getD xs i a ≡ getD xs i b
 getD-any [] i a b h = absurd (not-suc-le-zero h)

@@ -1,8 +1,8 @@
--- `scan::is_hex_digit` meets its contract: each way out knows what the tests before it said.
-use Rattle.scan.specs.Byte.{isHexDigit}
+-- `byte::is_hex_digit` meets its contract: each way out knows what the tests before it said.
+use Rattle.byte.specs.Byte.{isHexDigit}
 use borrow.Author.Needs.{needs}
-use Rattle.scan.proofs.is_hex_digit.Statement.{statement}
-use Rattle.scan.proofs.is_hex_digit.Tie as tie
+use Rattle.byte.proofs.is_hex_digit.Statement.{statement}
+use Rattle.byte.proofs.is_hex_digit.Tie as tie
 
 is-digit-requires : tie.Need-is-digit-requires
 is-digit-requires c κs = search needs

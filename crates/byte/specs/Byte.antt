@@ -6,8 +6,8 @@ use mathlib.Core.Bool.{Bool, cond, _&&_, _||_, not}
 use mathlib.Core.List.{List}
 use lib.ListN.{getD}
 use lib.Dec.{leb, ltb, eqb}
-use Rattle.scan.specs.declared.Class.{Class}
-use Rattle.scan.specs.declared.Class.the-variants.{Space, Alpha, Digit, HexDigit, AlphaNumeric, Word, Line}
+use Rattle.byte.specs.declared.Class.{Class}
+use Rattle.byte.specs.declared.Class.the-variants.{Space, Alpha, Digit, HexDigit, AlphaNumeric, Word, Line}
 
 abbrev pub end : ℕ
 end = 256

@@ -1,0 +1,6 @@
+pub mod Ways
+pub mod Choice
+pub mod Below
+pub mod Classes
+pub mod One
+pub mod Unique
