@@ -1,4 +1,4 @@
-pub mod Split
+pub mod Days
 pub mod Bounds
 pub mod Steps
 pub mod Answers
