@@ -7,3 +7,4 @@ pub mod Parts
 pub mod Denotes
 pub mod Unique
 pub mod Reach
+pub mod Wrong

@@ -9,3 +9,4 @@ pub mod Fits
 pub mod Shown
 pub mod Labels
 pub mod Unique
+pub mod Wrong
