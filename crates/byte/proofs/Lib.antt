@@ -4,3 +4,4 @@ pub mod Below
 pub mod Classes
 pub mod One
 pub mod Unique
+pub mod Wrong

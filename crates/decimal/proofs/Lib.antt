@@ -14,3 +14,4 @@ pub mod Exactness
 pub mod Given
 pub mod Unique
 pub mod Answers
+pub mod Wrong

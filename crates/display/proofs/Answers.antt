@@ -1,12 +1,13 @@
--- The answer by the tests of the code: nanoseconds over range first, then the room for the text, which is put at the front.
-use Prim.Native.Nat.{ℕ, _≤_, _<_}
+-- The answer by the tests of the code: nanoseconds over range first, then the room for the text, which is stored at the front.
+use Prim.Native.Nat.{ℕ, _+_, _≤_, _<_}
 use native.Mathlib.Nat.{zero-add}
+use native.Mathlib.Omega.{arith}
 use mathlib.Core.List.{List, _++_}
-use mathlib.Core.Path.{_≡_}
+use mathlib.Core.Path.{_≡_, refl}
 use lib.ListN.{length, drop}
+use lib.Seq.{sets, sets-eq}
 use borrow.Author.Tests.{le-leb, lt-leb}
 use Rattle.utf8.specs.Answers.{atStart, noRoom}
-use Rattle.record.specs.Put.{putAt}
 use Rattle.span.specs.declared.Duration.{Duration}
 use Rattle.display.specs.declared.Displaying.the-variants.{Written, Refused}
 use Rattle.span.specs.Unit.{nanosASecond}
@@ -25,7 +26,8 @@ module _ (d : Duration) (few : d .nanos < nanosASecond) where
   unfolding displayingOf
   fits room h = rw (lt-leb nanosASecond (d .nanos) few, le-leb (length (textOf d)) room h)
 
--- a text that fits, put at the front
-pub put-front : (d : List ℕ) {xs text : List ℕ} {n : ℕ} → xs ≡ text → length text ≡ n → length text ≤ length d → putAt d 0 xs ≡ text ++ drop n d
-unfolding putAt
-put-front d {xs} {text} {n} e s h = rw (e, ← s, zero-add, le-leb (length text) (length d) h)
+  pub shown : (out : List ℕ) {e : List ℕ} {n : ℕ} → n ≡ length (textOf d) → n ≤ length out → e ≡ sets out 0 (textOf d)
+      → (Written n ≡ displayingOf (length out) d) × (e ≡ textOf d ++ drop n out)
+  shown out k h s =
+      let room : 0 + length (textOf d) ≤ length out = omega arith in
+      rw (k, s, fits (length out) (omega arith), sets-eq (textOf d) out 0 room, zero-add) (refl, refl)

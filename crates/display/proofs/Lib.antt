@@ -1,4 +1,4 @@
-pub mod Split
+pub mod Days
 pub mod Bounds
 pub mod Steps
 pub mod Answers
@@ -7,3 +7,4 @@ pub mod Parts
 pub mod Denotes
 pub mod Unique
 pub mod Reach
+pub mod Wrong

@@ -5,7 +5,8 @@ use mathlib.Core.List.{List, [], _∷_, _++_}
 use lib.Dec.{leb, eqb}
 use lib.ListN.{length, drop}
 use Rattle.byte.specs.Ascii.{ascii}
-use Rattle.utf8.specs.Answers.{atStart, noRoom}
+use Rattle.utf8.specs.declared.Refusal.{Refusal}
+use Rattle.utf8.specs.Answers.{atStart, noRoom, noRefusal}
 use Rattle.record.specs.Decimal.{decimalText}
 use Rattle.span.specs.declared.Duration.{Duration}
 use Rattle.span.specs.Unit.{Unit, unit, milli, second, minute, hour, day, week, year, nanosAMilli, nanosASecond}
@@ -68,3 +69,8 @@ displayingOf room d = cond (leb nanosASecond (d .nanos)) (Refused (atStart overR
 abbrev pub leftBy : Displaying → List ℕ → List ℕ → List ℕ
 leftBy (Written n) text d = text ++ drop n d
 leftBy (Refused r) text d = d
+
+-- the refusal of an answer, and of one that has none the number 0, which is no refusal's
+abbrev pub refusedBy : Displaying → Refusal
+refusedBy (Written n) = noRefusal
+refusedBy (Refused r) = r

@@ -1,16 +1,14 @@
-// A duration is written in its units, first to an array of its own, so that a refused call writes nothing.
+// A duration is written in its units: its text is measured first, so that a refused call writes nothing.
 use span::Duration;
 use utf8::Refusal;
-ghost use mathlib.Core.Bool.{false};
-ghost use mathlib.Core.List.{_++_};
 ghost use mathlib.Core.Path.{_≡_};
-ghost use Prim.Native.Nat.{_+_, _%_, _≤_, _<_};
-ghost use lib.ListN.{length, take};
-ghost use Rattle.span.specs.Unit.{second, nanosASecond};
-ghost use Rattle.span.specs.Spans.{isZero};
-ghost use Rattle.display.specs.Display.{isLeftOut, counted, partOf, restOf, textOf, displayingOf, leftBy};
-ghost use Rattle.display.specs.Steps.{Shows, rowBy, millisLeft};
-ghost use Rattle.display.specs.Laws.{longest};
+ghost use Prim.Native.Nat.{_+_, _*_, _≤_, _<_};
+ghost use lib.ListN.{length};
+ghost use lib.Seq.{sets};
+ghost use Rattle.record.specs.Decimal.{decimalText};
+ghost use Rattle.span.specs.Unit.{day, nanosASecond};
+ghost use Rattle.display.specs.Display.{rows, counted, written, millisOf, textOf, displayingOf, leftBy, refusedBy};
+ghost use Rattle.display.specs.Steps.{Stored, wholeOf, longestUnit, longestPart, joined, sizes, textsOf};
 
 // How many bytes of a duration's text were written, or why none were.
 pub enum Displaying {
@@ -25,27 +23,102 @@ const NANOS_A_MILLI: u32 = 1_000_000;
 
 const NANOS_A_SECOND: u32 = 1_000_000_000;
 
-// No text is longer.
-const LONGEST: usize = 30;
+const SECONDS_A_DAY: u64 = Duration::DAY / Duration::SECOND;
 
-// What is left to write: seconds, and milliseconds of which a second has more; and where it goes.
-struct Left {
-    secs: u64,
+const DAYS_A_WEEK: u64 = Duration::WEEK / Duration::DAY;
+
+const DAYS_A_YEAR: u64 = Duration::YEAR / Duration::DAY;
+
+const DECIMAL_BASE: u64 = 10;
+
+const ZERO: [u8; 2] = *b"0s";
+
+// How many there are of each unit.
+struct Counts {
+    years: u64,
+    weeks: u64,
+    days: u64,
+    hours: u64,
+    minutes: u64,
+    seconds: u64,
     millis: u64,
-    at: usize,
 }
 
-// Whether a unit is left out since something remains.
-fn is_left_out(whole: bool, remains: u64) -> bool
-    ensures { λ r. ⌜ r ≡ isLeftOut whole remains ⌝ }
+// How many there are of a unit of so many days that is written only where nothing remains.
+fn whole(days: u64, rest: u64, size: u64) -> u64
+    requires { ⌜ (0 < size) × (rest < day) ⌝ }
+    ensures { λ r. ⌜ (r ≡ wholeOf (size * day) (days * day + rest)) × (r * size ≤ days) ⌝ }
 {
-    whole && remains != 0
+    if rest == 0 && days % size == 0 {
+        return days / size;
+    }
+    0
 }
 
-// Writes how many there are of a unit, and the unit; nothing where there are none.
-fn put_count(count: u64, unit: &[u8], out: &mut [u8], at: usize) -> usize
+// How many there are of each unit in a duration, of which what is under a millisecond is dropped.
+fn counts_of(duration: Duration) -> Counts
+    requires { ⌜ duration .nanos < nanosASecond ⌝ }
+    ensures { λ r. ⌜ joined (textsOf r) ≡ written rows (millisOf duration) ⌝ }
+{
+    let all = duration.secs / SECONDS_A_DAY;
+    let under = duration.secs % SECONDS_A_DAY * Duration::SECOND
+        + (duration.nanos / NANOS_A_MILLI) as u64;
+    let years = whole(all, under, DAYS_A_YEAR);
+    let left = all - years * DAYS_A_YEAR;
+    let weeks = whole(left, under, DAYS_A_WEEK);
+    let days = left - weeks * DAYS_A_WEEK;
+    Counts {
+        years,
+        weeks,
+        days,
+        hours: under / Duration::HOUR,
+        minutes: under % Duration::HOUR / Duration::MINUTE,
+        seconds: under % Duration::MINUTE / Duration::SECOND,
+        millis: under % Duration::SECOND,
+    }
+}
+
+// How many decimal digits a number has.
+fn digits(n: u64) -> usize
+    ensures { λ r. ⌜ r ≡ length (decimalText n) ⌝ }
+{
+    let mut size = 1;
+    let mut rest = n;
+    while rest >= DECIMAL_BASE {
+        rest /= DECIMAL_BASE;
+        size += 1;
+    }
+    size
+}
+
+// How many bytes a count and its unit have; none where there are none.
+fn part_size(count: u64, unit: &[u8]) -> usize
+    requires { ⌜ length (now unit) ≤ longestUnit ⌝ }
+    ensures { λ r. ⌜ (r ≡ length (counted count (now (unit .entry)))) × (r ≤ longestPart) ⌝ }
+{
+    if count == 0 {
+        return 0;
+    }
+    digits(count) + unit.len()
+}
+
+// How many bytes counts and their units have.
+fn text_size(counts: Counts) -> usize
+    ensures { λ r. ⌜ r ≡ sizes (textsOf counts) ⌝ }
+{
+    part_size(counts.years, b"y")
+        + part_size(counts.weeks, b"w")
+        + part_size(counts.days, b"d")
+        + part_size(counts.hours, b"h")
+        + part_size(counts.minutes, b"m")
+        + part_size(counts.seconds, b"s")
+        + part_size(counts.millis, b"ms")
+}
+
+// Writes a count and its unit at a place where they fit, nothing where there are none, and answers the place past them.
+fn put_part(out: &mut [u8], at: usize, count: u64, unit: &[u8]) -> usize
     requires { ⌜ at + length (counted count (now unit)) ≤ length (now out) ⌝ }
-    ensures { λ r. ⌜ Shows (take at (now (out .entry)) ++ counted count (now (unit .entry))) r (now (out .exit)) ⌝ }
+    ensures { λ r. ⌜ Stored (counted count (now (unit .entry))) (now (out .entry)) at r (now (out .exit)) ⌝ }
 {
     if count == 0 {
         return at;
@@ -54,54 +127,18 @@ fn put_count(count: u64, unit: &[u8], out: &mut [u8], at: usize) -> usize
     record::put_text(out, next, unit)
 }
 
-// Writes what a unit of whole seconds writes of what is left.
-fn put_unit(left: Left, size: u64, whole: bool, unit: &[u8], out: &mut [u8]) -> Left
-    requires { ⌜ left .millis < second ⌝ ∗ ⌜ second ≤ size ⌝ ∗ ⌜ size % second ≡ 0 ⌝ }
-    requires { ⌜ left .at + length (partOf (rowBy whole size (now unit)) (millisLeft left)) ≤ length (now out) ⌝ }
-    ensures { λ r. ⌜ Shows (take (left .at) (now (out .entry)) ++ partOf (rowBy whole size (now (unit .entry))) (millisLeft left)) (r .at) (now (out .exit)) ⌝ }
-    ensures { λ r. ⌜ millisLeft r ≡ restOf (rowBy whole size (now (unit .entry))) (millisLeft left) ⌝ ∗ ⌜ r .millis < second ⌝ }
+// Writes counts and their units at the front of a buffer that they fit.
+fn put_parts(out: &mut [u8], counts: Counts)
+    requires { ⌜ sizes (textsOf counts) ≤ length (now out) ⌝ }
+    ensures { λ _. ⌜ now (out .exit) ≡ sets (now (out .entry)) 0 (joined (textsOf counts)) ⌝ }
 {
-    let seconds = size / Duration::SECOND;
-    let rest = left.secs % seconds;
-    if is_left_out(whole, rest * Duration::SECOND + left.millis) {
-        return left;
-    }
-    let at = put_count(left.secs / seconds, unit, out, left.at);
-    Left {
-        secs: rest,
-        millis: left.millis,
-        at,
-    }
-}
-
-// Writes a duration, unit by unit.
-fn put_units(duration: Duration, out: &mut [u8]) -> usize
-    requires { ⌜ isZero duration ≡ false ⌝ ∗ ⌜ duration .nanos < nanosASecond ⌝ ∗ ⌜ longest ≤ length (now out) ⌝ }
-    ensures { λ r. ⌜ Shows (textOf duration) r (now (out .exit)) ⌝ }
-{
-    let left = Left {
-        secs: duration.secs,
-        millis: (duration.nanos / NANOS_A_MILLI) as u64,
-        at: 0,
-    };
-    let left = put_unit(left, Duration::YEAR, true, b"y", out);
-    let left = put_unit(left, Duration::WEEK, true, b"w", out);
-    let left = put_unit(left, Duration::DAY, false, b"d", out);
-    let left = put_unit(left, Duration::HOUR, false, b"h", out);
-    let left = put_unit(left, Duration::MINUTE, false, b"m", out);
-    let left = put_unit(left, Duration::SECOND, false, b"s", out);
-    put_count(left.millis, b"ms", out, left.at)
-}
-
-// Writes the text of a duration.
-fn put_duration(duration: Duration, out: &mut [u8]) -> usize
-    requires { ⌜ duration .nanos < nanosASecond ⌝ ∗ ⌜ longest ≤ length (now out) ⌝ }
-    ensures { λ r. ⌜ Shows (textOf duration) r (now (out .exit)) ⌝ }
-{
-    if span::is_zero(duration) {
-        return record::put_text(out, 0, b"0s");
-    }
-    put_units(duration, out)
+    let at = put_part(out, 0, counts.years, b"y");
+    let at = put_part(out, at, counts.weeks, b"w");
+    let at = put_part(out, at, counts.days, b"d");
+    let at = put_part(out, at, counts.hours, b"h");
+    let at = put_part(out, at, counts.minutes, b"m");
+    let at = put_part(out, at, counts.seconds, b"s");
+    put_part(out, at, counts.millis, b"ms");
 }
 
 // Writes the text of a duration at the front of a lent buffer; nothing where it is refused.
@@ -112,11 +149,26 @@ pub fn display_duration(duration: Duration, out: &mut [u8]) -> Displaying
     if duration.nanos >= NANOS_A_SECOND {
         return Displaying::Refused(utf8::at_start(OVER_RANGE));
     }
-    let mut text = [0u8; LONGEST];
-    let n = put_duration(duration, &mut text);
+    let zero = span::is_zero(duration);
+    let counts = counts_of(duration);
+    let n = if zero { ZERO.len() } else { text_size(counts) };
     if out.len() < n {
         return Displaying::Refused(utf8::at_start(utf8::NO_ROOM));
     }
-    record::put_text(out, 0, &text[..n]);
+    if zero {
+        record::put_text(out, 0, &ZERO);
+    } else {
+        put_parts(out, counts);
+    }
     Displaying::Written(n)
+}
+
+// Why a duration is not written; where it is, a refusal of no number.
+pub fn refused_by(answer: Displaying) -> Refusal
+    ensures { λ r. ⌜ r ≡ refusedBy answer ⌝ }
+{
+    let Displaying::Refused(r) = answer else {
+        return utf8::at_start(utf8::NO_REFUSAL);
+    };
+    r
 }

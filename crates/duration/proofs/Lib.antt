@@ -1,3 +1,4 @@
 pub mod Given
 pub mod Bounds
 pub mod Unique
+pub mod Wrong

@@ -9,7 +9,7 @@ use Rattle.scan.specs.Text.{sameText}
 use Rattle.utf8.specs.declared.Refusal.{Refusal}
 use Rattle.utf8.specs.declared.Admission.{Admission}
 use Rattle.utf8.specs.declared.Admission.the-variants as admission
-use Rattle.utf8.specs.Answers.{atStart, admitted}
+use Rattle.utf8.specs.Answers.{atStart, admitted, noRefusal}
 use Rattle.decimal.specs.declared.Number.{Number}
 use Rattle.decimal.specs.declared.Decimal.{Decimal}
 use Rattle.decimal.specs.declared.Decimal.the-variants.{NotDecimal, Named, Exact, Outside}
@@ -52,6 +52,13 @@ abbrev pub unitsRead : Units → Timing
 unitsRead (Sum d) = cond (isZero d) (Refused zeroDuration) (Lasts d)
 unitsRead NotUnits = Refused notDuration
 
+-- the number of a decimal's refusal
+abbrev pub refusalNumber : Decimal → ℕ
+refusalNumber NotDecimal = 54
+refusalNumber (Named n) = 54
+refusalNumber (Exact n) = 54
+refusalNumber (Outside negative) = cond negative 54 53
+
 -- "infinity or NaN by name, or negative nonzero, is tested before 53, 2^64 after"
 abbrev pub decimalRead : List ℕ → Decimal → Timing
 decimalRead xs NotDecimal = unitsRead (unitsOf xs)
@@ -72,3 +79,8 @@ timingFor (admission.Refused r) xs = Refused r
 
 unfoldable pub timingOf : List ℕ → Timing
 timingOf xs = timingFor (admitted longest xs) xs
+
+-- the refusal of an answer, and of one that has none the number 0, which is no refusal's
+abbrev pub refusedBy : Timing → Refusal
+refusedBy (Lasts d) = noRefusal
+refusedBy (Refused r) = r

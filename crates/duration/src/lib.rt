@@ -7,12 +7,13 @@ use units::Units;
 use utf8::Admission;
 use utf8::Refusal;
 ghost use mathlib.Core.Path.{_≡_};
-ghost use mathlib.Core.Bool.{cond};
 ghost use Rattle.utf8.specs.Answers.{atStart};
+ghost use Rattle.decimal.specs.declared.Number.{Number};
+ghost use Rattle.decimal.specs.declared.Decimal.the-variants.{Exact};
 ghost use Rattle.decimal.specs.Value.{decimalOf};
 ghost use Rattle.units.specs.Units.{unitsOf};
 ghost use Rattle.duration.specs.declared.Timing.the-variants.{Refused};
-ghost use Rattle.duration.specs.Duration.{outOfRange, outsideExact, secondsRead, unitsRead, decimalRead, timingOf};
+ghost use Rattle.duration.specs.Duration.{secondsRead, unitsRead, refusalNumber, decimalRead, timingOf, refusedBy};
 
 // Document 01's refusals of a duration: it is empty, is zero, is none, is outside the exact range, or is negative or too long.
 pub const EMPTY: usize = 50;
@@ -63,14 +64,28 @@ fn unit_text(s: &[u8]) -> Timing
     Timing::Lasts(d)
 }
 
-// A decimal outside the exact range.
-fn outside(negative: bool) -> Timing
-    ensures { λ r. ⌜ r ≡ Refused (cond negative outOfRange outsideExact) ⌝ }
+// Why a decimal is no number of seconds: outside the exact range a positive one is 53; a name and a negative one are 54.
+fn refusal_number(d: Decimal) -> usize
+    ensures { λ r. ⌜ r ≡ refusalNumber d ⌝ }
 {
+    let Decimal::Outside(negative) = d else {
+        return OUT_OF_RANGE;
+    };
     if negative {
-        return refused(OUT_OF_RANGE);
+        return OUT_OF_RANGE;
     }
-    refused(OUTSIDE_EXACT)
+    OUTSIDE_EXACT
+}
+
+// What is not exact: parts with units, or what is refused as a decimal.
+fn inexact(s: &[u8], d: Decimal) -> Timing
+    requires { ⌜ ((n : Number) → d ≡ Exact n → ⊥) ⌝ }
+    ensures { λ r. ⌜ r ≡ decimalRead (now (s .entry)) d ⌝ }
+{
+    let Decimal::NotDecimal = d else {
+        return refused(refusal_number(d));
+    };
+    unit_text(s)
 }
 
 // A decimal, or else parts with units.
@@ -78,14 +93,8 @@ fn read_text(s: &[u8]) -> Timing
     ensures { λ r. ⌜ r ≡ decimalRead (now (s .entry)) (decimalOf (now (s .entry))) ⌝ }
 {
     let d = decimal::read_decimal(s);
-    if let Decimal::Named(_) = d {
-        return refused(OUT_OF_RANGE);
-    }
-    if let Decimal::Outside(negative) = d {
-        return outside(negative);
-    }
     let Decimal::Exact(n) = d else {
-        return unit_text(s);
+        return inexact(s, d);
     };
     seconds(n)
 }
@@ -95,9 +104,9 @@ pub fn parse_duration(s: &[u8]) -> Timing
     ensures { λ r. ⌜ r ≡ timingOf (now (s .entry)) ⌝ }
 {
     let a = utf8::admit(s, decimal::LONGEST);
-    if let Admission::Refused(r) = a {
-        return Timing::Refused(r);
-    }
+    let Admission::Admitted(_) = a else {
+        return Timing::Refused(utf8::refused_by(a));
+    };
     if s.len() == 0 {
         return refused(EMPTY);
     }
@@ -105,4 +114,14 @@ pub fn parse_duration(s: &[u8]) -> Timing
         return refused(ZERO);
     }
     read_text(s)
+}
+
+// Why a text is no duration; where it is one, a refusal of no number.
+pub fn refused_by(answer: Timing) -> Refusal
+    ensures { λ r. ⌜ r ≡ refusedBy answer ⌝ }
+{
+    let Timing::Refused(r) = answer else {
+        return utf8::at_start(utf8::NO_REFUSAL);
+    };
+    r
 }

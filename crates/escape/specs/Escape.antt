@@ -10,7 +10,8 @@ use Rattle.utf8.specs.Code.{encoded}
 use Rattle.utf8.specs.Text.{codesOf}
 use Rattle.utf8.specs.declared.Admission.{Admission}
 use Rattle.utf8.specs.declared.Admission.the-variants as admission
-use Rattle.utf8.specs.Answers.{textLimit, noRoom, admitted}
+use Rattle.utf8.specs.declared.Refusal.{Refusal}
+use Rattle.utf8.specs.Answers.{textLimit, noRoom, admitted, noRefusal}
 use Rattle.escape.specs.declared.Escaping.{Escaping}
 use Rattle.escape.specs.declared.Escaping.the-variants.{Written, Refused}
 
@@ -55,3 +56,8 @@ escapingOf room xs = escapingAs room xs (admitted textLimit xs)
 abbrev pub leftBy : Escaping → List ℕ → List ℕ → List ℕ
 leftBy (Written n) ys d = ys ++ drop n d
 leftBy (Refused r) ys d = d
+
+-- the refusal of an answer, and of one that has none the number 0, which is no refusal's
+abbrev pub refusedBy : Escaping → Refusal
+refusedBy (Written n) = noRefusal
+refusedBy (Refused r) = r

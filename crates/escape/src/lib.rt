@@ -5,7 +5,7 @@ ghost use mathlib.Core.Path.{_≡_};
 ghost use Prim.Native.Nat.{_+_, _≤_};
 ghost use lib.ListN.{length};
 ghost use lib.Seq.{sets};
-ghost use Rattle.escape.specs.Escape.{letterOf, escaped, escapingOf, leftBy};
+ghost use Rattle.escape.specs.Escape.{letterOf, escaped, escapingOf, leftBy, refusedBy};
 ghost use Rattle.escape.specs.Bytes.{escapedByte, escapedBytes};
 
 // How many bytes of an escaped text were written, or why none were.
@@ -88,13 +88,23 @@ pub fn escape_string(text: &[u8], out: &mut [u8]) -> Escaping
     ensures { λ r. ⌜ now (out .exit) ≡ leftBy r (escaped (now (text .entry))) (now (out .entry)) ⌝ }
 {
     let a = utf8::admit(text, utf8::TEXT_LIMIT);
-    if let Admission::Refused(r) = a {
-        return Escaping::Refused(r);
-    }
+    let Admission::Admitted(_) = a else {
+        return Escaping::Refused(utf8::refused_by(a));
+    };
     let n = escaped_length(text);
     if out.len() < n {
         return Escaping::Refused(utf8::at_start(utf8::NO_ROOM));
     }
     write_escaped(text, out);
     Escaping::Written(n)
+}
+
+// Why a text is not escaped; where it is, a refusal of no number.
+pub fn refused_by(answer: Escaping) -> Refusal
+    ensures { λ r. ⌜ r ≡ refusedBy answer ⌝ }
+{
+    let Escaping::Refused(r) = answer else {
+        return utf8::at_start(utf8::NO_REFUSAL);
+    };
+    r
 }

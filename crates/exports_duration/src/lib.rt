@@ -17,14 +17,12 @@ pub extern "C" fn simmerpath_parse_duration(text: &[u8], secs: &mut u64, nanos: 
     ensures { λ _. ⌜ now (nanos .exit) ≡ nanosLeft (timingOf (now (text .entry))) (now (nanos .entry)) ⌝ }
 {
     let t = duration::parse_duration(text);
-    match t {
-        Timing::Lasts(d) => {
-            *secs = d.secs;
-            *nanos = d.nanos;
-            0
-        }
-        Timing::Refused(r) => packed::packed(r),
-    }
+    let Timing::Lasts(d) = t else {
+        return packed::packed(duration::refused_by(t));
+    };
+    *secs = d.secs;
+    *nanos = d.nanos;
+    0
 }
 
 // How many bytes of a duration's text were written at the front of a lent buffer, or refusal 54 or 3.
@@ -34,8 +32,8 @@ pub extern "C" fn simmerpath_display_duration(secs: u64, nanos: u32, out: &mut [
     ensures { λ _. ⌜ now (out .exit) ≡ leftBy (displayingOf (length (now (out .entry))) (durationOf secs nanos)) (textOf (durationOf secs nanos)) (now (out .entry)) ⌝ }
 {
     let d = display::display_duration(Duration { secs, nanos }, out);
-    match d {
-        Displaying::Written(n) => n as u64,
-        Displaying::Refused(r) => packed::packed(r),
-    }
+    let Displaying::Written(n) = d else {
+        return packed::packed(display::refused_by(d));
+    };
+    n as u64
 }

@@ -20,8 +20,8 @@ pub extern "C" fn simmerpath_lexer(
     ensures { λ _. ⌜ now (lengths .exit) ≡ leftBy (lexed (shortest (length (now (kinds .entry))) (length (now (starts .entry))) (length (now (lengths .entry)))) (now (query .entry))) (listed lengthOf (now (query .entry)) (now (lengths .entry))) (now (lengths .entry)) ⌝ }
 {
     let l = lex::lexer(query, kinds, starts, lengths);
-    match l {
-        Lexing::Count(n) => n as u64,
-        Lexing::Refused(r) => packed::packed(r),
-    }
+    let Lexing::Count(n) = l else {
+        return packed::packed(lex::refused_by(l));
+    };
+    n as u64
 }

@@ -24,12 +24,10 @@ pub extern "C" fn simmerpath_parse_str_radix(text: &[u8], bits: &mut u64) -> u64
     ensures { λ _. ⌜ now (bits .exit) ≡ parseLeft (parsingOf (now (text .entry))) (now (bits .entry)) ⌝ }
 {
     let p = number::parse_str_radix(text);
-    match p {
-        Parsing::Value(n) => {
-            *bits = decimal::bits_of(n.value);
-            let notation = n.notation;
-            notation_code(notation)
-        }
-        Parsing::Refused(r) => packed::packed(r),
-    }
+    let Parsing::Value(n) = p else {
+        return packed::packed(number::refused_by(p));
+    };
+    *bits = decimal::bits_of(n.value);
+    let notation = n.notation;
+    notation_code(notation)
 }

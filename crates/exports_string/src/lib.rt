@@ -4,10 +4,12 @@ use escape::Escaping;
 use string::Unquoting;
 use utf8::Reading;
 ghost use mathlib.Core.Path.{_≡_};
+ghost use Prim.Native.Nat.{ℕ, _<_};
 ghost use lib.ListN.{length};
 ghost use Rattle.escape.specs.Escape.{escaped, escapingOf, leftBy};
+ghost use Rattle.string.specs.declared.Unquoting.the-variants.{Inner, Written};
 ghost use Rattle.string.specs.Literal.{unquoted, unquotingOf, textBy};
-ghost use Rattle.exports_string.specs.String.{escapeCode, readingOf, unquoteCode};
+ghost use Rattle.exports_string.specs.String.{escapeCode, readingOf, innerFrom, unquoteCode};
 
 // Bit 32: a text stands in the literal itself.
 const INNER: u64 = 0x1_0000_0000;
@@ -19,10 +21,10 @@ pub extern "C" fn simmerpath_escape_string(text: &[u8], out: &mut [u8]) -> u64
     ensures { λ _. ⌜ now (out .exit) ≡ leftBy (escapingOf (length (now (out .entry))) (now (text .entry))) (escaped (now (text .entry))) (now (out .entry)) ⌝ }
 {
     let e = escape::escape_string(text, out);
-    match e {
-        Escaping::Written(n) => n as u64,
-        Escaping::Refused(r) => packed::packed(r),
-    }
+    let Escaping::Written(size) = e else {
+        return packed::packed(escape::refused_by(e));
+    };
+    size as u64
 }
 
 // The reading that a number stands for: 0 is the Rust's, and any other the documented one.
@@ -36,6 +38,18 @@ fn reading_of(documented: u32) -> Reading
     }
 }
 
+// What is told of a text that was not written: how many bytes of it stand in the literal itself, or its refusal.
+fn not_written(u: Unquoting) -> u64
+    requires { ⌜ ((n : ℕ) → u ≡ Written n → ⊥) ⌝ }
+    requires { ⌜ ((n : ℕ) → u ≡ Inner n → n < innerFrom) ⌝ }
+    ensures { λ r. ⌜ r ≡ unquoteCode u ⌝ }
+{
+    let Unquoting::Inner(n) = u else {
+        return packed::packed(string::refused_by(u));
+    };
+    INNER + n as u64
+}
+
 // How many bytes the text of a literal has: it was written at the front of a lent buffer, or, with bit 32, it stands behind the
 // literal's first byte. Or refusal 1, 2, 40 or 3.
 #[no_mangle]
@@ -44,9 +58,8 @@ pub extern "C" fn simmerpath_unquote_string(literal: &[u8], documented: u32, tex
     ensures { λ _. ⌜ now (text .exit) ≡ textBy (unquotingOf (readingOf documented) (length (now (text .entry))) (now (literal .entry))) (unquoted (readingOf documented) (now (literal .entry))) (now (text .entry)) ⌝ }
 {
     let u = string::unquote_string(literal, reading_of(documented), text);
-    match u {
-        Unquoting::Inner(n) => INNER + n as u64,
-        Unquoting::Written(n) => n as u64,
-        Unquoting::Refused(r) => packed::packed(r),
-    }
+    let Unquoting::Written(n) = u else {
+        return not_written(u);
+    };
+    n as u64
 }

@@ -29,10 +29,10 @@ pub extern "C" fn simmerpath_get_keyword_token(word: &[u8]) -> u64
     ensures { λ r. ⌜ r ≡ keywordCode (keywordOf (now (word .entry))) ⌝ }
 {
     let k = token::get_keyword_token(word);
-    match k {
-        Keyword::Kind(kind) => kind as u64,
-        Keyword::Nothing => NO_KIND,
-    }
+    let Keyword::Kind(kind) = k else {
+        return NO_KIND;
+    };
+    kind as u64
 }
 
 // How many bytes of the text that a kind is shown as were written at the front of a lent buffer, or refusal 3.
@@ -42,10 +42,10 @@ pub extern "C" fn simmerpath_token_display(kind: u16, out: &mut [u8]) -> u64
     ensures { λ _. ⌜ now (out .exit) ≡ leftBy (displayed (length (now (out .entry))) kind) (displayOf kind) (now (out .entry)) ⌝ }
 {
     let d = token::token_display(kind, out);
-    match d {
-        Display::Length(n) => n as u64,
-        Display::NoRoom => packed::packed_at_start(utf8::NO_ROOM),
-    }
+    let Display::Length(n) = d else {
+        return packed::packed_at_start(utf8::NO_ROOM);
+    };
+    n as u64
 }
 
 // A flag as a number that is worth so much.

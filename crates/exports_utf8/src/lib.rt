@@ -7,11 +7,14 @@ use utf8::Character;
 use utf8::Place;
 use utf8::Refusal;
 ghost use mathlib.Core.Path.{_≡_};
+ghost use Prim.Native.Nat.{ℕ};
 ghost use lib.ListN.{length};
 ghost use Rattle.utf8.specs.Text.{charNumber};
 ghost use Rattle.utf8.specs.Answers.{textLimit, admitted};
+ghost use Rattle.utf8.specs.declared.Character.the-variants.{Scalar};
+ghost use Rattle.encode.specs.declared.Encoding.the-variants.{Written};
 ghost use Rattle.encode.specs.Answers.{encodingOf, leftBy};
-ghost use Rattle.exports_utf8.specs.Utf8.{validateCode, charAtCode, charAtLeft, encodeCode};
+ghost use Rattle.exports_utf8.specs.Utf8.{validateCode, characterCode, charAtCode, charAtLeft, encodeCode};
 
 // The number of characters of a text, or refusal 1 or 2.
 #[no_mangle]
@@ -19,10 +22,10 @@ pub extern "C" fn simmerpath_utf8_validate(text: &[u8]) -> u64
     ensures { λ r. ⌜ r ≡ validateCode (admitted textLimit (now (text .entry))) ⌝ }
 {
     let a = utf8::admit(text, utf8::TEXT_LIMIT);
-    match a {
-        Admission::Admitted(n) => n.0 as u64,
-        Admission::Refused(r) => packed::packed(r),
-    }
+    let Admission::Admitted(count) = a else {
+        return packed::packed(utf8::refused_by(a));
+    };
+    count.0 as u64
 }
 
 // How many characters of a text begin before a byte offset.
@@ -32,6 +35,23 @@ pub extern "C" fn simmerpath_utf8_char_number(text: &[u8], to: usize) -> u64
 {
     let n = utf8::char_number(text, ByteOffset(to));
     n.0 as u64
+}
+
+// What is told of an offset where there is no character: 0 past the end, or refusal 2.
+fn no_character(text: &[u8], at: usize, c: Character) -> u64
+    requires { ⌜ ((code size : ℕ) → c ≡ Scalar code size → ⊥) ⌝ }
+    ensures { λ r. ⌜ r ≡ characterCode (now (text .entry)) at c ⌝ }
+{
+    let Character::Nothing = c else {
+        let byte = ByteOffset(at);
+        let character = utf8::char_number(text, byte);
+        let place = Place { byte, character };
+        return packed::packed(Refusal {
+            number: utf8::NOT_UTF8,
+            place,
+        });
+    };
+    0
 }
 
 // The length of the character at a byte offset, whose code point it writes; 0 past the end; or refusal 1 or 2.
@@ -44,22 +64,22 @@ pub extern "C" fn simmerpath_utf8_char_at(text: &[u8], at: usize, code: &mut u32
         return packed::packed_at_start(utf8::TOO_LONG);
     }
     let c = utf8::char_at(text, ByteOffset(at));
-    match c {
-        Character::Scalar { code: point, size } => {
-            *code = point;
-            size as u64
-        }
-        Character::Nothing => 0,
-        Character::IllFormed => {
-            let byte = ByteOffset(at);
-            let character = utf8::char_number(text, byte);
-            let place = Place { byte, character };
-            packed::packed(Refusal {
-                number: utf8::NOT_UTF8,
-                place,
-            })
-        }
-    }
+    let Character::Scalar { code: point, size } = c else {
+        return no_character(text, at, c);
+    };
+    *code = point;
+    size as u64
+}
+
+// Why a code point was not written: refusal 40, where it is no character's, or 3.
+fn not_written(e: Encoding) -> u64
+    requires { ⌜ ((n : ℕ) → e ≡ Written n → ⊥) ⌝ }
+    ensures { λ r. ⌜ r ≡ encodeCode e ⌝ }
+{
+    let Encoding::NotScalar = e else {
+        return packed::packed_at_start(utf8::NO_ROOM);
+    };
+    packed::packed_at_start(string::BAD_LITERAL)
 }
 
 // How many bytes of a code point were written at an offset of a lent buffer, or refusal 40, where it is no character's, or 3.
@@ -69,9 +89,8 @@ pub extern "C" fn simmerpath_utf8_encode(code: u32, out: &mut [u8], at: usize) -
     ensures { λ _. ⌜ now (out .exit) ≡ leftBy (encodingOf code (length (now (out .entry))) at) code at (now (out .entry)) ⌝ }
 {
     let e = encode::encode(code, out, ByteOffset(at));
-    match e {
-        Encoding::Written(n) => n as u64,
-        Encoding::NotScalar => packed::packed_at_start(string::BAD_LITERAL),
-        Encoding::NoRoom => packed::packed_at_start(utf8::NO_ROOM),
-    }
+    let Encoding::Written(n) = e else {
+        return not_written(e);
+    };
+    n as u64
 }

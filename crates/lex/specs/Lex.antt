@@ -7,7 +7,7 @@ use lib.ListN.{length, drop}
 use Rattle.utf8.specs.declared.Refusal.{Refusal}
 use Rattle.utf8.specs.declared.Admission.{Admission}
 use Rattle.utf8.specs.declared.Admission.the-variants as admission
-use Rattle.utf8.specs.Answers.{textLimit, placeAt, noRoom, admitted}
+use Rattle.utf8.specs.Answers.{textLimit, placeAt, noRoom, noRefusal, admitted}
 use Rattle.lex.specs.declared.Tally.{Tally}
 use Rattle.lex.specs.declared.Tally.the-variants as tallying
 use Rattle.lex.specs.declared.Lexing.{Lexing}
@@ -39,6 +39,10 @@ tallyOf q = tallied 0 (readingOf q)
 abbrev pub refusedAt : List ℕ → ℕ → ℕ → Refusal
 refusedAt q r o = record { number = r; place = placeAt q o }
 
+abbrev pub refusedIn : List ℕ → Tally → Refusal
+refusedIn q (tallying.Count n) = noRefusal
+refusedIn q (tallying.Refused r o) = refusedAt q r (o .0)
+
 abbrev pub counted : List ℕ → Tally → Lexing
 counted q (tallying.Count n) = Count n
 counted q (tallying.Refused r o) = Refused (refusedAt q r (o .0))
@@ -50,6 +54,11 @@ readAs q (admission.Refused r) = Refused r
 
 unfoldable pub measured : List ℕ → Lexing
 measured q = readAs q (admitted textLimit q)
+
+-- why a query is refused
+abbrev pub refusedBy : Lexing → Refusal
+refusedBy (Count n) = noRefusal
+refusedBy (Refused r) = r
 
 -- 3." "Room is the shortest list."
 abbrev pub roomed : ℕ → Lexing → Lexing

@@ -12,7 +12,7 @@ ghost use Prim.Native.Nat.{_<_, _≤_};
 ghost use lib.ListN.{length, set};
 ghost use Rattle.utf8.specs.Answers.{textLimit};
 ghost use Rattle.token.specs.WordRows.{wordTable};
-ghost use Rattle.lex.specs.Lex.{entriesOf, tallyOf, refusedAt, measured, lexed, listed, leftBy, kindOf, startOf, lengthOf, shortest};
+ghost use Rattle.lex.specs.Lex.{entriesOf, tallyOf, refusedAt, refusedIn, measured, refusedBy, lexed, listed, leftBy, kindOf, startOf, lengthOf, shortest};
 
 // How many lexemes a query has, or why it has none.
 pub enum Lexing {
@@ -85,20 +85,40 @@ fn refused_at(query: &[u8], number: usize, byte: ByteOffset) -> Refusal
     Refusal { number, place }
 }
 
+// Why a text is refused, by the count of its lexemes.
+fn refused_in(query: &[u8], t: Tally) -> Refusal
+    ensures { λ r. ⌜ r ≡ refusedIn (now (query .entry)) t ⌝ }
+{
+    let Tally::Refused { number, at } = t else {
+        return utf8::at_start(utf8::NO_REFUSAL);
+    };
+    refused_at(query, number, at)
+}
+
 // How many lexemes a query has, its end included, or why it is refused.
 pub fn measure(query: &[u8]) -> Lexing
     ensures { λ r. ⌜ r ≡ measured (now (query .entry)) ⌝ }
 {
     let a = utf8::admit(query, utf8::TEXT_LIMIT);
-    if let Admission::Refused(r) = a {
-        return Lexing::Refused(r);
-    }
+    let Admission::Admitted(_) = a else {
+        return Lexing::Refused(utf8::refused_by(a));
+    };
     let words = token::words();
     let t = count_lexemes(&words, query);
-    match t {
-        Tally::Count(n) => Lexing::Count(n),
-        Tally::Refused { number, at } => Lexing::Refused(refused_at(query, number, at)),
-    }
+    let Tally::Count(n) = t else {
+        return Lexing::Refused(refused_in(query, t));
+    };
+    Lexing::Count(n)
+}
+
+// Why a query is refused; where it is not, a refusal of no number.
+pub fn refused_by(answer: Lexing) -> Refusal
+    ensures { λ r. ⌜ r ≡ refusedBy answer ⌝ }
+{
+    let Lexing::Refused(r) = answer else {
+        return utf8::at_start(utf8::NO_REFUSAL);
+    };
+    r
 }
 
 // Writes a lexeme at place i of the three lists.

@@ -4,3 +4,4 @@ pub mod Lexemes
 pub mod Laws
 pub mod Cases
 pub mod Unique
+pub mod Wrong

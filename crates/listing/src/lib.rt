@@ -139,10 +139,10 @@ fn lex_to(
     ensures { λ r. ⌜ Puts (printedBy (now (query .entry)) (lexed mostLexemes (now (query .entry)))) (now (text .entry)) 0 r (now (text .exit)) ⌝ }
 {
     let x = lex::lexer(query, kinds, starts, lengths);
-    match x {
-        Lexing::Count(n) => put_lexemes(&kinds[..n], &starts[..n], &lengths[..n], text),
-        Lexing::Refused(r) => put_refusal(text, 0, r),
-    }
+    let Lexing::Count(n) = x else {
+        return put_refusal(text, 0, lex::refused_by(x));
+    };
+    put_lexemes(&kinds[..n], &starts[..n], &lengths[..n], text)
 }
 
 // Writes what is printed of an input to a list that has room for it.

@@ -23,7 +23,7 @@ use Rattle.token.specs.Kinds.{eqlc, neq, lte, lss, gte, gtr, eqlRegex, neqRegex
 use Rattle.numeral.specs.declared.Numeral.{Numeral}
 use Rattle.numeral.specs.declared.Numeral.the-variants.{Number, Duration, Neither}
 use Rattle.numeral.specs.Numeral.{numeralOf}
-use Rattle.numeral.specs.Laws.{taken}
+use Rattle.numeral.specs.Numeral.{taken}
 use Rattle.numeral.proofs.Within.{numeral-within}
 use Rattle.quoted.specs.declared.Quoted.{Quoted}
 use Rattle.quoted.specs.declared.Quoted.the-variants as quoting

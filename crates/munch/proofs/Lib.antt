@@ -4,3 +4,4 @@ pub mod Fits
 pub mod Seam
 pub mod Given
 pub mod Unique
+pub mod Wrong

@@ -67,6 +67,10 @@ unfoldable pub dotStep : Mode → List ℕ → Step
 dotStep m xs = cond (isDigit (peekAt xs 1)) (numberStep m xs) (ifNext xs end (Refused 15 0) (Refused 14 1))
 
 -- "The lexeme includes both signs." 21 to 23 are given where `quoted` says, one byte on for the opening sign
+abbrev pub stringRefused : Quoted → Step
+stringRefused (quoting.Closed n) = Refused 0 0
+stringRefused (quoting.Refused r n) = Refused r (suc n)
+
 abbrev pub quotedBy : Mode → Quoted → Step
 quotedBy m (quoting.Closed n) = Lexeme string (suc n) m
 quotedBy m (quoting.Refused r n) = Refused r (suc n)

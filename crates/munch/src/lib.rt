@@ -11,12 +11,14 @@ use quoted::Quoted;
 use token::kinds;
 ghost use mathlib.Core.Path.{_≡_};
 ghost use mathlib.Core.Bool.{true};
-ghost use Prim.Native.Nat.{_<_};
+ghost use Prim.Native.Nat.{ℕ, suc, _^_, _<_};
 ghost use lib.ListN.{length};
 ghost use Rattle.byte.specs.Byte.{peekAt};
 ghost use Rattle.token.specs.WordRows.{keywordIn};
 ghost use Rattle.lead.specs.Lead.{isQuote, leadOf, braceLeadOf, bracketLeadOf};
-ghost use Rattle.munch.specs.Munch.{mode, deeper, ifNext, numberStep, dotStep, quotedStep, commentStep, wordStep, equalsStep, bangStep, compareStep, leftBracketStep, rightParenStep, endStep, outsideStep, braceWord, braceEquals, braceBang, braceStep, colonStep, bracketStep, munchedBy, munched};
+ghost use Rattle.numeral.specs.declared.Numeral.the-variants.{Number};
+ghost use Rattle.quoted.specs.declared.Quoted.the-variants as quoting;
+ghost use Rattle.munch.specs.Munch.{mode, deeper, ifNext, numberBy, numberStep, dotStep, stringRefused, quotedStep, commentStep, wordStep, equalsStep, bangStep, compareStep, leftBracketStep, rightParenStep, endStep, outsideStep, braceWord, braceEquals, braceBang, braceStep, colonStep, bracketStep, munchedBy, munched};
 
 // What is open inside a query's parentheses: nothing, braces, or brackets; of these, whether their colon was seen, and whether they were just
 // opened.
@@ -80,16 +82,37 @@ fn if_next(s: &[u8], c: usize, two: Step, one: Step) -> Step
     if byte::peek(s, 1) == c { two } else { one }
 }
 
+// A duration, or neither that nor a number.
+fn duration_step(n: Numeral, mode: Mode) -> Step
+    requires { ⌜ ((length : ℕ) → n ≡ Number length → ⊥) ⌝ }
+    ensures { λ r. ⌜ r ≡ numberBy mode n ⌝ }
+{
+    let Numeral::Duration(length) = n else {
+        return refused(refusals::NEITHER_NUMBER_NOR_DURATION, numeral::taken(n));
+    };
+    lexeme(kinds::T_DURATION, length, mode)
+}
+
 // A number or a duration.
 fn number_step(s: &[u8], mode: Mode) -> Step
     ensures { λ r. ⌜ r ≡ numberStep mode (now (s .entry)) ⌝ }
 {
     let n = numeral::scan_number(s);
-    match n {
-        Numeral::Number(length) => lexeme(kinds::T_NUMBER, length, mode),
-        Numeral::Duration(length) => lexeme(kinds::T_DURATION, length, mode),
-        Numeral::Neither(at) => refused(refusals::NEITHER_NUMBER_NOR_DURATION, at),
-    }
+    let Numeral::Number(length) = n else {
+        return duration_step(n, mode);
+    };
+    lexeme(kinds::T_NUMBER, length, mode)
+}
+
+// The refusal of a string, one byte on for the opening sign.
+fn string_refused(q: Quoted) -> Step
+    requires { ⌜ ((number at : ℕ) → q ≡ quoting.Refused number at → suc at < 2 ^ 64) ⌝ }
+    ensures { λ r. ⌜ r ≡ stringRefused q ⌝ }
+{
+    let Quoted::Refused { number, at } = q else {
+        return refused(utf8::NO_REFUSAL, 0);
+    };
+    refused(number, at + 1)
 }
 
 // A string.
@@ -98,10 +121,10 @@ fn quoted_step(s: &[u8], mode: Mode) -> Step
     ensures { λ r. ⌜ r ≡ quotedStep mode (now (s .entry)) ⌝ }
 {
     let q = quoted::accept_string(s[0], &s[1..]);
-    match q {
-        Quoted::Closed(n) => lexeme(kinds::T_STRING, n + 1, mode),
-        Quoted::Refused { number, at } => refused(number, at + 1),
-    }
+    let Quoted::Closed(n) = q else {
+        return string_refused(q);
+    };
+    lexeme(kinds::T_STRING, n + 1, mode)
 }
 
 // A comment.

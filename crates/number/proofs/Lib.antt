@@ -4,3 +4,4 @@ pub mod Given
 pub mod Spelling
 pub mod Bounds
 pub mod Unique
+pub mod Wrong

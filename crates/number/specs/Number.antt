@@ -11,7 +11,7 @@ use Rattle.scan.specs.Text.{has}
 use Rattle.utf8.specs.declared.Refusal.{Refusal}
 use Rattle.utf8.specs.declared.Admission.{Admission}
 use Rattle.utf8.specs.declared.Admission.the-variants as admission
-use Rattle.utf8.specs.Answers.{atStart, admitted}
+use Rattle.utf8.specs.Answers.{atStart, admitted, noRefusal}
 use Rattle.decimal.specs.declared.Notation.{Notation}
 use Rattle.decimal.specs.declared.Notation.the-variants.{Hex, Octal}
 use Rattle.decimal.specs.declared.Number.{Number}
@@ -85,6 +85,13 @@ followsMark t = drop (cond (isHexMark t) (suc (behindZero t)) (behindZero t)) t
 unfoldable pub markedRead : List ℕ → Parsing
 markedRead t = cond (leadsZero t) (integerRead (notationOf t) (isMinus t 0) (followsMark t)) (Refused notNumber)
 
+-- the number of a decimal's refusal
+abbrev pub refusalNumber : Decimal → ℕ
+refusalNumber NotDecimal = 60
+refusalNumber (Named n) = 60
+refusalNumber (Exact n) = 60
+refusalNumber (Outside negative) = 53
+
 abbrev pub decimalRead : Decimal → Parsing
 decimalRead NotDecimal = Refused notNumber
 decimalRead (Named n) = Value n
@@ -102,3 +109,8 @@ parsingBy (admission.Refused r) t = Refused r
 
 unfoldable pub parsingOf : List ℕ → Parsing
 parsingOf xs = parsingBy (admitted longest xs) (plainText xs)
+
+-- the refusal of an answer, and of one that has none the number 0, which is no refusal's
+abbrev pub refusedBy : Parsing → Refusal
+refusedBy (Value n) = noRefusal
+refusedBy (Refused r) = r

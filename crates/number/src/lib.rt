@@ -19,12 +19,14 @@ ghost use Rattle.byte.specs.Byte.{isWithin};
 ghost use Rattle.utf8.specs.Code.{isScalar};
 ghost use Rattle.utf8.specs.Refusals.{Taken};
 ghost use Rattle.number.specs.White.{isWhite, keptBytes, plainText};
+ghost use Rattle.decimal.specs.declared.Number.{Number};
+ghost use Rattle.decimal.specs.declared.Decimal.the-variants.{Exact};
 ghost use Rattle.decimal.specs.Value.{longest, decimalOf};
 ghost use Rattle.utf8.specs.Answers.{atStart};
 ghost use Rattle.number.specs.declared.Parsing.the-variants.{Refused};
 ghost use Rattle.number.specs.Signed.{signedOf, isI64};
 ghost use Rattle.number.specs.Integer.{isDigits, integerOf, toldOf};
-ghost use Rattle.number.specs.Number.{isZeroAt, hasDecimalMark, isZeroLed, isMarked, integerRead, markedRead, decimalRead, numberOf, parsingOf};
+ghost use Rattle.number.specs.Number.{isZeroAt, hasDecimalMark, isZeroLed, isMarked, integerRead, markedRead, refusalNumber, decimalRead, numberOf, parsingOf, refusedBy};
 
 // Document 01's refusals of a number: it is outside the exact range, is none, or is no signed 64-bit integer.
 pub const OUTSIDE_EXACT: usize = 53;
@@ -299,19 +301,34 @@ fn marked(t: &[u8]) -> Parsing
     integer_number(Notation::Octal, outer, &t[behind..])
 }
 
+// Why a decimal has no value: it is outside the exact range, or none.
+fn refusal_number(d: Decimal) -> usize
+    ensures { λ r. ⌜ r ≡ refusalNumber d ⌝ }
+{
+    let Decimal::Outside(_) = d else {
+        return NOT_A_NUMBER;
+    };
+    OUTSIDE_EXACT
+}
+
+// The number of a decimal that is not exact: a name's, or none.
+fn inexact(d: Decimal) -> Parsing
+    requires { ⌜ ((n : Number) → d ≡ Exact n → ⊥) ⌝ }
+    ensures { λ r. ⌜ r ≡ decimalRead d ⌝ }
+{
+    let Decimal::Named(n) = d else {
+        return refused(refusal_number(d));
+    };
+    Parsing::Value(n)
+}
+
 // The number that a text is as a decimal.
 fn decimal_number(t: &[u8]) -> Parsing
     ensures { λ r. ⌜ r ≡ decimalRead (decimalOf (now (t .entry))) ⌝ }
 {
     let d = decimal::read_decimal(t);
-    if let Decimal::Named(n) = d {
-        return Parsing::Value(n);
-    }
-    if let Decimal::Outside(_) = d {
-        return refused(OUTSIDE_EXACT);
-    }
     let Decimal::Exact(n) = d else {
-        return refused(NOT_A_NUMBER);
+        return inexact(d);
     };
     Parsing::Value(n)
 }
@@ -331,10 +348,20 @@ pub fn parse_str_radix(s: &[u8]) -> Parsing
     ensures { λ r. ⌜ r ≡ parsingOf (now (s .entry)) ⌝ }
 {
     let a = utf8::admit(s, decimal::LONGEST);
-    if let Admission::Refused(r) = a {
-        return Parsing::Refused(r);
-    }
+    let Admission::Admitted(_) = a else {
+        return Parsing::Refused(utf8::refused_by(a));
+    };
     let mut buf = [0u8; decimal::LONGEST];
     let n = keep(s, &mut buf);
     read_plain(&buf[..n])
+}
+
+// Why a text is no number; where it is one, a refusal of no number.
+pub fn refused_by(answer: Parsing) -> Refusal
+    ensures { λ r. ⌜ r ≡ refusedBy answer ⌝ }
+{
+    let Parsing::Refused(r) = answer else {
+        return utf8::at_start(utf8::NO_REFUSAL);
+    };
+    r
 }

@@ -2,3 +2,4 @@ pub mod Turns
 pub mod Within
 pub mod Seam
 pub mod Unique
+pub mod Wrong

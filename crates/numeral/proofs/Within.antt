@@ -25,8 +25,8 @@ use Rattle.numeral.specs.declared.Part.the-variants.{Unit}
 use Rattle.numeral.specs.declared.Turn.{Turn}
 use Rattle.numeral.specs.declared.Turn.the-variants.{On, Ends, Fails}
 use Rattle.numeral.specs.declared.Numeral.{Numeral}
-use Rattle.numeral.specs.Numeral.{isHex, fractionEnd, mantissaEnd, exponentEnd, numberEnd, isFirstUnit, turnOf, turned, partOf, durationFrom, numeralOf}
-use Rattle.numeral.specs.Laws.{taken, NumeralWithin}
+use Rattle.numeral.specs.Numeral.{isHex, fractionEnd, mantissaEnd, exponentEnd, numberEnd, isFirstUnit, turnOf, turned, partOf, durationFrom, taken, numeralOf}
+use Rattle.numeral.specs.Laws.{NumeralWithin}
 use Rattle.numeral.proofs.Turns.{on-ascii, on-inside, duration-at}
 
 -- the bytes that a number is told by are ASCII: its digits, its point, the letter of its exponent

@@ -7,15 +7,7 @@ use mathlib.Core.Path.{_≡_}
 use lib.Dec.{eqb}
 use Rattle.byte.specs.Byte.{peekAt, isDigit}
 use Rattle.scan.specs.Edge.{Edge}
-use Rattle.numeral.specs.declared.Numeral.{Numeral}
-use Rattle.numeral.specs.declared.Numeral.the-variants.{Number, Duration, Neither}
-use Rattle.numeral.specs.Numeral.{numeralOf}
-
--- how many bytes are taken
-abbrev pub taken : Numeral → ℕ
-taken (Number n) = n
-taken (Duration n) = n
-taken (Neither n) = n
+use Rattle.numeral.specs.Numeral.{taken, numeralOf}
 
 -- what begins with a digit or a point takes one byte at least, and ends within the bytes, behind one that is ASCII
 abbrev pub NumeralWithin : Type 0

@@ -73,6 +73,12 @@ unfoldable pub durationFrom : Part → ℕ → List ℕ → Numeral
 durationFrom p n [] = turned (turnOf p end) n (Neither n)
 durationFrom p n (x ∷ xs) = let t = turnOf p x in turned t n (durationFrom (partOf t) (n + 1) xs)
 
+-- how many bytes are taken
+abbrev pub taken : Numeral → ℕ
+taken (Number n) = n
+taken (Duration n) = n
+taken (Neither n) = n
+
 -- "It is a NUMBER if no letter or `.` follows. Else, from there, it is a DURATION if one of `smhdwy` follows, then .."
 unfoldable pub numeralOf : List ℕ → Numeral
 numeralOf xs =

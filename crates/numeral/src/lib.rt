@@ -3,13 +3,24 @@
 use byte::Class;
 ghost use mathlib.Core.Path.{_≡_};
 ghost use lib.ListN.{drop};
-ghost use Rattle.numeral.specs.Numeral.{isHex, fractionEnd, exponentEnd, mantissaEnd, numberEnd, isUnit, stopOf, turnOf, durationFrom, numeralOf};
+ghost use Rattle.numeral.specs.Numeral.{isHex, fractionEnd, exponentEnd, mantissaEnd, numberEnd, isUnit, stopOf, turnOf, durationFrom, taken, numeralOf};
 
 // What bytes begin with: a number or a duration of so many bytes, or neither, where so many were taken.
 pub enum Numeral {
     Number(usize),
     Duration(usize),
     Neither(usize),
+}
+
+// How many bytes are taken.
+pub fn taken(n: Numeral) -> usize
+    ensures { λ r. ⌜ r ≡ taken n ⌝ }
+{
+    match n {
+        Numeral::Number(length) => length,
+        Numeral::Duration(length) => length,
+        Numeral::Neither(at) => at,
+    }
 }
 
 // What a duration was read through to: a unit, a unit and an s, or digits.

@@ -2,3 +2,4 @@ pub mod Turns
 pub mod Strings
 pub mod Comments
 pub mod Unique
+pub mod Wrong

@@ -135,13 +135,13 @@ fn with_room(op: usize, hex: usize, rest: &[u8]) -> Record
         return Record::Bad;
     }
     let r = read_decimal(&rest[1..]);
-    match r {
-        Decimal::Value(n) => Record::Fields {
-            op,
-            hex,
-            room: Room::Given(n),
-        },
-        Decimal::Bad => Record::Bad,
+    let Decimal::Value(n) = r else {
+        return Record::Bad;
+    };
+    Record::Fields {
+        op,
+        hex,
+        room: Room::Given(n),
     }
 }
 

@@ -3,7 +3,7 @@
 use Prim.Native.Nat.{ℕ, _≤_}
 use native.Mathlib.Nat.{le-refl}
 use native.Mathlib.Omega.{arith}
-use mathlib.Core.Bool.{true}
+use mathlib.Core.Bool.{true, false}
 use mathlib.Core.Path.{_≡_, refl}
 use mathlib.Core.List.{List}
 use lib.Dec.{leb, ltb}
@@ -31,12 +31,12 @@ module _ (reading : Reading) (xs : List ℕ) where
   unfolding unquotingOf
   unquote-alike {r} {s} l = go (admitted textLimit xs) refl
     where
-      few : (m : CharNumber) (n : ℕ) → admitted textLimit xs ≡ admission.Admitted m → extentOf reading xs ≡ extent.Text n → n ≤ textLimit
+      few : (m : CharNumber) (n : ℕ) → admitted textLimit xs ≡ admission.Admitted m → extentOf reading xs ≡ extent.Text true n → n ≤ textLimit
       few m n a e = rw (a, e, le-leb n n (le-refl n)) at (unquoting-bound reading n xs)
 
       by : (m : CharNumber) → admitted textLimit xs ≡ admission.Admitted m → (e : Extent) → extentOf reading xs ≡ e → unquotingBy r e ≡ unquotingBy s e
-      by m a (extent.Inner n) e = refl
-      by m a (extent.Text n) e = rw (l .fits n (omega (arith, few m n a e)))
+      by m a (extent.Text false n) e = refl
+      by m a (extent.Text true n) e = rw (l .fits n (omega (arith, few m n a e)))
       by m a extent.Bad e = refl
 
       go : (a : Admission) → admitted textLimit xs ≡ a → unquotingAs reading r xs a ≡ unquotingAs reading s xs a

@@ -4,3 +4,4 @@ pub mod Edges
 pub mod Same
 pub mod Stores
 pub mod Unique
+pub mod Wrong

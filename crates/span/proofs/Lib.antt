@@ -2,3 +2,4 @@ pub mod Round
 pub mod Fields
 pub mod Spans
 pub mod Unique
+pub mod Wrong

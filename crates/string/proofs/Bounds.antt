@@ -37,7 +37,7 @@ extent-bound r xs = go (isBadLiteral xs) refl
     P : Extent → Type 0
     P e = literals.sizeOf e ≤ length xs
 
-    go : (t : Bool) → isBadLiteral xs ≡ t → P (cond t extent.Bad (cond (hasEscape (signOf xs) (innerOf xs)) (extent.Text (length (unquoted r xs))) (extent.Inner (length (innerOf xs)))))
+    go : (t : Bool) → isBadLiteral xs ≡ t → P (cond t extent.Bad (cond (hasEscape (signOf xs) (innerOf xs)) (extent.Text true (length (unquoted r xs))) (extent.Text false (length (innerOf xs)))))
     go true a = omega arith
     go false a =
         let l = literals.sign-ascii xs (literals.sound xs a .enclosed) in
@@ -48,8 +48,8 @@ unfolding unquotingOf
 unquoting-bound r room xs = go (admitted textLimit xs) refl (within.admitted-bound textLimit xs)
   where
     by : (e : Extent) → literals.sizeOf e ≤ textLimit → Bounded (unquotingBy room e)
-    by (extent.Inner n) h = h
-    by (extent.Text n) h = either Bounded (leb n room) (λ t. h) (λ t. omega arith)
+    by (extent.Text false n) h = h
+    by (extent.Text true n) h = either Bounded (leb n room) (λ t. h) (λ t. omega arith)
     by extent.Bad h = omega arith
 
     go : (a : Admission) → admitted textLimit xs ≡ a → within.Bounded textLimit a → Bounded (unquotingAs r room xs a)

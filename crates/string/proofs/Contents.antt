@@ -136,7 +136,7 @@ module _ (r : Reading) (ts : List Tile) where
   unfolding measured
   measured-bad e = rw e
 
-  pub measured-text : (n : ℕ) → hasBad ts ≡ false → n ≡ length (bytesOf r ts) → extent.Text n ≡ measured r ts
+  pub measured-text : (n : ℕ) → hasBad ts ≡ false → n ≡ length (bytesOf r ts) → extent.Text true n ≡ measured r ts
   unfolding measured
   measured-text n e h = rw (e, h)
 

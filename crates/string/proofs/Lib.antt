@@ -8,3 +8,4 @@ pub mod Given
 pub mod Bounds
 pub mod Calls
 pub mod Unique
+pub mod Wrong

@@ -105,7 +105,7 @@ module _ (r : Reading) (xs : List ℕ) where
         unfolding extentOf
         sign-inside t = rw (e, b, bare, t)
 
-        pub as-it-stands : has (signOf xs) (innerOf xs) ≡ false → extent.Inner (length (innerOf xs)) ≡ extentOf r xs
+        pub as-it-stands : has (signOf xs) (innerOf xs) ≡ false → extent.Text false (length (innerOf xs)) ≡ extentOf r xs
         unfolding extentOf
         as-it-stands t = rw (e, b, bare, t, s)
 
@@ -122,21 +122,20 @@ sound xs e =
     record { enclosed = not-false (isEnclosed xs) (a .0); whole = b .0; good = b .1 }
 
 abbrev tag : Extent → ℕ
-tag (extent.Inner n) = 0
-tag (extent.Text n) = 1
+tag (extent.Text false n) = 0
+tag (extent.Text true n) = 1
 tag extent.Bad = 2
 
 abbrev pub sizeOf : Extent → ℕ
-sizeOf (extent.Inner n) = n
-sizeOf (extent.Text n) = n
+sizeOf (extent.Text b n) = n
 sizeOf extent.Bad = 0
 
 -- what is to be written is the text of a literal that is not bad
-pub text-told : (r : Reading) (xs : List ℕ) (n : ℕ) → extentOf r xs ≡ extent.Text n → Sound xs × (n ≡ length (unquoted r xs))
+pub text-told : (r : Reading) (xs : List ℕ) (n : ℕ) → extentOf r xs ≡ extent.Text true n → Sound xs × (n ≡ length (unquoted r xs))
 unfolding extentOf
 text-told r xs n = go (isBadLiteral xs) refl (hasEscape (signOf xs) (innerOf xs))
   where
-    go : (s : Bool) → isBadLiteral xs ≡ s → (t : Bool) → cond s extent.Bad (cond t (extent.Text (length (unquoted r xs))) (extent.Inner (length (innerOf xs)))) ≡ extent.Text n → Sound xs × (n ≡ length (unquoted r xs))
+    go : (s : Bool) → isBadLiteral xs ≡ s → (t : Bool) → cond s extent.Bad (cond t (extent.Text true (length (unquoted r xs))) (extent.Text false (length (innerOf xs)))) ≡ extent.Text true n → Sound xs × (n ≡ length (unquoted r xs))
     go true a t e = told tag e refl (λ z. omega arith)
     go false a true e = (sound xs a, sym (ap sizeOf e))
     go false a false e = told tag e refl (λ z. omega arith)
@@ -152,9 +151,9 @@ module _ (r : Reading) (room : ℕ) (xs : List ℕ) where
   by-extent n e a x = rw (a, x)
 
   -- a text to be written goes by the room
-  module _ (n : CharNumber) (m : ℕ) (a : admitted textLimit xs ≡ admission.Admitted n) (x : extentOf r xs ≡ extent.Text m) where
+  module _ (n : CharNumber) (m : ℕ) (a : admitted textLimit xs ≡ admission.Admitted n) (x : extentOf r xs ≡ extent.Text true m) where
     pub too-small : room < m → Refused noRoom ≡ unquotingOf r room xs
-    too-small h = let e = by-extent n (extent.Text m) a x in rw (lt-leb m room h) at e
+    too-small h = let e = by-extent n (extent.Text true m) a x in rw (lt-leb m room h) at e
 
     pub fitted : m ≤ room → Written m ≡ unquotingOf r room xs
-    fitted h = let e = by-extent n (extent.Text m) a x in rw (le-leb m room h) at e
+    fitted h = let e = by-extent n (extent.Text true m) a x in rw (le-leb m room h) at e

@@ -42,14 +42,14 @@ module _ (r : Reading) (xs d : List ℕ) (w : WellFormed xs) where
   abbrev Named : Extent → Type 0
   Named e = let u = unquotingBy (length d) e in isRead u ≡ true → partOf u xs (textBy u (unquoted r xs) d) ≡ unquoted r xs
 
-  between : Sound xs → hasEscape (signOf xs) (innerOf xs) ≡ false → Named (extent.Inner (length (innerOf xs)))
+  between : Sound xs → hasEscape (signOf xs) (innerOf xs) ≡ false → Named (extent.Text false (length (innerOf xs)))
   unfolding partOf
   between s e t =
       let h = two xs (s .enclosed) in
       let l = length-take-le (length xs - 2) (drop 1 xs) (omega (arith, length-drop 1 xs)) in
       rw (lt-ltb (length (innerOf xs)) (length xs) (omega (arith, l)), l) (sym (as-between r xs w s e))
 
-  written : Named (extent.Text (length (unquoted r xs)))
+  written : Named (extent.Text true (length (unquoted r xs)))
   unfolding partOf
   written = go (leb (length ys) (length d)) refl
     where
@@ -66,7 +66,7 @@ module _ (r : Reading) (xs d : List ℕ) (w : WellFormed xs) where
   unfolding extentOf
   named = go (isBadLiteral xs) refl (hasEscape (signOf xs) (innerOf xs)) refl
     where
-      go : (s : Bool) → isBadLiteral xs ≡ s → (t : Bool) → hasEscape (signOf xs) (innerOf xs) ≡ t → Named (cond s extent.Bad (cond t (extent.Text (length (unquoted r xs))) (extent.Inner (length (innerOf xs)))))
+      go : (s : Bool) → isBadLiteral xs ≡ s → (t : Bool) → hasEscape (signOf xs) (innerOf xs) ≡ t → Named (cond s extent.Bad (cond t (extent.Text true (length (unquoted r xs))) (extent.Text false (length (innerOf xs)))))
       go true a t b h = absurd (true≢false (sym h))
       go false a true b h = written h
       go false a false b h = between (sound xs a) b h
@@ -84,7 +84,7 @@ pub reads : (r : Reading) (xs : List ℕ) (room : ℕ) → Taken textLimit xs �
 unfolding unquotingOf extentOf
 reads r xs room t b h = rw (given-exactly textLimit xs .2 .1 t, b) (go (hasEscape (signOf xs) (innerOf xs)))
   where
-    go : (e : Bool) → isRead (unquotingBy room (cond e (extent.Text (length (unquoted r xs))) (extent.Inner (length (innerOf xs))))) ≡ true
+    go : (e : Bool) → isRead (unquotingBy room (cond e (extent.Text true (length (unquoted r xs))) (extent.Text false (length (innerOf xs))))) ≡ true
     go true = rw (le-leb (length (unquoted r xs)) room h)
     go false = refl
 

@@ -1,7 +1,7 @@
 -- Reading a string literal: document 01, "String literals (003)". The tests stand in the order in which a literal is found bad.
 use Prim.Native.Nat.{ℕ, _-_}
 use Prim.Native.Char.{code}
-use mathlib.Core.Bool.{Bool, cond, _&&_, _||_, not}
+use mathlib.Core.Bool.{Bool, true, false, cond, _&&_, _||_, not}
 use mathlib.Core.List.{List, [], _++_}
 use lib.Dec.{eqb, leb, ltb}
 use lib.ListN.{length, take, drop}
@@ -11,7 +11,7 @@ use Rattle.utf8.specs.declared.Admission.{Admission}
 use Rattle.utf8.specs.declared.Admission.the-variants as admission
 use Rattle.utf8.specs.declared.Reading.{Reading}
 use Rattle.utf8.specs.declared.Refusal.{Refusal}
-use Rattle.utf8.specs.Answers.{textLimit, atStart, noRoom, admitted}
+use Rattle.utf8.specs.Answers.{textLimit, atStart, noRoom, admitted, noRefusal}
 use Rattle.tile.specs.Tile.{backquote}
 use Rattle.string.specs.declared.Extent.{Extent}
 use Rattle.string.specs.declared.Extent.the-variants as extent
@@ -64,8 +64,8 @@ unquoted r xs = bytesOf r (tilesOf (signOf xs) (innerOf xs))
 unfoldable pub extentOf : Reading → List ℕ → Extent
 extentOf r xs =
     cond (isBadLiteral xs) extent.Bad
-    (cond (hasEscape (signOf xs) (innerOf xs)) (extent.Text (length (unquoted r xs)))
-    (extent.Inner (length (innerOf xs))))
+    (cond (hasEscape (signOf xs) (innerOf xs)) (extent.Text true (length (unquoted r xs)))
+    (extent.Text false (length (innerOf xs))))
 
 -- 40 "bad literal", without a place
 abbrev pub badLiteral : Refusal
@@ -73,8 +73,8 @@ badLiteral = atStart 40
 
 -- "only then can 3 occur"
 abbrev pub unquotingBy : ℕ → Extent → Unquoting
-unquotingBy room (extent.Inner n) = Inner n
-unquotingBy room (extent.Text n) = cond (leb n room) (Written n) (Refused noRoom)
+unquotingBy room (extent.Text false n) = Inner n
+unquotingBy room (extent.Text true n) = cond (leb n room) (Written n) (Refused noRoom)
 unquotingBy room extent.Bad = Refused badLiteral
 
 abbrev pub unquotingAs : Reading → ℕ → List ℕ → Admission → Unquoting
@@ -96,3 +96,9 @@ unfoldable pub partOf : Unquoting → List ℕ → List ℕ → List ℕ
 partOf (Inner n) xs d = cond (ltb n (length xs)) (take n (drop 1 xs)) []
 partOf (Written n) xs d = cond (leb n (length d)) (take n d) []
 partOf (Refused s) xs d = []
+
+-- the refusal of an answer, and of one that has none the number 0, which is no refusal's
+abbrev pub refusedBy : Unquoting → Refusal
+refusedBy (Inner n) = noRefusal
+refusedBy (Written n) = noRefusal
+refusedBy (Refused r) = r

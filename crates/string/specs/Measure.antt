@@ -1,6 +1,6 @@
 -- What the two passes test: whether a tile gives one byte, and what tiles give, or that one of them is bad. No promise outside rests on it.
 use Prim.Native.Nat.{ℕ}
-use mathlib.Core.Bool.{Bool, cond, _||_}
+use mathlib.Core.Bool.{Bool, true, cond, _||_}
 use mathlib.Core.List.{List}
 use lib.Dec.{leb}
 use lib.ListN.{length}
@@ -15,4 +15,4 @@ unfoldable pub isSingle : Reading → Form → ℕ → Bool
 isSingle r f v = leb v 0x7f || givesByte r f
 
 unfoldable pub measured : Reading → List Tile → Extent
-measured r ts = cond (hasBad ts) Bad (Text (length (bytesOf r ts)))
+measured r ts = cond (hasBad ts) Bad (Text true (length (bytesOf r ts)))

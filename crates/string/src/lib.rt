@@ -16,7 +16,7 @@ ghost use lib.Seq.{sets};
 ghost use Rattle.utf8.specs.Text.{WellFormed};
 ghost use Rattle.tile.specs.Tile.{isAllowed};
 ghost use Rattle.string.specs.Tiles.{tilesOf, hasBad, givesByte, pieceBytes, bytesOf};
-ghost use Rattle.string.specs.Literal.{isQuote, isEnclosed, hasNewline, hasEscape, unquoted, extentOf, unquotingOf, textBy, partOf};
+ghost use Rattle.string.specs.Literal.{isQuote, isEnclosed, hasNewline, hasEscape, unquoted, extentOf, unquotingOf, textBy, partOf, refusedBy};
 ghost use Rattle.string.specs.declared.Unquoting.the-variants.{Inner, Written};
 ghost use Rattle.string.specs.Measure.{isSingle, measured};
 
@@ -31,10 +31,9 @@ pub enum Unquoting {
     Refused(Refusal),
 }
 
-// What a literal comes to: so many bytes of its own, so many of text to be written, or nothing.
+// What a literal comes to: a text of so many bytes, which are its own where it has no escape; or nothing.
 pub enum Extent {
-    Inner(usize),
-    Text(usize),
+    Text { escaped: bool, size: usize },
     Bad,
 }
 
@@ -128,7 +127,10 @@ fn measure(inner: &[u8], sign: u8, reading: Reading) -> Extent
         n += piece_size(reading, form, value);
         from += size;
     }
-    Extent::Text(n)
+    Extent::Text {
+        escaped: true,
+        size: n,
+    }
 }
 
 // What a literal comes to.
@@ -151,7 +153,10 @@ fn extent_of(literal: &[u8], reading: Reading) -> Extent
     if scan::contains(inner, sign) {
         return Extent::Bad;
     }
-    Extent::Inner(inner.len())
+    Extent::Text {
+        escaped: false,
+        size: inner.len(),
+    }
 }
 
 // Writes what a tile gives at a place where it fits, and answers the place past it.
@@ -197,22 +202,32 @@ pub fn unquote_string(literal: &[u8], reading: Reading, text: &mut [u8]) -> Unqu
     ensures { λ r. ⌜ now (text .exit) ≡ textBy r (unquoted reading (now (literal .entry))) (now (text .entry)) ⌝ }
 {
     let a = utf8::admit(literal, utf8::TEXT_LIMIT);
-    if let Admission::Refused(r) = a {
-        return Unquoting::Refused(r);
-    }
+    let Admission::Admitted(_) = a else {
+        return Unquoting::Refused(utf8::refused_by(a));
+    };
     let e = extent_of(literal, reading);
-    match e {
-        Extent::Inner(n) => Unquoting::Inner(n),
-        Extent::Text(n) => {
-            if text.len() < n {
-                return Unquoting::Refused(utf8::at_start(utf8::NO_ROOM));
-            }
-            let end = literal.len() - 1;
-            write_pieces(&literal[1..end], literal[0], reading, text);
-            Unquoting::Written(n)
-        }
-        Extent::Bad => Unquoting::Refused(utf8::at_start(BAD_LITERAL)),
+    let Extent::Text { escaped, size } = e else {
+        return Unquoting::Refused(utf8::at_start(BAD_LITERAL));
+    };
+    if !escaped {
+        return Unquoting::Inner(size);
     }
+    if text.len() < size {
+        return Unquoting::Refused(utf8::at_start(utf8::NO_ROOM));
+    }
+    let end = literal.len() - 1;
+    write_pieces(&literal[1..end], literal[0], reading, text);
+    Unquoting::Written(size)
+}
+
+// Why a literal has no text; where it has one, a refusal of no number.
+pub fn refused_by(answer: Unquoting) -> Refusal
+    ensures { λ r. ⌜ r ≡ refusedBy answer ⌝ }
+{
+    let Unquoting::Refused(r) = answer else {
+        return utf8::at_start(utf8::NO_REFUSAL);
+    };
+    r
 }
 
 // So many bytes of a literal, behind its first; none where it has fewer.

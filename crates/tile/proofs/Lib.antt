@@ -5,3 +5,4 @@ pub mod Tiles
 pub mod Bad
 pub mod Behind
 pub mod Unique
+pub mod Wrong

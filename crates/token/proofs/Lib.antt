@@ -1,10 +1,12 @@
 pub mod Padding
+pub mod Every
 pub mod Displays
 pub mod DisplayRows
 pub mod Search
+pub mod Table
 pub mod Lookup
-pub mod Distinct
 pub mod Fits
 pub mod Shown
 pub mod Labels
 pub mod Unique
+pub mod Wrong

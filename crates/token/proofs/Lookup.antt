@@ -1,19 +1,19 @@
 -- The search of the table of words finds what the definition says: each row is its entry (`row-is`), a word longer than any is none, and
 -- so is one with a character that is not ASCII, so that it may be looked for by its bytes (`by-bytes` of utf8).
-use Prim.Native.Nat.{ℕ, suc, _+_, _<_, _≤_}
+use Prim.Native.Nat.{ℕ, suc, _+_, _≤_}
 use native.Mathlib.Omega.{arith}
 use native.Mathlib.Decide.{ℕ-discrete}
-use mathlib.Core.Bool.{Bool, true, false, cond, _&&_}
+use mathlib.Core.Bool.{true, false, cond, _&&_, true≢false}
 use mathlib.Core.List.{List, [], _∷_, _++_, map}
 use mathlib.Core.Path.{_≡_, refl, sym, ap, _∙_}
-use lib.Dec.{eqb, leb, ltb}
+use lib.Dec.{eqb, ltb}
 use lib.ListN.{length, getD, take, length-append, length-map, List·getD-append}
 use lib.Seq.{take-at, drop-at, getD-at, getD-append-add, take-append-le}
-use borrow.Author.Tests.{eq-eqb, ne-eqb, le-ltb, leb-true, ltb-true}
+use borrow.Author.Tests.{eq-eqb, ne-eqb, le-ltb, ltb-true}
 use Rattle.byte.specs.Byte.{lowered}
 use Rattle.scan.specs.Text.{sameText}
 use Rattle.byte.proofs.Choice.{either, and-left, and-right}
-use Rattle.scan.proofs.Same.{same-not}
+use Rattle.scan.proofs.Same.{same-not, same-is-equal}
 use Rattle.utf8.specs.Laws.{isAscii}
 use Rattle.utf8.proofs.Ascii.{by-bytes, lowered-other}
 use Rattle.token.specs.declared.Keyword.{Keyword}
@@ -23,6 +23,8 @@ use Rattle.token.proofs.Padding.{padded-length, padded-take}
 use Rattle.token.specs.Words.{Entry, words, kindIn, keywordOf}
 use Rattle.token.specs.Laws.{TableFinds}
 use Rattle.token.specs.WordRows.{wordCount, widestWord, wordRow, rowOf, tableOf, wordTable, isRow, foundIn, keywordIn}
+use Rattle.token.proofs.Every.{every}
+use Rattle.token.proofs.Table.{isEntry, short, plain, counted, entries, word-found}
 
 module _ (e : Entry) (h : length (e .text) ≤ widestWord) where
   text-length : length (padded widestWord (e .text)) ≡ widestWord
@@ -50,66 +52,31 @@ module _ (e : Entry) (h : length (e .text) ≤ widestWord) where
           rw (eq-eqb (length (e .text)) (length w) k, ← k, take-append-le (length (e .text)) (padded widestWord (e .text)) (length (e .text) ∷ e .kind ∷ []) (omega (arith, text-length)), padded-take widestWord (e .text))
       go (no k) = rw (ne-eqb (length (e .text)) (length w) k, same-not w (e .text) (λ z. k (sym z)))
 
--- a test of every entry
-abbrev pub allEntries : (Entry → Bool) → List Entry → Bool
-allEntries p [] = true
-allEntries p (e ∷ es) = p e && allEntries p es
-
-abbrev isShort : Entry → Bool
-isShort e = leb (length (e .text)) widestWord
-
-found-is : (es : List Entry) (w : List ℕ) → allEntries isShort es ≡ true → foundIn (length es) (tableOf es) w ≡ kindIn es w
+found-is : (es : List Entry) (w : List ℕ) → every isEntry es ≡ true → foundIn (length es) (tableOf es) w ≡ kindIn es w
 unfolding foundIn tableOf kindIn
 found-is [] w h = refl
 found-is (e ∷ es) w h =
-    let s = leb-true (length (e .text)) widestWord (and-left (isShort e) (allEntries isShort es) h) in
+    let s = short e (and-left _ _ h) in
     let l = row-length e s in
     rw (
       le-ltb (length (rowOf e ++ tableOf es)) wordRow (omega (arith, l, length-append (rowOf e) (tableOf es))),
       take-at (rowOf e) (tableOf es) wordRow l,
       drop-at (rowOf e) (tableOf es) wordRow l,
       row-is e s w,
-      found-is es w (and-right (isShort e) (allEntries isShort es) h),
+      found-is es w (and-right (isEntry e) _ h),
     )
     (ap (λ (k : ℕ). cond (sameText w (e .text)) (Kind k) (kindIn es w)) (kind-at e s (tableOf es)))
 
--- a word longer than any is none
-long-none : (es : List Entry) (w : List ℕ) → allEntries isShort es ≡ true → widestWord < length w → kindIn es w ≡ Nothing
-unfolding kindIn
-long-none [] w h l = refl
-long-none (e ∷ es) w h l =
-    let s = leb-true (length (e .text)) widestWord (and-left (isShort e) (allEntries isShort es) h) in
-    rw (same-not w (e .text) (λ z. omega arith)) (long-none es w (and-right (isShort e) (allEntries isShort es) h) l)
-
--- a word with a byte that is not ASCII is none
-abbrev isPlain : Entry → Bool
-isPlain e = isAscii (e .text)
-
-other-none : (es : List Entry) (ys : List ℕ) → allEntries isPlain es ≡ true → isAscii ys ≡ false → kindIn es (map lowered ys) ≡ Nothing
-unfolding kindIn
-other-none [] ys h a = refl
-other-none (e ∷ es) ys h a =
-    rw (lowered-other ys (e .text) a (and-left (isPlain e) (allEntries isPlain es) h)) (other-none es ys (and-right (isPlain e) (allEntries isPlain es) h) a)
-
--- the table of words: all are short, and ASCII
-short : allEntries isShort words ≡ true
-unfolding words
-short = refl
-
-plain : allEntries isPlain words ≡ true
-unfolding words
-plain = refl
-
-pub counted : length words ≡ wordCount
-unfolding words
-counted = refl
-
 pub table-finds : TableFinds
 unfolding keywordIn keywordOf wordTable
-table-finds xs = searched ∙ by-bytes Keyword Nothing (λ ys. kindIn words (map lowered ys)) (λ ys. other-none words ys plain) xs
+table-finds xs = searched ∙ by-bytes Keyword Nothing (λ ys. kindIn words (map lowered ys)) other-none xs
   where
+    other-none : (ys : List ℕ) → isAscii ys ≡ false → kindIn words (map lowered ys) ≡ Nothing
+    other-none ys a =
+        word-found (map lowered ys) (λ k. k ≡ Nothing) refl (λ e t s. absurd (true≢false (sym s ∙ lowered-other ys (e .text) a (plain e t))))
+
     searched : cond (ltb widestWord (length xs)) Nothing (foundIn wordCount (tableOf words) (map lowered xs)) ≡ kindIn words (map lowered xs)
     searched =
         either (λ k. k ≡ kindIn words (map lowered xs)) (ltb widestWord (length xs))
-        (λ e. sym (long-none words (map lowered xs) short (omega (arith, ltb-true widestWord (length xs) e, length-map xs lowered))))
-        (λ e. rw (← counted) (found-is words (map lowered xs) short))
+        (λ l. word-found (map lowered xs) (λ k. Nothing ≡ k) refl (λ e t s. absurd (omega (arith, short e t, ap length (same-is-equal (map lowered xs) (e .text) .0 s), ltb-true widestWord (length xs) l, length-map xs lowered))))
+        (λ l. rw (← counted) (found-is words (map lowered xs) entries))

@@ -1,4 +1,4 @@
--- What the crates above may know of words, as statements; `proofs/Lookup`, `proofs/Distinct` and `proofs/Shown` have their proofs.
+-- What the crates above may know of words, as statements; `proofs/Lookup`, `proofs/Table` and `proofs/Shown` have their proofs.
 use Prim.Native.Nat.{ℕ, _<_}
 use mathlib.Core.Bool.{true}
 use mathlib.Core.List.{List}

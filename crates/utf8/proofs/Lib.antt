@@ -10,3 +10,4 @@ pub mod Bytes
 pub mod Bounds
 pub mod Given
 pub mod Unique
+pub mod Wrong

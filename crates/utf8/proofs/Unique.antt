@@ -5,6 +5,8 @@ use Rattle.utf8.proofs.validate.Kinds as validate
 use Rattle.utf8.proofs.validate.Reads as validate-reads
 use Rattle.utf8.proofs.admit.Kinds as admit
 use Rattle.utf8.proofs.admit.Reads as admit-reads
+use Rattle.utf8.proofs.refused_by.Kinds as refused-by
+use Rattle.utf8.proofs.refused_by.Reads as refused-by-reads
 use Rattle.utf8.proofs.char_number.Kinds as char-number
 use Rattle.utf8.proofs.char_number.Reads as char-number-reads
 use Rattle.utf8.proofs.char_at.Kinds as char-at
@@ -17,6 +19,9 @@ same-validate κs a x y e f p q = p ∙ sym q
 
 pub same-admit : OneAnswer admit.ps admit.r admit-reads.Post
 same-admit κs a x y e f p q = p ∙ sym q
+
+pub same-refused-by : OneAnswer refused-by.ps refused-by.r refused-by-reads.Post
+same-refused-by κs a x y e f p q = p ∙ sym q
 
 pub same-char-number : OneAnswer char-number.ps char-number.r char-number-reads.Post
 same-char-number κs a x y e f p q = p ∙ sym q

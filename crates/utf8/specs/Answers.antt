@@ -54,12 +54,25 @@ noRoom = atStart 3
 abbrev pub notUtf8 : Place → Refusal
 notUtf8 p = record { number = 2; place = p }
 
+-- the number 0 is no refusal's
+abbrev pub noRefusal : Refusal
+noRefusal = atStart 0
+
+abbrev pub notUtf8By : Validity → Refusal
+notUtf8By (Valid n) = noRefusal
+notUtf8By (Invalid p) = notUtf8 p
+
 abbrev pub admittedAs : Validity → Admission
 admittedAs (Valid n) = Admitted n
 admittedAs (Invalid p) = Refused (notUtf8 p)
 
 unfoldable pub admitted : ℕ → List ℕ → Admission
 admitted limit xs = cond (ltb limit (length xs)) (Refused tooLong) (admittedAs (validityOf xs))
+
+-- why a text is not taken up
+abbrev pub refusedBy : Admission → Refusal
+refusedBy (Admitted n) = noRefusal
+refusedBy (Refused r) = r
 
 -- the character that a list begins with, and the one that the bytes from an offset on begin with
 abbrev pub characterOf : List ℕ → Character

@@ -5,7 +5,7 @@ ghost use Rattle.utf8.specs.Table.{isTail, charLength};
 ghost use Rattle.utf8.specs.Lead.{sizeBy, lowSecond, highSecond, withTails};
 ghost use Rattle.utf8.specs.Text.{charNumber};
 ghost use Rattle.utf8.specs.Code.{codeOf};
-ghost use Rattle.utf8.specs.Answers.{count, nextStart, validityOf, atStart, admitted, characterAt};
+ghost use Rattle.utf8.specs.Answers.{count, nextStart, validityOf, atStart, notUtf8By, admitted, refusedBy, characterAt};
 
 // How many bytes come before a place.
 pub struct ByteOffset(pub usize);
@@ -34,6 +34,9 @@ pub const TOO_LONG: usize = 1;
 pub const NOT_UTF8: usize = 2;
 
 pub const NO_ROOM: usize = 3;
+
+// No refusal has this number.
+pub const NO_REFUSAL: usize = 0;
 
 // Whether bytes are UTF-8: how many characters they are, or where the longest well-formed prefix ends.
 pub enum Validity {
@@ -183,6 +186,19 @@ pub fn at_start(number: usize) -> Refusal
     Refusal { number, place }
 }
 
+// Refusal 2, where the longest well-formed prefix ends.
+fn not_utf8(v: Validity) -> Refusal
+    ensures { λ r. ⌜ r ≡ notUtf8By v ⌝ }
+{
+    let Validity::Invalid(place) = v else {
+        return at_start(NO_REFUSAL);
+    };
+    Refusal {
+        number: NOT_UTF8,
+        place,
+    }
+}
+
 // Takes up a text of at most `limit` bytes: refusals 1 and 2 of every reader.
 pub fn admit(text: &[u8], limit: usize) -> Admission
     ensures { λ r. ⌜ r ≡ admitted limit (now (text .entry)) ⌝ }
@@ -191,13 +207,20 @@ pub fn admit(text: &[u8], limit: usize) -> Admission
         return Admission::Refused(at_start(TOO_LONG));
     }
     let v = validate(text);
-    match v {
-        Validity::Valid(n) => Admission::Admitted(n),
-        Validity::Invalid(place) => Admission::Refused(Refusal {
-            number: NOT_UTF8,
-            place,
-        }),
-    }
+    let Validity::Valid(n) = v else {
+        return Admission::Refused(not_utf8(v));
+    };
+    Admission::Admitted(n)
+}
+
+// Why a text is not taken up; where it is, a refusal of no number.
+pub fn refused_by(a: Admission) -> Refusal
+    ensures { λ r. ⌜ r ≡ refusedBy a ⌝ }
+{
+    let Admission::Refused(r) = a else {
+        return at_start(NO_REFUSAL);
+    };
+    r
 }
 
 // How many characters of the longest well-formed prefix begin before an offset; one that it lies inside counts.

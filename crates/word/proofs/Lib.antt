@@ -1,3 +1,4 @@
 pub mod Words
 pub mod Fits
 pub mod Unique
+pub mod Wrong

@@ -9,7 +9,7 @@ use borrow.Author.Tests.{eq-eqb, ne-eqb}
 use Rattle.byte.specs.Ascii.{ascii}
 use Rattle.scan.specs.Text.{sameText}
 use Rattle.utf8.specs.declared.Admission.{Admission}
-use Rattle.utf8.specs.Answers.{admitted}
+use Rattle.utf8.specs.Answers.{admitted, refusedBy}
 use Rattle.decimal.specs.Value.{longest, decimalOf}
 use Rattle.duration.specs.declared.Timing.the-variants.{Refused}
 use Rattle.duration.specs.Duration.{emptyText, zeroDuration, decimalRead, durationRead, timingFor, timingOf}
@@ -20,8 +20,14 @@ use Rattle.duration.proofs.parse_duration.Tie as tie
 admit-requires : tie.Need-admit-requires
 admit-requires c κs = search needs
 
-enum-known-a : tie.Need-enum-known-a
-enum-known-a c = search needs
+enum-told : tie.Need-enum-told
+enum-told c = search needs
+
+enum-told-2 : tie.Need-enum-told-2
+enum-told-2 c = search needs
+
+refused-by-requires : tie.Need-refused-by-requires
+refused-by-requires c κs = search needs
 
 module _ (xs : List ℕ) where
   by-admission : (a : Admission) → admitted longest xs ≡ a → timingFor a xs ≡ timingOf xs
@@ -42,10 +48,10 @@ module _ (xs : List ℕ) where
     other e = rw (ne-eqb (length xs) 0 n, e)
 
 returns : tie.Need-returns
-returns c = let x = now (c .before .before .before .before .before .args .s) in by-admission x _ (sym (c .before .before .before .admit .ensures) ∙ c .before .a .given .1)
-
-enum-told : tie.Need-enum-told
-enum-told c = search needs
+returns c =
+    let x = now (c .before .before .before .before .before .args .s) in
+    let e = c .before .enum-told2 .given .1 in
+    ap Refused (c .refused-by .ensures ∙ ap refusedBy e) ∙ by-admission x _ (sym (c .before .before .before .admit .ensures) ∙ e)
 
 module _ (c : tie.After-enum-told) where
   abbrev text : List ℕ
@@ -83,9 +89,10 @@ parse-duration-spec =
     tie.close
     (tie.spec
     admit-requires
-    enum-known-a
-    returns
     enum-told
+    enum-told-2
+    refused-by-requires
+    returns
     refused-requires
     returns-2
     slice-aggregate-is-text

@@ -3,6 +3,7 @@ use mathlib.Core.Path.{refl, sym, ap, _∙_}
 use native.Mathlib.Omega.{arith}
 use denote.Ref.{now}
 use borrow.Author.Needs.{needs}
+use Rattle.utf8.specs.Answers.{refusedBy}
 use Rattle.escape.specs.declared.Escaping.the-variants.{Refused}
 use Rattle.escape.proofs.Escapes.{refused-first, not-fitted, written, left}
 use Rattle.escape.proofs.escape_string.Statement.{statement}
@@ -11,16 +12,20 @@ use Rattle.escape.proofs.escape_string.Tie as tie
 admit-requires : tie.Need-admit-requires
 admit-requires c κs = search needs
 
-enum-known-a : tie.Need-enum-known-a
-enum-known-a c = search needs
+enum-told : tie.Need-enum-told
+enum-told c = search needs
+
+enum-told-2 : tie.Need-enum-told-2
+enum-told-2 c = search needs
+
+refused-by-requires : tie.Need-refused-by-requires
+refused-by-requires c κs = search needs
 
 returns : tie.Need-returns
 returns c =
     let d = now (c .before .before .before .before .before .before .args .out) in
-    (refused-first _ d _ (sym (c .before .before .before .admit .ensures) ∙ c .before .a .given .1), refl)
-
-enum-told : tie.Need-enum-told
-enum-told c = search needs
+    let e = c .before .enum-told2 .given .1 in
+    (ap Refused (c .refused-by .ensures ∙ ap refusedBy e) ∙ refused-first _ d _ (sym (c .before .before .before .admit .ensures) ∙ e), refl)
 
 escaped-length-requires : tie.Need-escaped-length-requires
 escaped-length-requires c κs = search needs
@@ -52,9 +57,10 @@ escape-string-spec =
     tie.close
     (tie.spec
     admit-requires
-    enum-known-a
-    returns
     enum-told
+    enum-told-2
+    refused-by-requires
+    returns
     escaped-length-requires
     at-start-requires
     returns-2

@@ -7,7 +7,8 @@ use lib.ListN.{length}
 use denote.Ref.{now}
 use Rattle.span.specs.declared.Duration.{Duration}
 use Rattle.display.specs.declared.Displaying.{Displaying}
-use Rattle.display.specs.Display.{textOf, displayingOf, leftBy}
+use Rattle.display.specs.Display.{textOf, displayingOf, leftBy, refusedBy}
+use Rattle.packed.specs.Packed.{packedOf}
 use Rattle.exports_duration.specs.Duration.{durationOf, displayingCode}
 use borrow.Author.Needs.{needs}
 use Rattle.exports_duration.proofs.simmerpath_display_duration.Statement.{statement}
@@ -19,8 +20,14 @@ display-duration-requires c κs = search needs
 enum-known-d : tie.Need-enum-known-d
 enum-known-d c = search needs
 
-enum-known-d-2 : tie.Need-enum-known-d-2
-enum-known-d-2 c = search needs
+enum-told : tie.Need-enum-told
+enum-told c = search needs
+
+refused-by-requires : tie.Need-refused-by-requires
+refused-by-requires c κs = search needs
+
+packed-requires : tie.Need-packed-requires
+packed-requires c κs = search needs
 
 module _ (c : tie.After-display-duration) where
   abbrev lent : List ℕ
@@ -39,20 +46,20 @@ module _ (c : tie.After-display-duration) where
   left-is : c .display-duration .last .1 .0 ≡ leftBy answer (textOf shown) lent
   left-is = c .display-duration .ensures .1 ∙ ap (λ (d : Displaying). leftBy d (textOf shown) lent) (c .display-duration .ensures .0)
 
-packed-requires : tie.Need-packed-requires
-packed-requires c κs = search needs
-
 same-length : tie.Need-same-length
 same-length c = search needs
 
 returns : tie.Need-returns
-returns c = let d = c .before .before .before .before .before in (code-is d _ (c .before .d .given .1), left-is d)
+returns c =
+    let d = c .before .before .before .before .before .before in
+    let e = c .before .before .enum-told .given .1 in
+    (c .packed .ensures ∙ ap packedOf (c .before .refused-by .ensures ∙ ap refusedBy e) ∙ code-is d _ e, left-is d)
 
 same-length-2 : tie.Need-same-length-2
 same-length-2 c = search needs
 
 returns-2 : tie.Need-returns-2
-returns-2 c = let d = c .before .before .before .before .before .before in (c .packed .ensures ∙ code-is d _ (c .before .before .d2 .given .1), left-is d)
+returns-2 c = let d = c .before .before .before .before .before in (code-is d _ (c .before .d .given .1), left-is d)
 
 pub simmerpath-display-duration-spec : {M : Type 1} → statement M
 simmerpath-display-duration-spec =
@@ -60,7 +67,8 @@ simmerpath-display-duration-spec =
     (tie.spec
     display-duration-requires
     enum-known-d
-    enum-known-d-2
+    enum-told
+    refused-by-requires
     packed-requires
     same-length
     returns

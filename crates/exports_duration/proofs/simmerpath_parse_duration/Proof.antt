@@ -5,7 +5,8 @@ use mathlib.Core.List.{List}
 use mathlib.Core.Path.{_≡_, sym, ap, _∙_}
 use denote.Ref.{now}
 use Rattle.duration.specs.declared.Timing.{Timing}
-use Rattle.duration.specs.Duration.{timingOf}
+use Rattle.duration.specs.Duration.{timingOf, refusedBy}
+use Rattle.packed.specs.Packed.{packedOf}
 use Rattle.exports_duration.specs.Duration.{durationCode, secsLeft, nanosLeft}
 use borrow.Author.Needs.{needs}
 use Rattle.exports_duration.proofs.simmerpath_parse_duration.Statement.{statement}
@@ -17,8 +18,14 @@ parse-duration-requires c κs = search needs
 enum-known-t : tie.Need-enum-known-t
 enum-known-t c = search needs
 
-enum-known-t-2 : tie.Need-enum-known-t-2
-enum-known-t-2 c = search needs
+enum-told : tie.Need-enum-told
+enum-told c = search needs
+
+refused-by-requires : tie.Need-refused-by-requires
+refused-by-requires c κs = search needs
+
+packed-requires : tie.Need-packed-requires
+packed-requires c κs = search needs
 
 module _ (c : tie.After-parse-duration) where
   abbrev xs : List ℕ
@@ -36,14 +43,14 @@ module _ (c : tie.After-parse-duration) where
       let f = sym e ∙ c .parse-duration .ensures in
       (ap durationCode f, (ap (λ (u : Timing). secsLeft u s) f, ap (λ (u : Timing). nanosLeft u n) f))
 
-packed-requires : tie.Need-packed-requires
-packed-requires c κs = search needs
-
 returns : tie.Need-returns
-returns c = answers (c .before .before .before) _ (c .before .t .given .1)
+returns c =
+    let e = c .before .before .enum-told .given .1 in
+    let a = answers (c .before .before .before .before) _ e in
+    (c .packed .ensures ∙ ap packedOf (c .before .refused-by .ensures ∙ ap refusedBy e) ∙ a .0, a .1)
 
 returns-2 : tie.Need-returns-2
-returns-2 c = let a = answers (c .before .before .before .before) _ (c .before .before .t2 .given .1) in (c .packed .ensures ∙ a .0, a .1)
+returns-2 c = answers (c .before .before .before) _ (c .before .t .given .1)
 
 pub simmerpath-parse-duration-spec : {M : Type 1} → statement M
 simmerpath-parse-duration-spec =
@@ -51,7 +58,8 @@ simmerpath-parse-duration-spec =
     (tie.spec
     parse-duration-requires
     enum-known-t
-    enum-known-t-2
+    enum-told
+    refused-by-requires
     packed-requires
     returns
     returns-2)

@@ -8,7 +8,8 @@ use borrow.Author.Needs.{needs}
 use lib.ListN.{length}
 use Rattle.lex.specs.declared.Lexing.{Lexing}
 use Rattle.lex.specs.Steps.{Entry}
-use Rattle.lex.specs.Lex.{lexed, listed, leftBy, kindOf, startOf, lengthOf, shortest}
+use Rattle.lex.specs.Lex.{lexed, listed, leftBy, kindOf, startOf, lengthOf, shortest, refusedBy}
+use Rattle.packed.specs.Packed.{packedOf}
 use Rattle.exports_lexer.specs.Lexer.{lexerCode}
 use Rattle.exports_lexer.proofs.simmerpath_lexer.Statement.{statement}
 use Rattle.exports_lexer.proofs.simmerpath_lexer.Tie as tie
@@ -19,8 +20,14 @@ lexer-requires c κs = search needs
 enum-known-l : tie.Need-enum-known-l
 enum-known-l c = search needs
 
-enum-known-l-2 : tie.Need-enum-known-l-2
-enum-known-l-2 c = search needs
+enum-told : tie.Need-enum-told
+enum-told c = search needs
+
+refused-by-requires : tie.Need-refused-by-requires
+refused-by-requires c κs = search needs
+
+packed-requires : tie.Need-packed-requires
+packed-requires c κs = search needs
 
 module _ (c : tie.After-lexer) where
   abbrev start : tie.Start
@@ -52,9 +59,6 @@ module _ (c : tie.After-lexer) where
   code-is : (x : Lexing) → c .lexer .result ≡ x → lexerCode x ≡ lexerCode (lexed room q)
   code-is x t = ap lexerCode (sym t ∙ c .lexer .ensures .0)
 
-packed-requires : tie.Need-packed-requires
-packed-requires c κs = search needs
-
 same-length : tie.Need-same-length
 same-length c = search needs
 
@@ -66,8 +70,9 @@ same-length-3 c = search needs
 
 returns : tie.Need-returns
 returns c =
-    let d = c .before .before .before .before .before .before .before .before .before in
-    (code-is d _ (c .before .l .given .1), left-is d)
+    let d = c .before .before .before .before .before .before .before .before .before .before in
+    let e = c .before .before .enum-told .given .1 in
+    (c .packed .ensures ∙ ap packedOf (c .before .refused-by .ensures ∙ ap refusedBy e) ∙ code-is d _ e, left-is d)
 
 same-length-4 : tie.Need-same-length-4
 same-length-4 c = search needs
@@ -80,8 +85,8 @@ same-length-6 c = search needs
 
 returns-2 : tie.Need-returns-2
 returns-2 c =
-    let d = c .before .before .before .before .before .before .before .before .before .before in
-    (c .packed .ensures ∙ code-is d _ (c .before .before .l2 .given .1), left-is d)
+    let d = c .before .before .before .before .before .before .before .before .before in
+    (code-is d _ (c .before .l .given .1), left-is d)
 
 pub simmerpath-lexer-spec : {M : Type 1} → statement M
 simmerpath-lexer-spec =
@@ -89,7 +94,8 @@ simmerpath-lexer-spec =
     (tie.spec
     lexer-requires
     enum-known-l
-    enum-known-l-2
+    enum-told
+    refused-by-requires
     packed-requires
     same-length
     same-length-2

@@ -6,7 +6,8 @@ use mathlib.Core.Path.{_≡_, sym, ap, _∙_}
 use denote.Ref.{now}
 use borrow.Author.Needs.{needs}
 use Rattle.number.specs.declared.Parsing.{Parsing}
-use Rattle.number.specs.Number.{parsingOf}
+use Rattle.number.specs.Number.{parsingOf, refusedBy}
+use Rattle.packed.specs.Packed.{packedOf}
 use Rattle.exports_number.specs.Number.{parseCode, parseLeft}
 use Rattle.exports_number.proofs.simmerpath_parse_str_radix.Statement.{statement}
 use Rattle.exports_number.proofs.simmerpath_parse_str_radix.Tie as tie
@@ -17,14 +18,14 @@ parse-str-radix-requires c κs = search needs
 enum-known-p : tie.Need-enum-known-p
 enum-known-p c = search needs
 
-bits-of-requires : tie.Need-bits-of-requires
-bits-of-requires c κs = search needs
+enum-told : tie.Need-enum-told
+enum-told c = search needs
 
-notation-code-requires : tie.Need-notation-code-requires
-notation-code-requires c κs = search needs
+refused-by-requires : tie.Need-refused-by-requires
+refused-by-requires c κs = search needs
 
-enum-known-p-2 : tie.Need-enum-known-p-2
-enum-known-p-2 c = search needs
+packed-requires : tie.Need-packed-requires
+packed-requires c κs = search needs
 
 module _ (c : tie.After-parse-str-radix) where
   abbrev xs : List ℕ
@@ -39,18 +40,22 @@ module _ (c : tie.After-parse-str-radix) where
       let e = sym t ∙ c .parse-str-radix .ensures in
       (ap parseCode e, ap (λ (q : Parsing). parseLeft q old) e)
 
-packed-requires : tie.Need-packed-requires
-packed-requires c κs = search needs
-
 returns : tie.Need-returns
 returns c =
-    let a = answers (c .before .before .before .before .before) _ (c .before .before .before .p .given .1) in
-    (c .notation-code .ensures ∙ a .0, c .before .bits-of .ensures ∙ a .1)
+    let e = c .before .before .enum-told .given .1 in
+    let a = answers (c .before .before .before .before) _ e in
+    (c .packed .ensures ∙ ap packedOf (c .before .refused-by .ensures ∙ ap refusedBy e) ∙ a .0, a .1)
+
+bits-of-requires : tie.Need-bits-of-requires
+bits-of-requires c κs = search needs
+
+notation-code-requires : tie.Need-notation-code-requires
+notation-code-requires c κs = search needs
 
 returns-2 : tie.Need-returns-2
 returns-2 c =
-    let a = answers (c .before .before .before .before) _ (c .before .before .p2 .given .1) in
-    (c .packed .ensures ∙ a .0, a .1)
+    let a = answers (c .before .before .before .before .before) _ (c .before .before .before .p .given .1) in
+    (c .notation-code .ensures ∙ a .0, c .before .bits-of .ensures ∙ a .1)
 
 pub simmerpath-parse-str-radix-spec : {M : Type 1} → statement M
 simmerpath-parse-str-radix-spec =
@@ -58,9 +63,10 @@ simmerpath-parse-str-radix-spec =
     (tie.spec
     parse-str-radix-requires
     enum-known-p
-    bits-of-requires
-    notation-code-requires
-    enum-known-p-2
+    enum-told
+    refused-by-requires
     packed-requires
     returns
+    bits-of-requires
+    notation-code-requires
     returns-2)

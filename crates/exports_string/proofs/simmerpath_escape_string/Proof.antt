@@ -5,7 +5,8 @@ use denote.Ref.{now}
 use borrow.Author.Needs.{needs}
 use lib.ListN.{length}
 use Rattle.escape.specs.declared.Escaping.{Escaping}
-use Rattle.escape.specs.Escape.{escaped, escapingOf, leftBy}
+use Rattle.escape.specs.Escape.{escaped, escapingOf, leftBy, refusedBy}
+use Rattle.packed.specs.Packed.{packedOf}
 use Rattle.exports_string.specs.String.{escapeCode}
 use Rattle.exports_string.proofs.simmerpath_escape_string.Statement.{statement}
 use Rattle.exports_string.proofs.simmerpath_escape_string.Tie as tie
@@ -16,8 +17,14 @@ escape-string-requires c κs = search needs
 enum-known-e : tie.Need-enum-known-e
 enum-known-e c = search needs
 
-enum-known-e-2 : tie.Need-enum-known-e-2
-enum-known-e-2 c = search needs
+enum-told : tie.Need-enum-told
+enum-told c = search needs
+
+refused-by-requires : tie.Need-refused-by-requires
+refused-by-requires c κs = search needs
+
+packed-requires : tie.Need-packed-requires
+packed-requires c κs = search needs
 
 module _ (c : tie.After-escape-string) where
   abbrev answer : Escaping
@@ -32,22 +39,20 @@ module _ (c : tie.After-escape-string) where
       let a = c .before .before .before .before .args in
       c .escape-string .ensures .1 ∙ ap (λ (e : Escaping). leftBy e (escaped (now (a .text))) (now (a .out))) (c .escape-string .ensures .0)
 
-packed-requires : tie.Need-packed-requires
-packed-requires c κs = search needs
-
 same-length : tie.Need-same-length
 same-length c = search needs
 
 returns : tie.Need-returns
-returns c = let d = c .before .before .before .before .before in (code-is d _ (c .before .e .given .1), left-is d)
+returns c =
+    let d = c .before .before .before .before .before .before in
+    let e = c .before .before .enum-told .given .1 in
+    (c .packed .ensures ∙ ap packedOf (c .before .refused-by .ensures ∙ ap refusedBy e) ∙ code-is d _ e, left-is d)
 
 same-length-2 : tie.Need-same-length-2
 same-length-2 c = search needs
 
 returns-2 : tie.Need-returns-2
-returns-2 c =
-    let d = c .before .before .before .before .before .before in
-    (c .packed .ensures ∙ code-is d _ (c .before .before .e2 .given .1), left-is d)
+returns-2 c = let d = c .before .before .before .before .before in (code-is d _ (c .before .e .given .1), left-is d)
 
 pub simmerpath-escape-string-spec : {M : Type 1} → statement M
 simmerpath-escape-string-spec =
@@ -55,7 +60,8 @@ simmerpath-escape-string-spec =
     (tie.spec
     escape-string-requires
     enum-known-e
-    enum-known-e-2
+    enum-told
+    refused-by-requires
     packed-requires
     same-length
     returns

@@ -2,14 +2,19 @@
 -- (`unquoting-bound`), and leaves in the buffer what that leaves.
 use Prim.Native.Nat.{ℕ}
 use native.Mathlib.Omega.{arith}
-use mathlib.Core.List.{List}
-use mathlib.Core.Path.{_≡_, sym, ap, _∙_, subst}
+use mathlib.Core.List.{List, [], _∷_}
+use mathlib.Core.Logic.{⊎-elim}
+use mathlib.Core.Path.{_≡_, refl, sym, ap, _∙_, subst}
+use types.Run.{OneOf}
 use denote.Ref.{now}
+use denote.Enum.Declared.{tagOf}
 use borrow.Author.Needs.{needs}
 use lib.ListN.{length}
 use Rattle.utf8.specs.declared.Reading.{Reading}
 use Rattle.string.specs.declared.Unquoting.{Unquoting}
+use Rattle.string.specs.declared.Unquoting.the-variants.{Written}
 use Rattle.string.specs.Literal.{unquoted, unquotingOf, textBy}
+use Rattle.string.proofs.Unquoting as unquoting
 use Rattle.string.proofs.Bounds.{Bounded, unquoting-bound}
 use Rattle.exports_string.specs.String.{readingOf, unquoteCode}
 use Rattle.exports_string.proofs.simmerpath_unquote_string.Statement.{statement}
@@ -53,37 +58,24 @@ module _ (c : tie.After-unquote-string) where
       ∙ ap (λ (r : Reading). textBy (c .unquote-string .result) (unquoted r xs) out) (c .before .before .reading-of .ensures)
       ∙ ap (λ (u : Unquoting). textBy u (unquoted reads xs) out) answer-is
 
-add-result : tie.Need-add-result
-add-result c = omega (arith, bound-is (c .before .before .before .before .before) _ (c .before .u .given .1))
+unwritten : (u : Unquoting) → OneOf (0 ∷ 2 ∷ []) (tagOf unquoting.the-type u) → (n : ℕ) → u ≡ Written n → ⊥
+unwritten u t n e = let k = ap (tagOf unquoting.the-type) e in ⊎-elim (λ z. omega arith) (λ z. omega arith) t
 
-enum-known-u-2 : tie.Need-enum-known-u-2
-enum-known-u-2 c = search needs
-
-enum-known-u-3 : tie.Need-enum-known-u-3
-enum-known-u-3 c = search needs
-
-packed-requires : tie.Need-packed-requires
-packed-requires c κs = search needs
+not-written-requires : tie.Need-not-written-requires
+not-written-requires c κs =
+    (unwritten _ (c .match .keys2), λ n e. omega (arith, bound-is (c .before .before .before) _ e))
 
 same-length : tie.Need-same-length
 same-length c = search needs
 
 returns : tie.Need-returns
-returns c = let d = c .before .before .before .before .before in (code-is d _ (c .before .u .given .1), left-is d)
+returns c = let d = c .before .before .before .before in (c .not-written .ensures ∙ code-is d _ refl, left-is d)
 
 same-length-2 : tie.Need-same-length-2
 same-length-2 c = search needs
 
 returns-2 : tie.Need-returns-2
-returns-2 c = let d = c .before .before .before .before .before in (code-is d _ (c .before .u2 .given .1), left-is d)
-
-same-length-3 : tie.Need-same-length-3
-same-length-3 c = search needs
-
-returns-3 : tie.Need-returns-3
-returns-3 c =
-    let d = c .before .before .before .before .before .before in
-    (c .packed .ensures ∙ code-is d _ (c .before .before .u3 .given .1), left-is d)
+returns-2 c = let d = c .before .before .before .before .before in (code-is d _ (c .before .u .given .1), left-is d)
 
 pub simmerpath-unquote-string-spec : {M : Type 1} → statement M
 simmerpath-unquote-string-spec =
@@ -92,13 +84,8 @@ simmerpath-unquote-string-spec =
     reading-of-requires
     unquote-string-requires
     enum-known-u
-    add-result
-    enum-known-u-2
-    enum-known-u-3
-    packed-requires
+    not-written-requires
     same-length
     returns
     same-length-2
-    returns-2
-    same-length-3
-    returns-3)
+    returns-2)

@@ -11,19 +11,19 @@ get-keyword-token-requires c κs = search needs
 enum-known-k : tie.Need-enum-known-k
 enum-known-k c = search needs
 
-cast-result : tie.Need-cast-result
-cast-result c = search needs
-
 enum-told : tie.Need-enum-told
 enum-told c = search needs
 
 returns : tie.Need-returns
-returns c = ap keywordCode (sym (c .before .k .given .1) ∙ c .before .before .before .get-keyword-token .ensures)
+returns c = ap keywordCode (sym (c .enum-told .given .1) ∙ c .before .before .get-keyword-token .ensures)
+
+cast-result : tie.Need-cast-result
+cast-result c = search needs
 
 returns-2 : tie.Need-returns-2
-returns-2 c = ap keywordCode (sym (c .enum-told .given .1) ∙ c .before .before .get-keyword-token .ensures)
+returns-2 c = ap keywordCode (sym (c .before .k .given .1) ∙ c .before .before .before .get-keyword-token .ensures)
 
 pub simmerpath-get-keyword-token-spec : {M : Type 1} → statement M
 simmerpath-get-keyword-token-spec =
     tie.close
-    (tie.spec get-keyword-token-requires enum-known-k cast-result enum-told returns returns-2)
+    (tie.spec get-keyword-token-requires enum-known-k enum-told returns cast-result returns-2)

@@ -38,15 +38,15 @@ same-length : tie.Need-same-length
 same-length c = search needs
 
 returns : tie.Need-returns
-returns c = let d = c .before .before .before .before .before in (code-is d _ (c .before .d .given .1), left-is d)
+returns c =
+    let d = c .before .before .before .before .before in
+    (c .packed-at-start .ensures ∙ code-is d _ (c .before .enum-told .given .1), left-is d)
 
 same-length-2 : tie.Need-same-length-2
 same-length-2 c = search needs
 
 returns-2 : tie.Need-returns-2
-returns-2 c =
-    let d = c .before .before .before .before .before in
-    (c .packed-at-start .ensures ∙ code-is d _ (c .before .enum-told .given .1), left-is d)
+returns-2 c = let d = c .before .before .before .before .before in (code-is d _ (c .before .d .given .1), left-is d)
 
 pub simmerpath-token-display-spec : {M : Type 1} → statement M
 simmerpath-token-display-spec =

@@ -1,16 +1,19 @@
 -- `exports_utf8::simmerpath_utf8_char_at` meets its contract: a text that is not too long answers by its character there.
+use native.Mathlib.Omega.{arith}
 use Prim.Native.Nat.{ℕ}
-use mathlib.Core.List.{List}
-use mathlib.Core.Path.{_≡_, sym, ap, _∙_}
+use mathlib.Core.List.{List, [], _∷_}
+use mathlib.Core.Logic.{⊎-elim}
+use mathlib.Core.Path.{_≡_, refl, sym, ap, _∙_}
+use types.Run.{OneOf}
 use denote.Ref.{now}
+use denote.Enum.Declared.{tagOf}
 use borrow.Author.Needs.{needs}
 use borrow.Author.Tests.{lt-ltb, le-ltb}
 use lib.ListN.{length}
 use Rattle.utf8.specs.declared.Character.{Character}
-use Rattle.utf8.specs.declared.Character.the-variants.{IllFormed}
-use Rattle.utf8.specs.declared.CharNumber.{CharNumber}
-use Rattle.utf8.specs.Answers.{place, textLimit, notUtf8, characterAt}
-use Rattle.packed.specs.Packed.{packedOf}
+use Rattle.utf8.specs.declared.Character.the-variants.{Scalar, Nothing, IllFormed}
+use Rattle.utf8.specs.Answers.{textLimit, characterAt}
+use Rattle.utf8.proofs.Character as character
 use Rattle.exports_utf8.specs.Utf8.{characterCode, charAtCode, codeOr, charAtLeft}
 use Rattle.exports_utf8.proofs.simmerpath_utf8_char_at.Statement.{statement}
 use Rattle.exports_utf8.proofs.simmerpath_utf8_char_at.Tie as tie
@@ -30,14 +33,17 @@ char-at-requires c κs = search needs
 enum-known-c : tie.Need-enum-known-c
 enum-known-c c = search needs
 
-enum-told : tie.Need-enum-told
-enum-told c = search needs
+-- an answer of the other two cases is no character, and what was lent keeps what it held
+no-scalar : (k : Character) → OneOf (1 ∷ 2 ∷ []) (tagOf character.the-type k) → (code size : ℕ) → k ≡ Scalar code size → ⊥
+no-scalar k t code size e = let i = ap (tagOf character.the-type) e in ⊎-elim (λ z. omega arith) (λ z. omega arith) t
 
-enum-told-2 : tie.Need-enum-told-2
-enum-told-2 c = search needs
+kept : (old : ℕ) (k : Character) → OneOf (1 ∷ 2 ∷ []) (tagOf character.the-type k) → old ≡ codeOr old k
+kept old (Scalar code size) t = absurd (⊎-elim (λ z. omega arith) (λ z. omega arith) t)
+kept old Nothing t = refl
+kept old IllFormed t = refl
 
-char-number-requires : tie.Need-char-number-requires
-char-number-requires c κs = search needs
+no-character-requires : tie.Need-no-character-requires
+no-character-requires c κs = no-scalar _ (c .match .keys2)
 
 module _ (c : tie.After-char-at) where
   abbrev text : List ℕ
@@ -57,20 +63,14 @@ module _ (c : tie.After-char-at) where
       let i : characterAt text from ≡ k = sym (c .char-at .ensures) ∙ e in
       (rw (h, i), rw (h, i))
 
-packed-requires : tie.Need-packed-requires
-packed-requires c κs = search needs
-
 returns-2 : tie.Need-returns-2
-returns-2 c = answers (c .before .before .before) _ (c .before .c .given .1)
+returns-2 c =
+    let d = c .before .before in
+    let a = answers d _ refl in
+    (c .no-character .ensures ∙ a .0, kept (old d) (d .char-at .result) (c .before .match .keys2) ∙ a .1)
 
 returns-3 : tie.Need-returns-3
-returns-3 c = answers (c .before .before) _ (c .enum-told .given .1)
-
-returns-4 : tie.Need-returns-4
-returns-4 c =
-    let d = c .before .before .before .before in
-    let a = answers d IllFormed (c .before .before .enum-told2 .given .1) in
-    (c .packed .ensures ∙ ap (λ (n : CharNumber). packedOf (notUtf8 (place (from d) (n .0)))) (c .before .char-number .ensures) ∙ a .0, a .1)
+returns-3 c = answers (c .before .before .before) _ (c .before .c .given .1)
 
 pub simmerpath-utf8-char-at-spec : {M : Type 1} → statement M
 simmerpath-utf8-char-at-spec =
@@ -80,10 +80,6 @@ simmerpath-utf8-char-at-spec =
     returns
     char-at-requires
     enum-known-c
-    enum-told
-    enum-told-2
-    char-number-requires
-    packed-requires
+    no-character-requires
     returns-2
-    returns-3
-    returns-4)
+    returns-3)

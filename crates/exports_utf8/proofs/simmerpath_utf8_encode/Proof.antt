@@ -1,10 +1,18 @@
 -- `exports_utf8::simmerpath_utf8_encode` meets its contract: it is what `encode` says, and leaves in the buffer what that leaves.
-use mathlib.Core.Path.{_≡_, sym, ap, _∙_}
+use native.Mathlib.Omega.{arith}
+use Prim.Native.Nat.{ℕ}
+use mathlib.Core.List.{[], _∷_}
+use mathlib.Core.Logic.{⊎-elim}
+use mathlib.Core.Path.{_≡_, refl, sym, ap, _∙_}
+use types.Run.{OneOf}
 use denote.Ref.{now}
+use denote.Enum.Declared.{tagOf}
 use borrow.Author.Needs.{needs}
 use lib.ListN.{length}
 use Rattle.encode.specs.declared.Encoding.{Encoding}
+use Rattle.encode.specs.declared.Encoding.the-variants.{Written}
 use Rattle.encode.specs.Answers.{encodingOf, leftBy}
+use Rattle.encode.proofs.Encoding as encoding
 use Rattle.exports_utf8.specs.Utf8.{encodeCode}
 use Rattle.exports_utf8.proofs.simmerpath_utf8_encode.Statement.{statement}
 use Rattle.exports_utf8.proofs.simmerpath_utf8_encode.Tie as tie
@@ -15,17 +23,11 @@ encode-requires c κs = search needs
 enum-known-e : tie.Need-enum-known-e
 enum-known-e c = search needs
 
-enum-told : tie.Need-enum-told
-enum-told c = search needs
+unwritten : (e : Encoding) → OneOf (1 ∷ 2 ∷ []) (tagOf encoding.the-type e) → (n : ℕ) → e ≡ Written n → ⊥
+unwritten e t n w = let k = ap (tagOf encoding.the-type) w in ⊎-elim (λ z. omega arith) (λ z. omega arith) t
 
-packed-at-start-requires : tie.Need-packed-at-start-requires
-packed-at-start-requires c κs = search needs
-
-enum-told-2 : tie.Need-enum-told-2
-enum-told-2 c = search needs
-
-packed-at-start-requires-2 : tie.Need-packed-at-start-requires-2
-packed-at-start-requires-2 c κs = search needs
+not-written-requires : tie.Need-not-written-requires
+not-written-requires c κs = unwritten _ (c .match .keys2)
 
 module _ (c : tie.After-encode) where
   abbrev answer : Encoding
@@ -44,23 +46,13 @@ same-length : tie.Need-same-length
 same-length c = search needs
 
 returns : tie.Need-returns
-returns c = let d = c .before .before .before .before .before in (code-is d _ (c .before .e .given .1), left-is d)
+returns c = let d = c .before .before .before .before in (c .not-written .ensures ∙ code-is d _ refl, left-is d)
 
 same-length-2 : tie.Need-same-length-2
 same-length-2 c = search needs
 
 returns-2 : tie.Need-returns-2
-returns-2 c =
-    let d = c .before .before .before .before .before in
-    (c .packed-at-start .ensures ∙ code-is d _ (c .before .enum-told .given .1), left-is d)
-
-same-length-3 : tie.Need-same-length-3
-same-length-3 c = search needs
-
-returns-3 : tie.Need-returns-3
-returns-3 c =
-    let d = c .before .before .before .before .before in
-    (c .packed-at-start2 .ensures ∙ code-is d _ (c .before .enum-told2 .given .1), left-is d)
+returns-2 c = let d = c .before .before .before .before .before in (code-is d _ (c .before .e .given .1), left-is d)
 
 pub simmerpath-utf8-encode-spec : {M : Type 1} → statement M
 simmerpath-utf8-encode-spec =
@@ -68,13 +60,8 @@ simmerpath-utf8-encode-spec =
     (tie.spec
     encode-requires
     enum-known-e
-    enum-told
-    packed-at-start-requires
-    enum-told-2
-    packed-at-start-requires-2
+    not-written-requires
     same-length
     returns
     same-length-2
-    returns-2
-    same-length-3
-    returns-3)
+    returns-2)

@@ -1,11 +1,12 @@
 -- What is refused first is refused; then the reading decides, of a text within the limit.
 use native.Mathlib.Omega.{arith}
-use mathlib.Core.Path.{sym, ap, _∙_}
+use mathlib.Core.Path.{_≡_, sym, ap, _∙_}
 use denote.Ref.{now}
-use Rattle.utf8.specs.Answers.{textLimit}
+use Rattle.utf8.specs.Answers.{textLimit, refusedBy}
 use Rattle.utf8.proofs.Given.{admitted-text}
+use Rattle.lex.specs.declared.Tally.{Tally}
 use Rattle.lex.specs.declared.Lexing.the-variants.{Refused}
-use Rattle.lex.specs.Lex.{measured}
+use Rattle.lex.specs.Lex.{refusedIn, counted, measured}
 use borrow.Author.Needs.{needs}
 use Rattle.lex.proofs.measure.Statement.{statement}
 use Rattle.lex.proofs.measure.Tie as tie
@@ -13,15 +14,20 @@ use Rattle.lex.proofs.measure.Tie as tie
 admit-requires : tie.Need-admit-requires
 admit-requires c κs = search needs
 
-enum-known-a : tie.Need-enum-known-a
-enum-known-a c = search needs
+enum-told : tie.Need-enum-told
+enum-told c = search needs
+
+enum-told-2 : tie.Need-enum-told-2
+enum-told-2 c = search needs
+
+refused-by-requires : tie.Need-refused-by-requires
+refused-by-requires c κs = search needs
 
 returns : tie.Need-returns
 unfolding measured
-returns c = rw (← c .before .before .before .admit .ensures, c .before .a .given .1)
-
-enum-told : tie.Need-enum-told
-enum-told c = search needs
+returns c =
+    let e = c .before .enum-told2 .given .1 in
+    rw (← c .before .before .before .admit .ensures, e) (ap Refused (c .refused-by .ensures ∙ ap refusedBy e))
 
 words-requires : tie.Need-words-requires
 words-requires c κs = search needs
@@ -37,33 +43,40 @@ count-lexemes-requires c κs =
 enum-known-t : tie.Need-enum-known-t
 enum-known-t c = search needs
 
-enum-known-t-2 : tie.Need-enum-known-t-2
-enum-known-t-2 c = search needs
+enum-told-3 : tie.Need-enum-told-3
+enum-told-3 c = search needs
 
-refused-at-requires : tie.Need-refused-at-requires
-refused-at-requires c κs = search needs
+refused-in-requires : tie.Need-refused-in-requires
+refused-in-requires c κs = search needs
+
+-- a text that is admitted is measured by its count
+counts : (c : tie.After-count-lexemes) (t : Tally) → c .count-lexemes .result ≡ t → let q = now (c .before .before .before .before .before .before .before .args .query) in counted q t ≡ measured q
+unfolding measured
+counts c t e = rw (← c .before .before .before .before .before .admit .ensures, c .before .before .before .enum-told .given .1, ← c .count-lexemes .ensures, e)
 
 returns-2 : tie.Need-returns-2
-unfolding measured
-returns-2 c = rw (← c .before .before .before .before .before .before .before .before .admit .ensures, c .before .before .before .before .before .before .enum-told .given .1, ← c .before .before .before .count-lexemes .ensures, c .before .t .given .1)
+returns-2 c =
+    let e = c .before .enum-told3 .given .1 in
+    let d = c .before .before .before in
+    ap Refused (c .refused-in .ensures ∙ ap (refusedIn (now (d .before .before .before .before .before .before .before .args .query))) e) ∙ counts d _ e
 
 returns-3 : tie.Need-returns-3
-unfolding measured
-returns-3 c = rw (← c .before .before .before .before .before .before .before .before .before .admit .ensures, c .before .before .before .before .before .before .before .enum-told .given .1, ← c .before .before .before .before .count-lexemes .ensures, c .before .before .t2 .given .1) (ap Refused (c .refused-at .ensures))
+returns-3 c = counts (c .before .before .before) _ (c .before .t .given .1)
 
 pub measure-spec : {M : Type 1} → statement M
 measure-spec =
     tie.close
     (tie.spec
     admit-requires
-    enum-known-a
-    returns
     enum-told
+    enum-told-2
+    refused-by-requires
+    returns
     words-requires
     slice-aggregate-count-lexemes
     count-lexemes-requires
     enum-known-t
-    enum-known-t-2
-    refused-at-requires
+    enum-told-3
+    refused-in-requires
     returns-2
     returns-3)

@@ -4,7 +4,7 @@ use Rattle.listing.proofs.Few.{refused-few}
 use Rattle.listing.proofs.Lexemes.{lists-hold}
 use Rattle.listing.specs.Listing.{mostLexemes, zipped, printedBy, refusal}
 use Rattle.lex.specs.declared.Lexing.{Lexing}
-use Rattle.lex.specs.Lex.{entriesOf, lexed, shortest}
+use Rattle.lex.specs.Lex.{entriesOf, refusedBy, lexed, shortest}
 use denote.Ref.{now}
 use lib.Seq.{length-take-le}
 use lib.ListN.{length, take}
@@ -20,6 +20,15 @@ lexer-requires c κs = search needs
 
 enum-known-x : tie.Need-enum-known-x
 enum-known-x c = search needs
+
+enum-told : tie.Need-enum-told
+enum-told c = search needs
+
+refused-by-requires : tie.Need-refused-by-requires
+refused-by-requires c κs = search needs
+
+put-refusal-requires : tie.Need-put-refusal-requires
+put-refusal-requires c κs = search needs
 
 -- the three lists are as long as there may be lexemes, which is their room
 answered : (c : tie.After-lexer) {x : Lexing} → c .lexer .result ≡ x → lexed mostLexemes (now (c .before .before .before .before .before .before .before .before .before .args .query)) ≡ x
@@ -39,6 +48,27 @@ held : (c : tie.After-known-told)
 held c =
     let a = c .before .before .before .before .before .before .before .before .before .before .before .before .before .before .before .before .before .before .args in
     lists-hold (now (a .query)) (now (a .kinds)) (now (a .starts)) (now (a .lengths)) (c .before .before .before .before .before .before .before .before .before .lexer .ensures) (c .before .x .given .1)
+
+same-length : tie.Need-same-length
+same-length c = search needs
+
+same-length-2 : tie.Need-same-length-2
+same-length-2 c = search needs
+
+same-length-3 : tie.Need-same-length-3
+same-length-3 c = search needs
+
+same-length-4 : tie.Need-same-length-4
+same-length-4 c = search needs
+
+returns : tie.Need-returns
+unfolding printedBy
+returns c =
+    let x = c .before .before .before .before .before .enum-told .given in
+    let start = c .before .before .before .before .before .before .before .before .before .before .before .before .before .before .before .before .before .before .before .before .before .before in
+    let e = answered (c .before .before .before .before .before .before .before .before .before .before .before .before .before) (x .1) in
+    let r : c .before .before .before .refused-by .result ≡ x .0 .0 = c .before .before .before .refused-by .ensures ∙ ap refusedBy (x .1) in
+    rw e (puts _ 0 (refusal (x .0 .0)) (rw r at (c .before .before .put-refusal .ensures)) (omega (arith, start .pre, refused-few mostLexemes (now (start .args .query)) (x .0 .0) e)))
 
 slice-reshare-prefix-put-lexemes : tie.Need-slice-reshare-prefix-put-lexemes
 slice-reshare-prefix-put-lexemes c = omega (arith, held (c) .0, c .before .before .before .before .before .before .before .before .before .lexer .kept)
@@ -69,28 +99,6 @@ put-lexemes-requires c κs =
     let lengths = length-take-le n (p .last .1 .1 .1 .0) (omega (arith, p .kept)) in
     ((omega (arith, kinds, h), omega (arith, h)), (starts ∙ sym kinds, lengths ∙ sym kinds))
 
-enum-known-x-2 : tie.Need-enum-known-x-2
-enum-known-x-2 c = search needs
-
-put-refusal-requires : tie.Need-put-refusal-requires
-put-refusal-requires c κs = search needs
-
-same-length : tie.Need-same-length
-same-length c = search needs
-
-same-length-2 : tie.Need-same-length-2
-same-length-2 c = search needs
-
-same-length-3 : tie.Need-same-length-3
-same-length-3 c = search needs
-
-same-length-4 : tie.Need-same-length-4
-same-length-4 c = search needs
-
-returns : tie.Need-returns
-unfolding printedBy
-returns c = rw (answered (c .before .before .before .before .before .before .before .before .before .before .before .before .before .before .before .before) (c .before .before .before .before .before .before .before .before .x .given .1), ← held (c .before .before .before .before .before .before .before) .1) (c .before .before .put-lexemes .ensures)
-
 same-length-5 : tie.Need-same-length-5
 same-length-5 c = search needs
 
@@ -105,10 +113,7 @@ same-length-8 c = search needs
 
 returns-2 : tie.Need-returns-2
 unfolding printedBy
-returns-2 c =
-    let e = answered (c .before .before .before .before .before .before .before .before .before .before .before .before .before) (c .before .before .before .before .before .x2 .given .1) in
-    let r = c .before .before .before .before .before .x2 .given .0 .0 in
-    rw e (puts _ 0 (refusal r) (c .before .before .put-refusal .ensures) (omega (arith, c .before .before .before .before .before .before .before .before .before .before .before .before .before .before .before .before .before .before .before .before .before .before .pre, refused-few mostLexemes (now (c .before .before .before .before .before .before .before .before .before .before .before .before .before .before .before .before .before .before .before .before .before .before .args .query)) r e)))
+returns-2 c = rw (answered (c .before .before .before .before .before .before .before .before .before .before .before .before .before .before .before .before) (c .before .before .before .before .before .before .before .before .x .given .1), ← held (c .before .before .before .before .before .before .before) .1) (c .before .before .put-lexemes .ensures)
 
 pub lex-to-spec : {M : Type 1} → statement M
 lex-to-spec =
@@ -116,6 +121,14 @@ lex-to-spec =
     (tie.spec
     lexer-requires
     enum-known-x
+    enum-told
+    refused-by-requires
+    put-refusal-requires
+    same-length
+    same-length-2
+    same-length-3
+    same-length-4
+    returns
     slice-reshare-prefix-put-lexemes
     slice-aggregate-put-lexemes
     slice-reshare-prefix-put-lexemes-2
@@ -123,13 +136,6 @@ lex-to-spec =
     slice-reshare-prefix-put-lexemes-3
     slice-aggregate-put-lexemes-3
     put-lexemes-requires
-    enum-known-x-2
-    put-refusal-requires
-    same-length
-    same-length-2
-    same-length-3
-    same-length-4
-    returns
     same-length-5
     same-length-6
     same-length-7

@@ -1,6 +1,5 @@
 -- The arms are those of the definition, of the bytes behind the sign; what is taken of these is within them.
 use Prim.Native.Nat.{ℕ}
-use native.Mathlib.Numerals.{add-one}
 use native.Mathlib.Omega.{arith}
 use mathlib.Core.Path.{_≡_, sym, ap, ap₂, subst, _∙_}
 use denote.Ref.{now}
@@ -51,30 +50,30 @@ lies c e =
 enum-known-q : tie.Need-enum-known-q
 enum-known-q c = search needs
 
+enum-told : tie.Need-enum-told
+enum-told c = search needs
+
+string-refused-requires : tie.Need-string-refused-requires
+string-refused-requires c κs =
+    λ r n e. omega (arith, edge-within (lies (c .before .before) e), length-drop 1 (now (c .before .before .before .before .before .before .args .s)))
+
+returns : tie.Need-returns
+unfolding quotedStep
+returns c =
+    let e = c .before .enum-told .given .1 in
+    c .string-refused .ensures ∙ rw (e, ← there (c .before .before .before), e)
+
 add-lexeme : tie.Need-add-lexeme
 add-lexeme c = omega (arith, edge-within (lies (c .before .before .before) (c .before .q .given .1) .1), length-drop 1 (now (c .before .before .before .before .before .before .before .args .s)))
 
 lexeme-requires : tie.Need-lexeme-requires
 lexeme-requires c κs = search needs
 
-enum-known-q-2 : tie.Need-enum-known-q-2
-enum-known-q-2 c = search needs
-
-add-refused : tie.Need-add-refused
-add-refused c = omega (arith, edge-within (lies (c .before .before .before) (c .before .q2 .given .1)), length-drop 1 (now (c .before .before .before .before .before .before .before .args .s)))
-
-refused-requires : tie.Need-refused-requires
-refused-requires c κs = search needs
-
-returns : tie.Need-returns
-unfolding quotedStep
-returns c =
-    c .lexeme .ensures
-    ∙ rw (← there (c .before .before .before .before), c .before .before .q .given .1) (ap (λ (n : ℕ). Lexeme string n (c .before .before .before .before .before .before .before .before .args .mode)) (omega arith))
-
 returns-2 : tie.Need-returns-2
 unfolding quotedStep
-returns-2 c = c .refused .ensures ∙ rw (← there (c .before .before .before .before), c .before .before .q2 .given .1, add-one)
+returns-2 c =
+    c .lexeme .ensures
+    ∙ rw (← there (c .before .before .before .before), c .before .before .q .given .1) (ap (λ (n : ℕ). Lexeme string n (c .before .before .before .before .before .before .before .before .args .mode)) (omega arith))
 
 pub quoted-step-spec : {M : Type 1} → statement M
 quoted-step-spec =
@@ -86,10 +85,9 @@ quoted-step-spec =
     part-accept-string-end
     accept-string-requires
     enum-known-q
+    enum-told
+    string-refused-requires
+    returns
     add-lexeme
     lexeme-requires
-    enum-known-q-2
-    add-refused
-    refused-requires
-    returns
     returns-2)

@@ -8,10 +8,11 @@ use lib.Seq.{sets, length-sets}
 use denote.Ref.{now}
 use Rattle.scan.proofs.Stores.{written-front}
 use Rattle.utf8.specs.declared.Admission.{Admission}
-use Rattle.utf8.specs.Answers.{admitted}
+use Rattle.utf8.specs.Answers.{admitted, refusedBy}
 use Rattle.utf8.specs.Refusals.{Taken}
 use Rattle.utf8.proofs.Given.{admitted-text}
 use Rattle.decimal.specs.Value.{longest}
+use Rattle.number.specs.declared.Parsing.the-variants.{Refused}
 use Rattle.number.specs.White.{plainText}
 use Rattle.number.specs.Number.{numberOf, parsingBy, parsingOf}
 use Rattle.number.proofs.Kept.{plain-few}
@@ -22,18 +23,24 @@ use Rattle.number.proofs.parse_str_radix.Tie as tie
 admit-requires : tie.Need-admit-requires
 admit-requires c κs = search needs
 
-enum-known-a : tie.Need-enum-known-a
-enum-known-a c = search needs
+enum-told : tie.Need-enum-told
+enum-told c = search needs
+
+enum-told-2 : tie.Need-enum-told-2
+enum-told-2 c = search needs
+
+refused-by-requires : tie.Need-refused-by-requires
+refused-by-requires c κs = search needs
 
 by-admission : (xs : List ℕ) (a : Admission) → admitted longest xs ≡ a → parsingBy a (plainText xs) ≡ parsingOf xs
 unfolding parsingOf
 by-admission xs a e = ap (λ (b : Admission). parsingBy b (plainText xs)) (sym e)
 
 returns : tie.Need-returns
-returns c = let x = now (c .before .before .before .before .before .args .s) in by-admission x _ (sym (c .before .before .before .admit .ensures) ∙ c .before .a .given .1)
-
-enum-told : tie.Need-enum-told
-enum-told c = search needs
+returns c =
+    let x = now (c .before .before .before .before .before .args .s) in
+    let e = c .before .enum-told2 .given .1 in
+    ap Refused (c .refused-by .ensures ∙ ap refusedBy e) ∙ by-admission x _ (sym (c .before .before .before .admit .ensures) ∙ e)
 
 module _ (c : tie.After-enum-told) where
   abbrev text : List ℕ
@@ -90,9 +97,10 @@ parse-str-radix-spec =
     tie.close
     (tie.spec
     admit-requires
-    enum-known-a
-    returns
     enum-told
+    enum-told-2
+    refused-by-requires
+    returns
     keep-requires
     array-share-prefix-buf
     slice-aggregate-read-plain

@@ -39,13 +39,13 @@ enum-told c = search needs
 
 returns-3 : tie.Need-returns-3
 returns-3 c =
-    let a = c .before .before .before .before .before .before .before .before .before .args in
-    sym (roomed-more (a .op) (a .hex) (now (a .rest)) (c .before .before .before .before .before .before .before .if1 .left) ∙ simp (← c .before .before .before .before .before .before .peek .ensures, eq-eqb _ _ (c .before .before .before .before .before .if2 .left)) (ap (given (a .op) (a .hex)) (sym (c .before .before .before .read-decimal .ensures) ∙ c .before .r .given .1)))
+    let a = c .before .before .before .before .before .before .before .before .args in
+    sym (roomed-more (a .op) (a .hex) (now (a .rest)) (c .before .before .before .before .before .before .if1 .left) ∙ simp (← c .before .before .before .before .before .peek .ensures, eq-eqb _ _ (c .before .before .before .before .if2 .left)) (ap (given (a .op) (a .hex)) (sym (c .before .before .read-decimal .ensures) ∙ c .enum-told .given .1)))
 
 returns-4 : tie.Need-returns-4
 returns-4 c =
-    let a = c .before .before .before .before .before .before .before .before .args in
-    sym (roomed-more (a .op) (a .hex) (now (a .rest)) (c .before .before .before .before .before .before .if1 .left) ∙ simp (← c .before .before .before .before .before .peek .ensures, eq-eqb _ _ (c .before .before .before .before .if2 .left)) (ap (given (a .op) (a .hex)) (sym (c .before .before .read-decimal .ensures) ∙ c .enum-told .given .1)))
+    let a = c .before .before .before .before .before .before .before .before .before .args in
+    sym (roomed-more (a .op) (a .hex) (now (a .rest)) (c .before .before .before .before .before .before .before .if1 .left) ∙ simp (← c .before .before .before .before .before .before .peek .ensures, eq-eqb _ _ (c .before .before .before .before .before .if2 .left)) (ap (given (a .op) (a .hex)) (sym (c .before .before .before .read-decimal .ensures) ∙ c .before .r .given .1)))
 
 pub with-room-spec : {M : Type 1} → statement M
 with-room-spec =

@@ -108,7 +108,7 @@ returns-4 c =
 returns-5 : tie.Need-returns-5
 returns-5 c =
     let e = d (c .before) in
-    ap (λ (ys : List ℕ). extent.Inner (length ys)) (literals.cut-is (xs e) (enclosed e))
+    ap (λ (ys : List ℕ). extent.Text false (length ys)) (literals.cut-is (xs e) (enclosed e))
     ∙ literals.as-it-stands (reads e) (xs e) (enclosed e) (no-newline (c .before .before .before)) (no-escape (c .before)) (e .before .before .before .pre) (sym (sign-told (c .before)) ∙ c .if4 .left)
 
 pub extent-of-spec : {M : Type 1} → statement M

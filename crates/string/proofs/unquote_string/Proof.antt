@@ -3,14 +3,15 @@ use Prim.Native.Nat.{ℕ, _≤_, _<_}
 use native.Mathlib.Nat.{zero-add}
 use native.Mathlib.Omega.{arith}
 use mathlib.Core.List.{List}
-use mathlib.Core.Bool.{false}
+use mathlib.Core.Bool.{Bool, true, false}
 use mathlib.Core.Path.{_≡_, refl, sym, ap, _∙_, subst}
 use lib.ListN.{length}
 use lib.Seq.{sets-eq}
 use denote.Ref.{now}
+use borrow.Author.Tests.{not-true, not-false}
 use Rattle.utf8.specs.declared.Admission.the-variants as admission
 use Rattle.utf8.specs.declared.Reading.{Reading}
-use Rattle.utf8.specs.Answers.{textLimit, admitted}
+use Rattle.utf8.specs.Answers.{textLimit, admitted, refusedBy}
 use Rattle.utf8.proofs.Given.{admitted-text}
 use Rattle.string.specs.declared.Extent.{Extent}
 use Rattle.string.specs.declared.Extent.the-variants as extent
@@ -25,16 +26,20 @@ use Rattle.string.proofs.unquote_string.Tie as tie
 admit-requires : tie.Need-admit-requires
 admit-requires c κs = search needs
 
-enum-known-a : tie.Need-enum-known-a
-enum-known-a c = search needs
+enum-told : tie.Need-enum-told
+enum-told c = search needs
+
+enum-told-2 : tie.Need-enum-told-2
+enum-told-2 c = search needs
+
+refused-by-requires : tie.Need-refused-by-requires
+refused-by-requires c κs = search needs
 
 returns : tie.Need-returns
 returns c =
     let a = c .before .before .before .before .before .before .args in
-    (literals.refused-first (a .reading) (length (now (a .text))) (now (a .literal)) _ (sym (c .before .before .before .admit .ensures) ∙ c .before .a .given .1), refl)
-
-enum-told : tie.Need-enum-told
-enum-told c = search needs
+    let e = c .before .enum-told2 .given .1 in
+    (ap Refused (c .refused-by .ensures ∙ ap refusedBy e) ∙ literals.refused-first (a .reading) (length (now (a .text))) (now (a .literal)) _ (sym (c .before .before .before .admit .ensures) ∙ e), refl)
 
 extent-of-requires : tie.Need-extent-of-requires
 extent-of-requires c κs = admitted-text textLimit (now (c .before .before .before .before .before .args .literal)) _ (sym (c .before .before .admit .ensures) ∙ c .enum-told .given .1) .1
@@ -62,16 +67,20 @@ module _ (c : tie.After-extent-of) where
 enum-known-e : tie.Need-enum-known-e
 enum-known-e c = search needs
 
-enum-known-e-2 : tie.Need-enum-known-e-2
-enum-known-e-2 c = search needs
+enum-told-3 : tie.Need-enum-told-3
+enum-told-3 c = search needs
 
 at-start-requires : tie.Need-at-start-requires
 at-start-requires c κs = search needs
 
 returns-2 : tie.Need-returns-2
 returns-2 c =
-    let d = c .before .before .before .before .before in
-    (ap Refused (c .at-start .ensures) ∙ literals.too-small (reads d) (room d) (xs d) _ _ (taken d) (sym (d .extent-of .ensures) ∙ c .before .before .before .e2 .given .1) (c .before .if1 .taken), refl)
+    (ap Refused (c .at-start .ensures) ∙ answer (c .before .before .before) extent.Bad (c .before .enum-told3 .given .1), refl)
+
+returns-3 : tie.Need-returns-3
+returns-3 c =
+    let e = c .before .before .e .given in
+    (answer (c .before .before .before .before) (extent.Text false (e .0 .1 .0)) (e .1 ∙ ap (λ (b : Bool). extent.Text b (e .0 .1 .0)) (not-true _ (c .if1 .taken))), refl)
 
 -- a text to be written
 module _ (c : tie.Else1) where
@@ -79,10 +88,10 @@ module _ (c : tie.Else1) where
   d = c .before .before .before .before
 
   abbrev n : ℕ
-  n = c .before .before .e2 .given .0 .0
+  n = c .before .before .e .given .0 .1 .0
 
-  extent-is : extentOf (reads d) (xs d) ≡ extent.Text n
-  extent-is = sym (d .extent-of .ensures) ∙ c .before .before .e2 .given .1
+  extent-is : extentOf (reads d) (xs d) ≡ extent.Text true n
+  extent-is = sym (d .extent-of .ensures) ∙ c .before .before .e .given .1 ∙ ap (λ (b : Bool). extent.Text b n) (not-false _ (c .if1 .left))
 
   text : (literals.Sound (xs d)) × (n ≡ length (unquoted (reads d) (xs d)))
   text = literals.text-told (reads d) (xs d) n extent-is
@@ -90,45 +99,45 @@ module _ (c : tie.Else1) where
   two : 2 ≤ length (xs d)
   two = literals.two (xs d) (text .0 .enclosed)
 
+at-start-requires-2 : tie.Need-at-start-requires-2
+at-start-requires-2 c κs = search needs
+
+returns-4 : tie.Need-returns-4
+returns-4 c =
+    let b = c .before .before in
+    let e = d b in
+    (ap Refused (c .at-start2 .ensures) ∙ literals.too-small (reads e) (room e) (xs e) _ _ (taken e) (extent-is b) (c .before .if2 .taken), refl)
+
 sub-end : tie.Need-sub-end
-sub-end c = omega (arith, two c)
+sub-end c = omega (arith, two (c .before))
 
 sub-write-pieces : tie.Need-sub-write-pieces
-sub-write-pieces c = omega (arith, two c)
+sub-write-pieces c = omega (arith, two (c .before))
 
 part-write-pieces-start : tie.Need-part-write-pieces-start
-part-write-pieces-start c = omega (arith, two c)
+part-write-pieces-start c = omega (arith, two (c .before))
 
 part-write-pieces-end : tie.Need-part-write-pieces-end
 part-write-pieces-end c = search needs
 
 shared-slice-read-write-pieces : tie.Need-shared-slice-read-write-pieces
-shared-slice-read-write-pieces c = omega (arith, two (c .before .before))
+shared-slice-read-write-pieces c = omega (arith, two (c .before .before .before))
 
 write-pieces-requires : tie.Need-write-pieces-requires
 write-pieces-requires c κs =
-    let b = c .before .before .before in
+    let b = c .before .before .before .before in
     let s = text b .0 in
     let sign = signOf (xs (d b)) in
     let Fit : List ℕ → Type 0 = λ ys. ((sign < 0x80) × (hasBad (tilesOf sign ys) ≡ false)) × (length (bytesOf (reads (d b)) (tilesOf sign ys)) ≤ room (d b)) in
     rw (literals.sign-is (xs (d b)) (s .enclosed))
     (subst Fit (sym (literals.cut-is (xs (d b)) (s .enclosed))) ((literals.sign-ascii (xs (d b)) (s .enclosed), s .good), omega (arith, text b .1)))
 
-enum-told-2 : tie.Need-enum-told-2
-enum-told-2 c = search needs
-
-at-start-requires-2 : tie.Need-at-start-requires-2
-at-start-requires-2 c κs = search needs
-
-returns-3 : tie.Need-returns-3
-returns-3 c = (answer (c .before .before .before) _ (c .before .e .given .1), refl)
-
 same-length : tie.Need-same-length
 same-length c = search needs
 
-returns-4 : tie.Need-returns-4
-returns-4 c =
-    let b = c .before .before .before .before .before .before in
+returns-5 : tie.Need-returns-5
+returns-5 c =
+    let b = c .before .before .before .before .before .before .before in
     let e = d b in
     let s = text b .0 in
     let out = now (a e .args .text) in (
@@ -138,32 +147,28 @@ returns-4 c =
           (sets-eq (unquoted (reads e) (xs e)) out 0 (omega (arith, text b .1)) ∙ rw (zero-add, ← text b .1)),
     )
 
-returns-5 : tie.Need-returns-5
-returns-5 c =
-    (ap Refused (c .at-start2 .ensures) ∙ answer (c .before .before .before) extent.Bad (c .before .enum-told2 .given .1), refl)
-
 pub unquote-string-spec : {M : Type 1} → statement M
 unquote-string-spec =
     tie.close
     (tie.spec
     admit-requires
-    enum-known-a
-    returns
     enum-told
+    enum-told-2
+    refused-by-requires
+    returns
     extent-of-requires
     enum-known-e
-    enum-known-e-2
+    enum-told-3
     at-start-requires
     returns-2
+    returns-3
+    at-start-requires-2
+    returns-4
     sub-end
     sub-write-pieces
     part-write-pieces-start
     part-write-pieces-end
     shared-slice-read-write-pieces
     write-pieces-requires
-    enum-told-2
-    at-start-requires-2
-    returns-3
     same-length
-    returns-4
     returns-5)

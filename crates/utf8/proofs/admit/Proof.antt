@@ -4,7 +4,7 @@ use mathlib.Core.Path.{_≡_, sym, ap, _∙_}
 use denote.Ref.{now}
 use lib.ListN.{length}
 use Rattle.utf8.specs.declared.Admission.the-variants.{Refused}
-use Rattle.utf8.specs.Answers.{admittedAs, admitted}
+use Rattle.utf8.specs.Answers.{notUtf8By, admittedAs, admitted}
 use borrow.Author.Needs.{needs}
 use Rattle.utf8.proofs.admit.Statement.{statement}
 use Rattle.utf8.proofs.admit.Tie as tie
@@ -22,8 +22,11 @@ validate-requires c κs = search needs
 enum-known-v : tie.Need-enum-known-v
 enum-known-v c = search needs
 
-enum-known-v-2 : tie.Need-enum-known-v-2
-enum-known-v-2 c = search needs
+enum-told : tie.Need-enum-told
+enum-told c = search needs
+
+not-utf8-requires : tie.Need-not-utf8-requires
+not-utf8-requires c κs = search needs
 
 -- within the limit the answer is what `validate` says of the text
 within : (c : tie.After-validate) → let a = c .before .before .before .args in admitted (a .limit) (now (a .text)) ≡ admittedAs (c .validate .result)
@@ -33,11 +36,22 @@ within c =
     rw (le-ltb (a .limit) (length (now (a .text))) (c .before .if1 .left), ← c .validate .ensures)
 
 returns-2 : tie.Need-returns-2
-returns-2 c = sym (within (c .before .before .before) ∙ ap admittedAs (c .before .v .given .1))
+returns-2 c =
+    let e = c .before .enum-told .given .1 in
+    ap Refused (c .not-utf8 .ensures ∙ ap notUtf8By e) ∙ sym (within (c .before .before .before) ∙ ap admittedAs e)
 
 returns-3 : tie.Need-returns-3
-returns-3 c = sym (within (c .before .before .before) ∙ ap admittedAs (c .before .v2 .given .1))
+returns-3 c = sym (within (c .before .before .before) ∙ ap admittedAs (c .before .v .given .1))
 
 pub admit-spec : {M : Type 1} → statement M
 admit-spec =
-    tie.close (tie.spec at-start-requires returns validate-requires enum-known-v enum-known-v-2 returns-2 returns-3)
+    tie.close
+    (tie.spec
+    at-start-requires
+    returns
+    validate-requires
+    enum-known-v
+    enum-told
+    not-utf8-requires
+    returns-2
+    returns-3)

@@ -1,0 +1,92 @@
+-- The answer that the promise leaves at a telling input: a program that answers otherwise there, as the theorem's name says, cannot be
+-- proved. `parse-duration-gives` is what the promise answers at a text, which is the definition's value there.
+use Prim.Native.Nat.{ℕ}
+use mathlib.Core.List.{List, []}
+use mathlib.Core.Path.{_≡_, ap, _∙_}
+use lib.Count.{trailingZeros}
+use lib.Ieee.{round, size, span, climb, units as floatUnits, odd, lt, le}
+use denote.Ref.{now}
+use Rattle.byte.specs.Ascii.{ascii}
+use Rattle.byte.specs.Byte.{isWithin, digitOf, lowered, isIn, isAlpha}
+use Rattle.byte.proofs.One.{Answers}
+use Rattle.scan.specs.Run.{runLength}
+use Rattle.scan.specs.Text.{sameText}
+use Rattle.sign.specs.Sign.{isSign}
+use Rattle.utf8.specs.Table.{fits, sizeIn, charLength}
+use Rattle.utf8.specs.Text.{charsPast, sizeOf}
+use Rattle.utf8.specs.Answers.{validityOf, admitted, atStart, place, notUtf8}
+use Rattle.utf8.specs.Code.{codeOf}
+use Rattle.decimal.specs.Grammar.{hasDigits, exponentHasDigits, isNumeral, isInfinite, isNan}
+use Rattle.decimal.specs.Value.{valueFrom, isZeros, trailing, isExact, nearest, scaledBy, decimalIn, decimalOf}
+use Rattle.span.specs.declared.Duration.{Duration}
+use Rattle.units.specs.Units.{isPart, behind, sumBy, counted, isUnitText, unitsOf}
+use Rattle.duration.specs.declared.Timing.{Timing}
+use Rattle.duration.specs.declared.Timing.the-variants.{Lasts, Refused}
+use Rattle.duration.specs.Duration.{durationRead, timingOf, refusedBy}
+use Rattle.utf8.specs.declared.Refusal.{Refusal}
+use Rattle.duration.proofs.parse_duration.Kinds as parse-duration
+use Rattle.duration.proofs.parse_duration.Reads as parse-duration-reads
+use Rattle.duration.proofs.refused_by.Kinds as refused-by
+use Rattle.duration.proofs.refused_by.Reads as refused-by-reads
+
+abbrev duration : ℕ → ℕ → Duration
+duration s n = record { secs = s; nanos = n }
+
+abbrev parse-duration-gives : List ℕ → Timing → Type 0
+parse-duration-gives s v = Answers parse-duration.ps parse-duration.r parse-duration-reads.Post (λ κs a. now (a .0) ≡ s) (λ κs. v)
+
+parse-duration-at : (s : List ℕ) → parse-duration-gives s (timingOf s)
+unfolding timingOf durationRead admitted validityOf charsPast sizeOf charLength sizeIn fits codeOf isWithin sameText decimalOf decimalIn isInfinite isNan isNumeral hasDigits exponentHasDigits isSign lowered isIn runLength digitOf valueFrom isZeros trailing isExact nearest scaledBy round size span climb floatUnits odd trailingZeros lt le unitsOf isUnitText behind sumBy isPart counted isAlpha
+parse-duration-at s κs a x e p h = p ∙ ap timingOf h
+
+pub empty-text-is-refused-with-fifty : parse-duration-gives [] (Refused (atStart 50))
+unfolding parse-duration-at
+empty-text-is-refused-with-fifty = parse-duration-at _
+
+pub zero-is-refused : parse-duration-gives (ascii "0") (Refused (atStart 51))
+unfolding parse-duration-at
+zero-is-refused = parse-duration-at _
+
+pub one-is-a-second : parse-duration-gives (ascii "1") (Lasts (duration 1 0))
+unfolding parse-duration-at
+one-is-a-second = parse-duration-at _
+
+pub half-is-half-a-second : parse-duration-gives (ascii "0.5") (Lasts (duration 0 500000000))
+unfolding parse-duration-at
+half-is-half-a-second = parse-duration-at _
+
+pub positive-decimal-outside-is-refused-with-fifty-three : parse-duration-gives (ascii "1e23") (Refused (atStart 53))
+unfolding parse-duration-at
+positive-decimal-outside-is-refused-with-fifty-three = parse-duration-at _
+
+pub negative-decimal-outside-is-refused-with-fifty-four : parse-duration-gives (ascii "-1e23") (Refused (atStart 54))
+unfolding parse-duration-at
+negative-decimal-outside-is-refused-with-fifty-four = parse-duration-at _
+
+pub zero-sum-is-refused : parse-duration-gives (ascii "0s") (Refused (atStart 51))
+unfolding parse-duration-at
+zero-sum-is-refused = parse-duration-at _
+
+pub one-second-is-a-duration : parse-duration-gives (ascii "1s") (Lasts (duration 1 0))
+unfolding parse-duration-at
+one-second-is-a-duration = parse-duration-at _
+
+pub infinity-is-out-of-range : parse-duration-gives (ascii "inf") (Refused (atStart 54))
+unfolding parse-duration-at
+infinity-is-out-of-range = parse-duration-at _
+
+pub letter-is-no-duration : parse-duration-gives (ascii "x") (Refused (atStart 52))
+unfolding parse-duration-at
+letter-is-no-duration = parse-duration-at _
+
+abbrev refused-by-gives : Timing → Refusal → Type 0
+refused-by-gives t v = Answers refused-by.ps refused-by.r refused-by-reads.Post (λ κs a. a .0 ≡ t) (λ κs. v)
+
+refused-by-at : (t : Timing) → refused-by-gives t (refusedBy t)
+refused-by-at t κs a x e p h = p ∙ ap refusedBy h
+
+pub refusal-is-told-with-its-place : refused-by-gives (Refused (notUtf8 (place 3 2))) (notUtf8 (place 3 2))
+refusal-is-told-with-its-place = refused-by-at _
+
+pub duration-has-no-refusal : refused-by-gives (Lasts (record { secs = 1; nanos = 0 })) (atStart 0)
+duration-has-no-refusal = refused-by-at _

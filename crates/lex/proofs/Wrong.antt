@@ -1,0 +1,145 @@
+-- The answer, and the content of each lent list, that each promise leaves at a telling input: a program that answers or writes otherwise
+-- there, as the theorem's name says, cannot be proved. `FUNCTION-gives` and `FUNCTION-leaves-LIST` say what, at the query and the lists.
+use Prim.Native.Nat.{ℕ}
+use mathlib.Core.List.{List, [], _∷_}
+use mathlib.Core.Path.{_≡_, ap, _∙_}
+use lib.ListN.{length}
+use contract.Lifetimes.{Lfts}
+use borrow.Fn.Kinds.{Dens}
+use denote.Ref.{now}
+use Rattle.byte.specs.Ascii.{ascii}
+use Rattle.byte.specs.Byte.{isWithin, isIn, isSpace, isAlpha, isAlphaNumeric, isWord, lowered}
+use Rattle.byte.proofs.One.{Answers, Leaves}
+use Rattle.scan.specs.Run.{runLength}
+use Rattle.scan.specs.Text.{has, sameText}
+use Rattle.utf8.specs.Table.{fits, sizeIn, charLength}
+use Rattle.utf8.specs.Code.{codeOf}
+use Rattle.utf8.specs.Text.{charsPast, sizeOf, begunIn, charNumber}
+use Rattle.utf8.specs.Answers.{place, noRoom, validityOf, admitted, atStart, notUtf8}
+use Rattle.token.specs.Kinds.{identifier, comma}
+use Rattle.token.specs.Words.{words, kindIn, keywordOf}
+use Rattle.lead.specs.Lead.{symbolOf, leadOf}
+use Rattle.word.specs.Word.{ruleBy, kindBy}
+use Rattle.munch.specs.Munch.{wordStep, bangStep, endStep, outsideStep, munchedBy}
+use Rattle.lex.specs.declared.Lexing.{Lexing}
+use Rattle.lex.specs.declared.Lexing.the-variants.{Count, Refused}
+use Rattle.lex.specs.Steps.{stepsPast, readFrom}
+use Rattle.lex.specs.Lex.{tallied, measured, lexed, listed, leftBy, kindOf, startOf, lengthOf, shortest, refusedBy}
+use Rattle.utf8.specs.declared.Refusal.{Refusal}
+use Rattle.lex.proofs.measure.Kinds as measure
+use Rattle.lex.proofs.measure.Reads as measure-reads
+use Rattle.lex.proofs.lexer.Kinds as lexer
+use Rattle.lex.proofs.lexer.Reads as lexer-reads
+use Rattle.lex.proofs.refused_by.Kinds as refused-by
+use Rattle.lex.proofs.refused_by.Reads as refused-by-reads
+
+-- what computes at a query
+lexing : Unit {0}
+unfolding lexed measured tallied stepsPast readFrom munchedBy outsideStep leadOf symbolOf wordStep bangStep endStep ruleBy kindBy keywordOf words kindIn admitted validityOf charsPast sizeOf charNumber begunIn charLength sizeIn fits codeOf isWithin isIn isSpace isAlpha isAlphaNumeric isWord lowered runLength sameText has
+lexing = tt
+
+-- a refusal by its number, at a byte and a character
+abbrev refused : ℕ → ℕ → ℕ → Lexing
+refused r b c = Refused (record { number = r; place = place b c })
+
+abbrev measure-gives : List ℕ → Lexing → Type 0
+measure-gives q v = Answers measure.ps measure.r measure-reads.Post (λ κs a. now (a .0) ≡ q) (λ κs. v)
+
+measure-at : (q : List ℕ) → measure-gives q (measured q)
+measure-at q κs a x e p h = cc (p, h)
+
+pub end-is-counted-once : measure-gives (ascii "a") (Count 2)
+unfolding lexing
+end-is-counted-once = measure-at _
+
+-- the step is refused behind the byte that it begins with
+pub refusal-is-not-where-the-step-began : measure-gives (ascii "!a") (refused 12 1 1)
+unfolding lexing
+refusal-is-not-where-the-step-began = measure-at _
+
+pub place-is-counted-in-characters : measure-gives (0xc3 ∷ 0xa9 ∷ 0xff ∷ []) (refused 2 2 1)
+unfolding lexing
+place-is-counted-in-characters = measure-at _
+
+-- the query, and the three lists that are lent
+abbrev Given : List ℕ → List ℕ → List ℕ → List ℕ → (κs : Lfts 4) → Dens κs lexer.ps → Type 0
+Given q ks ss ls κs a = (now (a .0) ≡ q) × (now (a .1 .0) ≡ ks) × (now (a .1 .1 .0) ≡ ss) × (now (a .1 .1 .1 .0) ≡ ls)
+
+abbrev nines : List ℕ
+nines = 9 ∷ 9 ∷ 9 ∷ []
+
+abbrev lexer-gives : List ℕ → List ℕ → List ℕ → List ℕ → Lexing → Type 0
+lexer-gives q ks ss ls v = Answers lexer.ps lexer.r lexer-reads.Post (Given q ks ss ls) (λ κs. v)
+
+lexer-at : (q ks ss ls : List ℕ) → lexer-gives q ks ss ls (lexed (shortest (length ks) (length ss) (length ls)) q)
+lexer-at q ks ss ls κs a x e p h = cc (p .0, h .0, h .1, h .2, h .3)
+
+pub query-with-room-is-not-refused : lexer-gives (ascii "ab") nines nines nines (Count 2)
+unfolding lexing
+query-with-room-is-not-refused = lexer-at _ _ _ _
+
+pub shortest-list-is-the-room : lexer-gives (ascii "ab") nines nines (9 ∷ []) (Refused noRoom)
+unfolding lexing
+shortest-list-is-the-room = lexer-at _ _ _ _
+
+abbrev lexer-leaves-kinds : List ℕ → List ℕ → List ℕ → List ℕ → List ℕ → Type 0
+lexer-leaves-kinds q ks ss ls v = Leaves lexer.ps lexer.r lexer-reads.Post (Given q ks ss ls) (λ κs e. now (e .1 .0)) v
+
+lexer-left-kinds : (q ks ss ls : List ℕ) → lexer-leaves-kinds q ks ss ls (leftBy (lexed (shortest (length ks) (length ss) (length ls)) q) (listed kindOf q ks) ks)
+lexer-left-kinds q ks ss ls κs a x e p h = cc (p .0, p .1 .0, h .0, h .1, h .2, h .3)
+
+pub kind-is-written : lexer-leaves-kinds (ascii "ab") nines nines nines (identifier ∷ 0 ∷ 9 ∷ [])
+unfolding lexing
+kind-is-written = lexer-left-kinds _ _ _ _
+
+pub comma-is-no-identifier : lexer-leaves-kinds (ascii ",") nines nines nines (comma ∷ 0 ∷ 9 ∷ [])
+unfolding lexing
+comma-is-no-identifier = lexer-left-kinds _ _ _ _
+
+pub end-is-no-comma : lexer-leaves-kinds [] nines nines nines (0 ∷ 9 ∷ 9 ∷ [])
+unfolding lexing
+end-is-no-comma = lexer-left-kinds _ _ _ _
+
+pub refused-query-leaves-the-kinds : lexer-leaves-kinds (ascii "a!") nines nines nines nines
+unfolding lexing
+refused-query-leaves-the-kinds = lexer-left-kinds _ _ _ _
+
+abbrev lexer-leaves-starts : List ℕ → List ℕ → List ℕ → List ℕ → List ℕ → Type 0
+lexer-leaves-starts q ks ss ls v = Leaves lexer.ps lexer.r lexer-reads.Post (Given q ks ss ls) (λ κs e. now (e .1 .1 .0)) v
+
+lexer-left-starts : (q ks ss ls : List ℕ) → lexer-leaves-starts q ks ss ls (leftBy (lexed (shortest (length ks) (length ss) (length ls)) q) (listed startOf q ss) ss)
+lexer-left-starts q ks ss ls κs a x e p h = cc (p .0, p .1 .1 .0, h .0, h .1, h .2, h .3)
+
+pub end-starts-behind-the-last-byte : lexer-leaves-starts (ascii "ab") nines nines nines (0 ∷ 2 ∷ 9 ∷ [])
+unfolding lexing
+end-starts-behind-the-last-byte = lexer-left-starts _ _ _ _
+
+pub refused-query-leaves-the-starts : lexer-leaves-starts (ascii "a!") nines nines nines nines
+unfolding lexing
+refused-query-leaves-the-starts = lexer-left-starts _ _ _ _
+
+abbrev lexer-leaves-lengths : List ℕ → List ℕ → List ℕ → List ℕ → List ℕ → Type 0
+lexer-leaves-lengths q ks ss ls v = Leaves lexer.ps lexer.r lexer-reads.Post (Given q ks ss ls) (λ κs e. now (e .1 .1 .1 .0)) v
+
+lexer-left-lengths : (q ks ss ls : List ℕ) → lexer-leaves-lengths q ks ss ls (leftBy (lexed (shortest (length ks) (length ss) (length ls)) q) (listed lengthOf q ls) ls)
+lexer-left-lengths q ks ss ls κs a x e p h = cc (p .0, p .1 .1 .1, h .0, h .1, h .2, h .3)
+
+pub end-has-no-length : lexer-leaves-lengths (ascii "ab") nines nines nines (2 ∷ 0 ∷ 9 ∷ [])
+unfolding lexing
+end-has-no-length = lexer-left-lengths _ _ _ _
+
+pub refused-query-leaves-the-lengths : lexer-leaves-lengths (ascii "a!") nines nines nines nines
+unfolding lexing
+refused-query-leaves-the-lengths = lexer-left-lengths _ _ _ _
+
+abbrev refused-by-gives : Lexing → Refusal → Type 0
+refused-by-gives t v = Answers refused-by.ps refused-by.r refused-by-reads.Post (λ κs a. a .0 ≡ t) (λ κs. v)
+
+refused-by-at : (t : Lexing) → refused-by-gives t (refusedBy t)
+refused-by-at t κs a x e p h = p ∙ ap refusedBy h
+
+pub refusal-is-told-with-its-place : refused-by-gives (Refused (notUtf8 (place 3 2))) (notUtf8 (place 3 2))
+refusal-is-told-with-its-place = refused-by-at _
+
+pub query-that-is-lexed-has-no-refusal : refused-by-gives (Count 1) (atStart 0)
+query-that-is-lexed-has-no-refusal = refused-by-at _

@@ -1,0 +1,101 @@
+-- The answer that each promise leaves at a telling input: a program that answers otherwise there, as the theorem's name says, cannot be
+-- proved. `FUNCTION-gives` is what the promise of FUNCTION answers at arguments, which is the definition's value there.
+use Prim.Native.Nat.{ℕ}
+use mathlib.Core.Bool.{true, false}
+use mathlib.Core.List.{List, [], _∷_}
+use mathlib.Core.Path.{_≡_}
+use denote.Ref.{now}
+use Rattle.byte.specs.Ascii.{ascii}
+use Rattle.byte.specs.Byte.{isWithin, isIn, isSpace, isAlpha, isAlphaNumeric, isWord, isLine, lowered}
+use Rattle.byte.proofs.One.{Answers}
+use Rattle.scan.specs.Run.{runLength}
+use Rattle.scan.specs.Text.{has, sameText}
+use Rattle.utf8.specs.Table.{fits, sizeIn, charLength}
+use Rattle.utf8.specs.Code.{codeOf}
+use Rattle.utf8.specs.Text.{charsPast, sizeOf}
+use Rattle.token.specs.Kinds.{identifier, string, rightParen, leftBracket, comma, lor}
+use Rattle.token.specs.Words.{word, words, kindIn, keywordOf}
+use Rattle.token.specs.Padded.{padded}
+use Rattle.token.specs.WordRows.{tableOf, isRow, foundIn, keywordIn}
+use Rattle.quoted.specs.Quoted.{quotedFrom, commentEnd}
+use Rattle.lead.specs.Lead.{symbolOf, leadOf, braceSymbolOf, braceLeadOf, bracketSymbolOf, bracketLeadOf}
+use Rattle.word.specs.Word.{isFill, ruleBy, isOr, braceRule, kindBy}
+use Rattle.munch.specs.declared.Inside.the-variants.{Nothing, Braces, Brackets}
+use Rattle.munch.specs.declared.Mode.{Mode}
+use Rattle.munch.specs.declared.Step.{Step}
+use Rattle.munch.specs.declared.Step.the-variants.{Lexeme, Comment, Refused, Finished}
+use Rattle.munch.specs.Munch.{mode, outside, quotedStep, commentStep, wordStep, bangStep, rightParenStep, leftBracketStep, endStep, outsideStep, braceWord, braceStep, colonStep, bracketStep, munchedBy, munched}
+use Rattle.munch.proofs.munch_in.Kinds as munch-in
+use Rattle.munch.proofs.munch_in.Reads as munch-in-reads
+use Rattle.munch.proofs.munch.Kinds as munch
+use Rattle.munch.proofs.munch.Reads as munch-reads
+
+-- what computes at the bytes that are left
+munching : Unit {0}
+unfolding munchedBy outsideStep braceStep bracketStep quotedStep commentStep wordStep braceWord bangStep rightParenStep leftBracketStep endStep colonStep leadOf symbolOf braceLeadOf braceSymbolOf bracketLeadOf bracketSymbolOf isFill ruleBy isOr braceRule kindBy keywordIn foundIn isRow tableOf padded keywordOf words kindIn quotedFrom commentEnd charsPast sizeOf charLength sizeIn fits codeOf isWithin isIn isSpace isAlpha isAlphaNumeric isWord isLine lowered runLength sameText has
+munching = tt
+
+abbrev munch-in-gives : List ℕ → List ℕ → Mode → Step → Type 0
+munch-in-gives table xs m v =
+    Answers munch-in.ps munch-in.r munch-in-reads.Post (λ κs a. (now (a .0) ≡ table) × (now (a .1 .0) ≡ xs) × (a .1 .1 .0 ≡ m)) (λ κs. v)
+
+munch-in-at : (table xs : List ℕ) (m : Mode) → munch-in-gives table xs m (munchedBy (keywordIn table) m xs)
+munch-in-at table xs m κs a x e p h = cc (p, h .0, h .1, h .2)
+
+pub word-has-the-kind-of-the-table : munch-in-gives (tableOf (word "a" lor ∷ [])) (ascii "a") outside (Lexeme lor 1 outside)
+unfolding munching
+word-has-the-kind-of-the-table = munch-in-at _ _ _
+
+pub no-word-is-in-an-empty-table : munch-in-gives [] (ascii "or") outside (Lexeme identifier 2 outside)
+unfolding munching
+no-word-is-in-an-empty-table = munch-in-at _ _ _
+
+abbrev munch-gives : List ℕ → Mode → Step → Type 0
+munch-gives xs m v = Answers munch.ps munch.r munch-reads.Post (λ κs a. (now (a .0) ≡ xs) × (a .1 .0 ≡ m)) (λ κs. v)
+
+munch-at : (xs : List ℕ) (m : Mode) → munch-gives xs m (munched m xs)
+munch-at xs m κs a x e p h = cc (p, h .0, h .1)
+
+pub comma-is-not-refused : munch-gives (ascii ",") outside (Lexeme comma 1 outside)
+unfolding munching
+comma-is-not-refused = munch-at _ _
+
+pub word-has-the-kind-of-document-01 : munch-gives (ascii "or") outside (Lexeme lor 2 outside)
+unfolding munching
+word-has-the-kind-of-document-01 = munch-at _ _
+
+pub string-includes-both-signs : munch-gives (ascii "'a'") outside (Lexeme string 3 outside)
+unfolding munching
+string-includes-both-signs = munch-at _ _
+
+pub comment-includes-its-last-byte : munch-gives (ascii "#a") outside (Comment 2)
+unfolding munching
+comment-includes-its-last-byte = munch-at _ _
+
+pub character-after-bang-is-not-the-end : munch-gives (ascii "!a") outside (Refused 12 1)
+unfolding munching
+character-after-bang-is-not-the-end = munch-at _ _
+
+pub end-after-bang-is-told-apart : munch-gives (ascii "!") outside (Refused 13 1)
+unfolding munching
+end-after-bang-is-told-apart = munch-at _ _
+
+pub paren-is-closed : munch-gives (ascii ")") (mode 1 Nothing) (Lexeme rightParen 1 outside)
+unfolding munching
+paren-is-closed = munch-at _ _
+
+pub brackets-just-opened-are-told-apart : munch-gives (ascii "[") outside (Lexeme leftBracket 1 (mode 0 (Brackets false true)))
+unfolding munching
+brackets-just-opened-are-told-apart = munch-at _ _
+
+pub colon-behind-bracket-is-refused : munch-gives (ascii ":") (mode 0 (Brackets false true)) (Refused 29 0)
+unfolding munching
+colon-behind-bracket-is-refused = munch-at _ _
+
+pub word-in-braces-has-no-kind-of-its-own : munch-gives (ascii "by") (mode 0 Braces) (Lexeme identifier 2 (mode 0 Braces))
+unfolding munching
+word-in-braces-has-no-kind-of-its-own = munch-at _ _
+
+pub end-outside-is-finished : munch-gives [] outside Finished
+unfolding munching
+end-outside-is-finished = munch-at _ _

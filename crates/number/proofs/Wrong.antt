@@ -1,0 +1,104 @@
+-- The answer that the promise leaves at a telling input: a program that answers otherwise there, as the theorem's name says, cannot be
+-- proved. `parse-str-radix-gives` is what the promise answers at a text, which is the definition's value there.
+use Prim.Native.Nat.{ℕ}
+use mathlib.Core.Bool.{false, true}
+use mathlib.Core.List.{List, _∷_}
+use mathlib.Core.Path.{_≡_, ap, _∙_}
+use lib.Count.{trailingZeros}
+use lib.IntN.{pos}
+use lib.Ieee.{Float, fin, inf, round, size, span, climb, units, odd, ofInt}
+use denote.Ref.{now}
+use Rattle.byte.specs.Ascii.{ascii}
+use Rattle.byte.specs.Byte.{isWithin, digitOf, isHexDigit, isDigitIn, lowered, isIn}
+use Rattle.byte.proofs.One.{Answers}
+use Rattle.scan.specs.Run.{runLength}
+use Rattle.scan.specs.Text.{has, sameText}
+use Rattle.sign.specs.Sign.{isSign}
+use Rattle.utf8.specs.Table.{fits, sizeIn, charLength}
+use Rattle.utf8.specs.Text.{charsPast, sizeOf}
+use Rattle.utf8.specs.Answers.{validityOf, admitted, atStart, place, notUtf8}
+use Rattle.utf8.specs.Code.{codeOf, encoded, sixBits}
+use Rattle.decimal.specs.declared.Notation.{Notation}
+use Rattle.decimal.specs.declared.Notation.the-variants.{Hex, Octal}
+use Rattle.decimal.specs.declared.Number.{Number}
+use Rattle.decimal.specs.Grammar.{hasDigits, exponentHasDigits, isNumeral, isInfinite, isNan}
+use Rattle.decimal.specs.Value.{valueFrom, isZeros, trailing, isExact, nearest, plain, scaledBy, decimalIn, decimalOf}
+use Rattle.number.specs.declared.Parsing.{Parsing}
+use Rattle.number.specs.declared.Parsing.the-variants.{Value, Refused}
+use Rattle.number.specs.White.{isWhite, keptOf}
+use Rattle.number.specs.Signed.{isI64}
+use Rattle.number.specs.Integer.{isDigits, isWhole, integerOf}
+use Rattle.number.specs.Number.{hasDecimalMark, isZeroLed, isMarked, notationOf, followsMark, markedRead, numberOf, parsingOf, refusedBy}
+use Rattle.utf8.specs.declared.Refusal.{Refusal}
+use Rattle.number.proofs.parse_str_radix.Kinds as parse-str-radix
+use Rattle.number.proofs.parse_str_radix.Reads as parse-str-radix-reads
+use Rattle.number.proofs.refused_by.Kinds as refused-by
+use Rattle.number.proofs.refused_by.Reads as refused-by-reads
+
+abbrev number : Notation → Float → Number
+number n x = record { value = x; notation = n }
+
+abbrev parse-str-radix-gives : List ℕ → Parsing → Type 0
+parse-str-radix-gives s v = Answers parse-str-radix.ps parse-str-radix.r parse-str-radix-reads.Post (λ κs a. now (a .0) ≡ s) (λ κs. v)
+
+parse-str-radix-at : (s : List ℕ) → parse-str-radix-gives s (parsingOf s)
+unfolding parsingOf admitted validityOf charsPast sizeOf charLength sizeIn fits codeOf isWithin keptOf isWhite lowered encoded sixBits numberOf isMarked isZeroLed hasDecimalMark has isSign decimalOf decimalIn isInfinite isNan isNumeral hasDigits exponentHasDigits sameText isIn runLength digitOf valueFrom isZeros trailing isExact nearest scaledBy round size span climb units odd trailingZeros markedRead notationOf followsMark integerOf isWhole isDigits isDigitIn isHexDigit isI64 ofInt
+parse-str-radix-at s κs a x e p h = p ∙ ap parsingOf h
+
+pub one-is-a-number : parse-str-radix-gives (ascii "1") (Value (plain (fin false 1 (pos 0))))
+unfolding parse-str-radix-at
+one-is-a-number = parse-str-radix-at _
+
+pub hex-one-is-one : parse-str-radix-gives (ascii "0x1") (Value (number Hex (fin false 1 (pos 0))))
+unfolding parse-str-radix-at
+hex-one-is-one = parse-str-radix-at _
+
+pub double-zero-is-octal : parse-str-radix-gives (ascii "00") (Value (number Octal (fin false 0 (pos 0))))
+unfolding parse-str-radix-at
+double-zero-is-octal = parse-str-radix-at _
+
+pub hex-zero-behind-a-minus-has-no-sign : parse-str-radix-gives (ascii "-0x0") (Value (number Hex (fin false 0 (pos 0))))
+unfolding parse-str-radix-at
+hex-zero-behind-a-minus-has-no-sign = parse-str-radix-at _
+
+pub two-to-63-behind-a-minus-is-refused : parse-str-radix-gives (ascii "-0x8000000000000000") (Refused (atStart 61))
+unfolding parse-str-radix-at
+two-to-63-behind-a-minus-is-refused = parse-str-radix-at _
+
+pub least-integer-negated-is-refused : parse-str-radix-gives (ascii "-0x-8000000000000000") (Refused (atStart 61))
+unfolding parse-str-radix-at
+least-integer-negated-is-refused = parse-str-radix-at _
+
+pub g-behind-a-hex-digit-is-refused : parse-str-radix-gives (ascii "0x1g") (Refused (atStart 60))
+unfolding parse-str-radix-at
+g-behind-a-hex-digit-is-refused = parse-str-radix-at _
+
+pub zero-e5-is-no-number : parse-str-radix-gives (ascii "0e5") (Refused (atStart 60))
+unfolding parse-str-radix-at
+zero-e5-is-no-number = parse-str-radix-at _
+
+-- U+180E before a digit
+pub vowel-separator-is-no-white-space : parse-str-radix-gives (0xe1 ∷ 0xa0 ∷ 0x8e ∷ ascii "1") (Refused (atStart 60))
+unfolding parse-str-radix-at
+vowel-separator-is-no-white-space = parse-str-radix-at _
+
+-- U+1680 before a digit
+pub ogham-space-is-dropped : parse-str-radix-gives (0xe1 ∷ 0x9a ∷ 0x80 ∷ ascii "1") (Value (plain (fin false 1 (pos 0))))
+unfolding parse-str-radix-at
+ogham-space-is-dropped = parse-str-radix-at _
+
+pub minus-of-infinity-stays : parse-str-radix-gives (ascii "-Inf") (Value (plain (inf true)))
+unfolding parse-str-radix-at
+minus-of-infinity-stays = parse-str-radix-at _
+
+abbrev refused-by-gives : Parsing → Refusal → Type 0
+refused-by-gives t v = Answers refused-by.ps refused-by.r refused-by-reads.Post (λ κs a. a .0 ≡ t) (λ κs. v)
+
+refused-by-at : (t : Parsing) → refused-by-gives t (refusedBy t)
+refused-by-at t κs a x e p h = p ∙ ap refusedBy h
+
+pub refusal-is-told-with-its-place : refused-by-gives (Refused (notUtf8 (place 3 2))) (notUtf8 (place 3 2))
+refusal-is-told-with-its-place = refused-by-at _
+
+pub number-has-no-refusal : refused-by-gives (Value (plain (fin false 1 (pos 0)))) (atStart 0)
+number-has-no-refusal = refused-by-at _

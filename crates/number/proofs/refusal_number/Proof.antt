@@ -1,0 +1,32 @@
+-- What is not outside the exact range is taken for no number.
+use native.Mathlib.Omega.{arith}
+use mathlib.Core.List.{[], _∷_}
+use mathlib.Core.Path.{_≡_, refl}
+use types.Run.{OneOf}
+use denote.Enum.Declared.{tagOf}
+use Rattle.decimal.specs.declared.Decimal.{Decimal}
+use Rattle.decimal.specs.declared.Decimal.the-variants.{NotDecimal, Named, Exact, Outside}
+use Rattle.decimal.proofs.Decimal as decimal
+use Rattle.decimal.proofs.Answers.{none}
+use Rattle.number.specs.Number.{refusalNumber}
+use borrow.Author.Needs.{needs}
+use Rattle.number.proofs.refusal_number.Statement.{statement}
+use Rattle.number.proofs.refusal_number.Tie as tie
+
+enum-told : tie.Need-enum-told
+enum-told c = search needs
+
+other : (d : Decimal) → OneOf (0 ∷ 1 ∷ 2 ∷ []) (tagOf decimal.the-type d) → 60 ≡ refusalNumber d
+other NotDecimal t = refl
+other (Named n) t = refl
+other (Exact n) t = refl
+other (Outside b) t = absurd (none t (λ z. omega arith) (λ z. omega arith) (λ z. omega arith))
+
+returns : tie.Need-returns
+returns c = other (c .before .args .d) (c .match .keys2)
+
+returns-2 : tie.Need-returns-2
+returns-2 c = search needs
+
+pub refusal-number-spec : {M : Type 1} → statement M
+refusal-number-spec = tie.close (tie.spec enum-told returns returns-2)

@@ -1,0 +1,76 @@
+-- The table of words, by one test that the check computes: there are 35 entries, each text is short and ASCII, each kind has 16 bits, and
+-- each text is unlike each that follows. So at most one entry has a word for its text, and the first that a search finds is the only one.
+use Prim.Native.Nat.{ℕ, _^_, _≤_, _<_}
+use native.Mathlib.Omega.{arith}
+use mathlib.Core.Bool.{Bool, true, _&&_, not, true≢false}
+use mathlib.Core.List.{List}
+use mathlib.Core.Path.{_≡_, refl, sym, _∙_}
+use lib.Dec.{eqb, leb, ltb}
+use lib.ListN.{length}
+use borrow.Author.Tests.{leb-true, ltb-true, eqb-true, not-true}
+use Rattle.scan.specs.Text.{sameText}
+use Rattle.scan.proofs.Same.{same-is-equal}
+use Rattle.byte.proofs.Choice.{and-left, and-right}
+use Rattle.utf8.specs.Laws.{isAscii}
+use Rattle.token.specs.declared.Keyword.{Keyword}
+use Rattle.token.specs.declared.Keyword.the-variants.{Kind, Nothing}
+use Rattle.token.specs.Words.{Entry, word, words, kindIn}
+use Rattle.token.specs.WordRows.{wordCount, widestWord}
+use Rattle.token.specs.Laws.{OneEntry, EntryFound, NoneFound}
+use Rattle.token.proofs.Every.{every, distinct, Search, each-found, none-hit, one-hit, hit-found}
+
+abbrev pub isEntry : Entry → Bool
+isEntry e = leb (length (e .text)) widestWord && (isAscii (e .text) && ltb (e .kind) (2 ^ 16))
+
+module _ (e : Entry) (t : isEntry e ≡ true) where
+  pub short : length (e .text) ≤ widestWord
+  short = leb-true _ _ (and-left _ _ t)
+
+  pub plain : isAscii (e .text) ≡ true
+  plain = and-left _ _ (and-right (leb (length (e .text)) widestWord) _ t)
+
+  pub small : e .kind < 2 ^ 16
+  small = ltb-true _ _ (and-right (isAscii (e .text)) _ (and-right (leb (length (e .text)) widestWord) _ t))
+
+-- the search for a word, which is not both of unlike texts
+abbrev unlike : Entry → Entry → Bool
+unlike e f = not (sameText (e .text) (f .text))
+
+abbrev searched : List ℕ → Search Entry Keyword
+searched w =
+    record {
+      isHit = λ e. sameText w (e .text);
+      value = λ e. Kind (e .kind);
+      find = λ es. kindIn es w;
+      turn = λ e es. unfold kindIn in refl;
+      unlike = unlike;
+      apart = λ e f u p q. true≢false (sym (rw (same-is-equal w (e .text) .0 p) at q) ∙ not-true (sameText (e .text) (f .text)) u);
+    }
+
+tested : eqb (length words) wordCount && (every isEntry words && distinct unlike words) ≡ true
+unfolding words sameText
+tested = refl
+
+pub counted : length words ≡ wordCount
+counted = eqb-true _ _ (and-left _ _ tested)
+
+pub entries : every isEntry words ≡ true
+entries = and-left _ _ (and-right (eqb (length words) wordCount) _ tested)
+
+apart : distinct unlike words ≡ true
+apart = and-right (every isEntry words) _ (and-right (eqb (length words) wordCount) _ tested)
+
+-- what holds of each entry that a word may be, and of none, holds of the word
+pub word-found : (w : List ℕ) (P : Keyword → Type 0) → P Nothing → ((e : Entry) → isEntry e ≡ true → sameText w (e .text) ≡ true → P (Kind (e .kind))) → P (kindIn words w)
+unfolding kindIn
+word-found w P n v = each-found (searched w) isEntry P n v words entries
+
+pub one-entry : OneEntry
+one-entry w i j h l = one-hit (searched w) (word "" 0) words apart i j (omega (arith, counted)) (omega (arith, counted))
+
+pub entry-found : EntryFound
+entry-found w i h = hit-found (searched w) (word "" 0) words apart i (omega (arith, counted))
+
+pub none-found : NoneFound
+unfolding kindIn
+none-found w n = none-hit (searched w) (word "" 0) words (λ i h. n i (omega (arith, counted)))
