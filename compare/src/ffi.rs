@@ -1,46 +1,10 @@
-//! Our functions, the C functions of the archives target/native/libexports_*.a, each with a safe wrapper.
+//! Our functions, the C functions that the crate simmerpath links, each with a safe wrapper.
 //! What a function is lent stands between guards, and each wrapper tells whether all that the function may not write
 //! is as it was.
 
 use crate::comparison::Outcome;
 use compare::oracle::literal::INNER;
-
-extern "C" {
-    fn simmerpath_utf8_validate(text: *const u8, len: usize) -> u64;
-    fn simmerpath_utf8_char_number(text: *const u8, len: usize, to: usize) -> u64;
-    fn simmerpath_utf8_char_at(text: *const u8, len: usize, at: usize, code: *mut u32) -> u64;
-    fn simmerpath_utf8_encode(code: u32, out: *mut u8, len: usize, at: usize) -> u64;
-    fn simmerpath_get_keyword_token(word: *const u8, len: usize) -> u64;
-    fn simmerpath_token_display(kind: u16, out: *mut u8, len: usize) -> u64;
-    fn simmerpath_token_classes(kind: u16) -> u64;
-    fn simmerpath_is_label(text: *const u8, len: usize) -> u64;
-    fn simmerpath_escape_string(text: *const u8, len: usize, out: *mut u8, room: usize) -> u64;
-    fn simmerpath_unquote_string(
-        literal: *const u8,
-        len: usize,
-        documented: u32,
-        text: *mut u8,
-        room: usize,
-    ) -> u64;
-    fn simmerpath_parse_str_radix(text: *const u8, len: usize, bits: *mut u64) -> u64;
-    fn simmerpath_parse_duration(
-        text: *const u8,
-        len: usize,
-        secs: *mut u64,
-        nanos: *mut u32,
-    ) -> u64;
-    fn simmerpath_display_duration(secs: u64, nanos: u32, out: *mut u8, len: usize) -> u64;
-    fn simmerpath_lexer(
-        query: *const u8,
-        len: usize,
-        kinds: *mut u16,
-        kinds_len: usize,
-        starts: *mut u32,
-        starts_len: usize,
-        lengths: *mut u32,
-        lengths_len: usize,
-    ) -> u64;
-}
+use simmerpath::raw::*;
 
 /// How many guards stand on each side of a list.
 const GUARDS: usize = 8;

@@ -18,6 +18,8 @@ mod literal;
 #[cfg(feature = "promql")]
 mod number;
 #[cfg(feature = "promql")]
+mod safe;
+#[cfg(feature = "promql")]
 mod string;
 #[cfg(feature = "promql")]
 mod token;
@@ -43,6 +45,8 @@ const OPERATIONS: &[(&str, Run)] = &[
     ("duration", duration::run),
     #[cfg(feature = "promql")]
     ("lexer", lexer::run),
+    #[cfg(feature = "promql")]
+    ("safe", safe::run),
     #[cfg(feature = "go")]
     ("documented", documented::run),
 ];

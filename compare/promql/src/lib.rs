@@ -110,6 +110,12 @@ pub fn display_duration(duration: Duration) -> String {
     duration::display_duration(&duration)
 }
 
+/// The Rust's own functions, for what times them.
+pub use lex::lexer;
+pub use util::duration::parse_duration;
+pub use util::number::parse_str_radix;
+pub use util::string::{escape_string, unquote_string};
+
 thread_local! {
     /// Whether nothing is to be said of a panic.
     static QUIET: Cell<bool> = Cell::new(false);

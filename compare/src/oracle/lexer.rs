@@ -65,6 +65,7 @@ pub struct Lexed {
     pub starts: Vec<u32>,
     pub lengths: Vec<u32>,
     refused: Option<Answer>,
+    said: Option<String>,
 }
 
 impl Lexed {
@@ -87,18 +88,25 @@ impl Lexed {
             None => Ok(&steps.lexemes),
         };
         assert_eq!(promql::lexemes(query).as_ref(), stepped, "{query:?}");
+        let said = stepped.err().cloned();
         let lexemes = steps.lexemes.iter();
         Lexed {
             kinds: lexemes.clone().map(|lexeme| lexeme.0).collect(),
             starts: lexemes.clone().map(|lexeme| lexeme.1 as u32).collect(),
             lengths: lexemes.map(|lexeme| lexeme.2 as u32).collect(),
             refused: steps.stopped.map(|stopped| refusal(query, stopped)),
+            said,
         }
     }
 
     /// How many lexemes there are, or are before the refusal.
     pub fn count(&self) -> usize {
         self.kinds.len()
+    }
+
+    /// What the Rust says of a bad query.
+    pub fn said(&self) -> Option<&str> {
+        self.said.as_deref()
     }
 
     /// The answer where there is room for so many.

@@ -45,6 +45,11 @@ impl<'a> Literal<'a> {
         }
     }
 
+    /// Whether the text is a part of the literal.
+    pub fn is_part(&self) -> bool {
+        !self.has_escape()
+    }
+
     /// Whether the literal has an escape: a backslash, and not between backquotes.
     fn has_escape(&self) -> bool {
         self.bytes.contains(&b'\\') && self.bytes[0] != b'`'

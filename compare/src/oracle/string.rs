@@ -7,9 +7,14 @@ use super::utf8::admitted;
 use super::{write, Answer};
 use promql::Unquoted;
 
+/// A text of any length, escaped.
+pub fn escape(text: &str) -> String {
+    promql::escape(text)
+}
+
 /// A text, escaped, or its refusal.
 pub fn escaped(text: &[u8]) -> Result<String, Answer> {
-    admitted(text).map(promql::escape)
+    admitted(text).map(escape)
 }
 
 /// Writes a text, escaped, to the front: how many bytes that has.

@@ -20,8 +20,7 @@ use Rattle.decimal.specs.Value.{valueFrom, isZeros, trailing, isExact, nearest,
 use Rattle.units.specs.Units.{isPart, behind, sumBy, counted, isUnitText, unitsOf}
 use Rattle.duration.specs.declared.Timing.the-variants.{Lasts, Refused}
 use Rattle.duration.specs.Duration.{durationRead, timingOf}
-use Rattle.record.specs.Digit.{signOf}
-use Rattle.record.specs.Decimal.{digitsOf as digitsIn, decimalText}
+use Rattle.writing.specs.Decimal.{signOf, digitsOf as digitsIn, decimalText}
 use Rattle.display.specs.Display.{counted as shownAs, partOf, restOf, textOf}
 use Rattle.byte.specs.Byte.{isSpace, isAlphaNumeric, isWord, isLine}
 use Rattle.utf8.specs.Text.{begunIn, charNumber}

@@ -9,8 +9,8 @@ use lib.Dec.{eqb}
 use lib.ListN.{length, drop, length-append}
 use borrow.Author.Tests.{eqb-true}
 use Rattle.byte.proofs.Choice.{either}
-use Rattle.record.specs.Decimal.{decimalText}
-use Rattle.record.proofs.Decimals.{digits-below}
+use Rattle.writing.specs.Decimal.{decimalText}
+use Rattle.writing.proofs.Decimals.{digits-below}
 use Rattle.span.specs.Unit.{Unit, unit, milli, second, minute, hour, day, week, year}
 use Rattle.span.specs.Spans.{isZero}
 use Rattle.display.specs.Display.{Row, row, rows, counted, partOf, restOf, written, textOf, millisOf}

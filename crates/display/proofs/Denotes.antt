@@ -19,9 +19,9 @@ use Rattle.byte.proofs.Choice.{and-left, and-right}
 use Rattle.scan.proofs.Same.{same-is-equal}
 use Rattle.span.specs.Unit.{Unit, units, second, nanosAMilli}
 use Rattle.span.specs.Spans.{isZero}
-use Rattle.record.specs.Decimal as decimals
-use Rattle.record.specs.Decimal.{decimalText}
-use Rattle.record.proofs.ReadBack.{digits-some, digits-all, decimal-value}
+use Rattle.writing.specs.Decimal as decimals
+use Rattle.writing.specs.Decimal.{decimalText}
+use Rattle.writing.proofs.ReadBack.{digits-some, digits-all, decimal-value}
 use Rattle.decimal.specs.Value.{valueFrom, valueOf}
 use Rattle.units.specs.Units.{isPart, behind, sumBy}
 use Rattle.display.specs.Display.{Row, rows, isLeftOut, counted, partOf, restOf, written, millisOf, textOf}

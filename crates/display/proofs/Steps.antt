@@ -9,9 +9,9 @@ use lib.Seq.{sets-eq}
 use borrow.Author.Tests.{eq-eqb, ne-eqb, le-leb}
 use Rattle.byte.specs.Ascii.{ascii}
 use Rattle.scan.proofs.Stores.{sets-join}
-use Rattle.record.specs.Decimal.{decimalText}
-use Rattle.record.specs.Put.{putAt, pastAt}
-use Rattle.record.proofs.Writes.{past-in}
+use Rattle.writing.specs.Decimal.{decimalText}
+use Rattle.writing.specs.Put.{putAt, pastAt}
+use Rattle.writing.proofs.Writes.{past-in}
 use Rattle.span.specs.declared.Duration.{Duration}
 use Rattle.span.specs.Spans.{isZero}
 use Rattle.display.specs.Display.{rows, counted, written, millisOf, textOf}

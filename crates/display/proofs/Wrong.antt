@@ -8,8 +8,7 @@ use denote.Ref.{now}
 use Rattle.byte.specs.Ascii.{ascii}
 use Rattle.byte.proofs.One.{Answers, Leaves}
 use Rattle.utf8.specs.Answers.{atStart, noRoom, place, notUtf8}
-use Rattle.record.specs.Digit.{signOf}
-use Rattle.record.specs.Decimal.{digitsOf, decimalText}
+use Rattle.writing.specs.Decimal.{signOf, digitsOf, decimalText}
 use Rattle.span.specs.declared.Duration.{Duration}
 use Rattle.display.specs.declared.Displaying.{Displaying}
 use Rattle.display.specs.declared.Displaying.the-variants.{Written, Refused}

@@ -7,7 +7,7 @@ use lib.ListN.{length, drop}
 use Rattle.byte.specs.Ascii.{ascii}
 use Rattle.utf8.specs.declared.Refusal.{Refusal}
 use Rattle.utf8.specs.Answers.{atStart, noRoom, noRefusal}
-use Rattle.record.specs.Decimal.{decimalText}
+use Rattle.writing.specs.Decimal.{decimalText}
 use Rattle.span.specs.declared.Duration.{Duration}
 use Rattle.span.specs.Unit.{Unit, unit, milli, second, minute, hour, day, week, year, nanosAMilli, nanosASecond}
 use Rattle.span.specs.Spans.{isZero}

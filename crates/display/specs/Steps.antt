@@ -7,7 +7,7 @@ use lib.Dec.{eqb}
 use lib.ListN.{length}
 use lib.Seq.{sets}
 use Rattle.byte.specs.Ascii.{ascii}
-use Rattle.record.specs.Decimal.{mostDigits}
+use Rattle.writing.specs.Decimal.{mostDigits}
 use Rattle.display.specs.declared.Counts.{Counts}
 use Rattle.display.specs.Display.{counted}
 

@@ -5,7 +5,7 @@ ghost use mathlib.Core.Path.{_≡_};
 ghost use Prim.Native.Nat.{_+_, _*_, _≤_, _<_};
 ghost use lib.ListN.{length};
 ghost use lib.Seq.{sets};
-ghost use Rattle.record.specs.Decimal.{decimalText};
+ghost use Rattle.writing.specs.Decimal.{decimalText};
 ghost use Rattle.span.specs.Unit.{day, nanosASecond};
 ghost use Rattle.display.specs.Display.{rows, counted, written, millisOf, textOf, displayingOf, leftBy, refusedBy};
 ghost use Rattle.display.specs.Steps.{Stored, wholeOf, longestUnit, longestPart, joined, sizes, textsOf};
@@ -123,8 +123,8 @@ fn put_part(out: &mut [u8], at: usize, count: u64, unit: &[u8]) -> usize
     if count == 0 {
         return at;
     }
-    let next = record::put_decimal(out, at, count);
-    record::put_text(out, next, unit)
+    let next = writing::put_decimal(out, at, count);
+    writing::put_text(out, next, unit)
 }
 
 // Writes counts and their units at the front of a buffer that they fit.
@@ -156,7 +156,7 @@ pub fn display_duration(duration: Duration, out: &mut [u8]) -> Displaying
         return Displaying::Refused(utf8::at_start(utf8::NO_ROOM));
     }
     if zero {
-        record::put_text(out, 0, &ZERO);
+        writing::put_text(out, 0, &ZERO);
     } else {
         put_parts(out, counts);
     }

@@ -3,7 +3,7 @@ use libc::STDIN_FILENO;
 use libc::STDOUT_FILENO;
 ghost use mathlib.Core.Path.{_≡_};
 ghost use Rattle.io.specs.Counts.{Counts};
-ghost use Rattle.record.specs.Put.{putAt, pastAt};
+ghost use Rattle.writing.specs.Put.{putAt, pastAt};
 ghost use Rattle.listing.specs.Listing.{printed};
 
 // One byte more than is taken is read, to know that an input is too long.

@@ -8,8 +8,7 @@ use Rattle.utf8.specs.Text.{charsPast, sizeOf, begunIn, charNumber}
 use Rattle.utf8.specs.Answers.{validityOf, admitted}
 use Rattle.utf8.specs.Code.{codeOf}
 use Rattle.sign.specs.Sign.{isSign}
-use Rattle.record.specs.Digit.{signOf}
-use Rattle.record.specs.Decimal.{digitsOf, decimalText}
+use Rattle.writing.specs.Decimal.{signOf, digitsOf, decimalText}
 use Rattle.token.specs.Words.{words, kindIn, keywordOf}
 use Rattle.numeral.specs.Numeral.{isHex, fractionEnd, exponentEnd, numberEnd, isUnit, stopOf, turnOf, durationFrom, numeralOf}
 use Rattle.quoted.specs.Quoted.{quotedFrom}

@@ -6,14 +6,12 @@ use mathlib.Core.List.{List, [], _++_}
 use lib.ListN.{length, length-append}
 use Rattle.byte.specs.Ascii.{ascii}
 use Rattle.utf8.specs.declared.Refusal.{Refusal}
-use Rattle.record.specs.Decimal.{mostDigits, decimalText}
-use Rattle.record.proofs.Decimals.{digits-below, digits-few}
+use Rattle.writing.specs.Decimal.{mostDigits, decimalText}
+use Rattle.writing.proofs.Decimals.{digits-below, digits-few}
 use Rattle.lex.specs.declared.Lexing.the-variants.{Refused}
 use Rattle.lex.specs.Steps.{entry}
 use Rattle.lex.specs.Lex.{lexed}
 use Rattle.lex.proofs.Bounds.{Bounded, lexing-bound}
-use Rattle.listing.specs.declared.Layout.{Layout}
-use Rattle.listing.specs.declared.Layout.the-variants.{Line, Field}
 use Rattle.listing.specs.Listing.{longestLexeme, longestLine, numbered, numbers, refusal, lexemeText}
 
 -- how many digits stand before the last, in a number of 16, of 32 and of 64 bits
@@ -35,24 +33,21 @@ pub number-most : (n : ℕ) (after : List ℕ) → n < 2 ^ 64 → length (number
 number-most n after h = omega (arith, length-append (decimalText n) after, digits-few n h)
 
 -- three numbers
-numbers-few : (i j k a b c : ℕ) (between after : List ℕ) → a < 10 ^ (i + 1) → b < 10 ^ (j + 1) → c < 10 ^ (k + 1)
-    → length (numbers a b c between after) ≤ i + j + k + 3 + length between + length between + length after
-numbers-few i j k a b c between after f g h =
-    let first = numbered a between in
-    let second = numbered b between in
-    let third = numbered c after in
-    omega (arith, length-append (first ++ second) third, length-append first second, number-few i a between f, number-few j b between g, number-few k c after h)
+numbers-few : (i j k a b c : ℕ) → a < 10 ^ (i + 1) → b < 10 ^ (j + 1) → c < 10 ^ (k + 1) → length (numbers a b c) ≤ i + j + k + 6
+numbers-few i j k a b c f g h =
+    let first = numbered a (ascii " ") in
+    let second = numbered b (ascii " ") in
+    let third = numbered c (ascii "\n") in
+    omega (arith, length-append (first ++ second) third, length-append first second, number-few i a (ascii " ") f, number-few j b (ascii " ") g, number-few k c (ascii "\n") h)
 
-pub lexeme-few : (l : Layout) (kind start size : ℕ) → kind < 2 ^ 16 → start < 2 ^ 32 → size < 2 ^ 32 → length (lexemeText l (entry kind start size)) ≤ longestLexeme
-lexeme-few Line kind start size f g h = omega (arith, numbers-few before16 before32 before32 kind start size (ascii " ") (ascii "\n") (omega arith) (omega arith) (omega arith))
-lexeme-few Field kind start size f g h =
-    omega (arith, length-append (ascii " ") (numbers kind start size (ascii ",") []), numbers-few before16 before32 before32 kind start size (ascii ",") [] (omega arith) (omega arith) (omega arith))
+pub lexeme-few : (kind start size : ℕ) → kind < 2 ^ 16 → start < 2 ^ 32 → size < 2 ^ 32 → length (lexemeText (entry kind start size)) ≤ longestLexeme
+lexeme-few kind start size f g h = omega (arith, numbers-few before16 before32 before32 kind start size (omega arith) (omega arith) (omega arith))
 
 pub refusal-few : (r : Refusal) → r .number < 2 ^ 64 → r .place .byte .0 < 2 ^ 64 → r .place .character .0 < 2 ^ 64 → length (refusal r) ≤ longestLine
 unfolding refusal
 refusal-few r f g h =
-    let three = numbers (r .number) (r .place .byte .0) (r .place .character .0) (ascii " ") (ascii "\n") in
-    omega (arith, length-append (ascii "refused ") three, numbers-few before64 before64 before64 (r .number) (r .place .byte .0) (r .place .character .0) (ascii " ") (ascii "\n") (omega arith) (omega arith) (omega arith))
+    let three = numbers (r .number) (r .place .byte .0) (r .place .character .0) in
+    omega (arith, length-append (ascii "refused ") three, numbers-few before64 before64 before64 (r .number) (r .place .byte .0) (r .place .character .0) (omega arith) (omega arith) (omega arith))
 
 -- a refusal of a query
 pub refused-few : (room : ℕ) (q : List ℕ) (r : Refusal) → lexed room q ≡ Refused r → length (refusal r) ≤ longestLine

@@ -16,8 +16,6 @@ use Rattle.lex.specs.Lex.{entriesOf, measured, lexed}
 use Rattle.lex.proofs.Few.{entries-few}
 use Rattle.lex.proofs.Entries.{AllWithin, entries-within}
 use Rattle.lex.proofs.Measures.{measured-count, fits}
-use Rattle.listing.specs.declared.Layout.{Layout}
-use Rattle.listing.specs.declared.Layout.the-variants.{Line}
 use Rattle.listing.specs.Listing.{inputLimit, mostLexemes, longestLexeme, mostText, refusal, lexemeText, lexemesText, printedBy, printed}
 use Rattle.listing.specs.Laws.{RoomEnough, TextFits}
 use Rattle.listing.proofs.Few.{lexeme-few, refusal-few, refused-few}
@@ -31,11 +29,11 @@ room-enough q h = go (measured q) refl
     go (Refused r) e = rw e
 
 -- the lexemes of a query within the limit
-lexemes-few : (l : Layout) (size : ℕ) → size ≤ inputLimit → (es : List Entry) → AllWithin size es → length (lexemesText l es) ≤ length es * longestLexeme
+lexemes-few : (size : ℕ) → size ≤ inputLimit → (es : List Entry) → AllWithin size es → length (lexemesText es) ≤ length es * longestLexeme
 unfolding lexemesText
-lexemes-few l size h [] a = omega arith
-lexemes-few l size h (e ∷ es) a =
-    omega (arith, length-append (lexemeText l e) (lexemesText l es), lexeme-few l (e .kind) (e .start) (e .length) (a .0 .0) (omega (arith, a .0 .1)) (omega (arith, a .0 .1)), lexemes-few l size h es (a .1))
+lexemes-few size h [] a = omega arith
+lexemes-few size h (e ∷ es) a =
+    omega (arith, length-append (lexemeText e) (lexemesText es), lexeme-few (e .kind) (e .start) (e .length) (a .0 .0) (omega (arith, a .0 .1)) (omega (arith, a .0 .1)), lexemes-few size h es (a .1))
 
 pub text-fits : TextFits
 unfolding printed printedBy
@@ -47,5 +45,5 @@ text-fits q =
     long = omega (arith, refusal-few tooLong (omega arith) (omega arith) (omega arith))
 
     go : length q ≤ inputLimit → (x : Lexing) → lexed mostLexemes q ≡ x → length (printedBy q x) ≤ mostText
-    go h (Count n) e = omega (arith, lexemes-few Line (length q) h (entriesOf q) (entries-within q), entries-few q)
+    go h (Count n) e = omega (arith, lexemes-few (length q) h (entriesOf q) (entries-within q), entries-few q)
     go h (Refused r) e = omega (arith, refused-few mostLexemes q r e)

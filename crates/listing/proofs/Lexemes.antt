@@ -12,7 +12,6 @@ use Rattle.lex.specs.declared.Lexing.the-variants.{Count}
 use Rattle.lex.specs.Steps.{Entry, entry}
 use Rattle.lex.specs.Lex.{entriesOf, lexed, listed, leftBy, kindOf, startOf, lengthOf, shortest}
 use Rattle.lex.proofs.Given.{lexing-given}
-use Rattle.listing.specs.declared.Layout.{Layout}
 use Rattle.listing.specs.Listing.{lexemeText, lexemesText, zipped}
 
 -- three lists that hold the numbers of lexemes hold the lexemes
@@ -36,12 +35,11 @@ lists-hold q ks ss ls {n = n} p told =
     let lengths = ap (take n) (p .1 .1 .1 ∙ ap (λ y. leftBy y (listed lengthOf q ls) ls) told) ∙ listed-front lengthOf q ls n (w .2) in
     (w .3, rw (kinds, starts, lengths) (zipped-back (entriesOf q)))
 
-module _ (l : Layout) where
-  one-more : (es : List Entry) (e : Entry) → lexemesText l (es ++ e ∷ []) ≡ lexemesText l es ++ lexemeText l e
-  unfolding lexemesText
-  one-more [] e = append-nil (lexemeText l e)
-  one-more (x ∷ es) e =
-      ap (λ (t : List ℕ). lexemeText l x ++ t) (one-more es e) ∙ sym (append-assoc (lexemeText l x) (lexemesText l es) (lexemeText l e))
+one-more : (es : List Entry) (e : Entry) → lexemesText (es ++ e ∷ []) ≡ lexemesText es ++ lexemeText e
+unfolding lexemesText
+one-more [] e = append-nil (lexemeText e)
+one-more (x ∷ es) e =
+    ap (λ (t : List ℕ). lexemeText x ++ t) (one-more es e) ∙ sym (append-assoc (lexemeText x) (lexemesText es) (lexemeText e))
 
 zipped-length : (ks ss ls : List ℕ) → length ss ≡ length ks → length ls ≡ length ks → length (zipped ks ss ls) ≡ length ks
 zipped-length [] ss ls h g = refl
@@ -61,13 +59,13 @@ zipped-at (k ∷ ks) (s ∷ ss) (l ∷ ls) (suc i) h g = zipped-at ks ss ls i (o
 
 module _ (ks ss ls : List ℕ) (h : length ss ≡ length ks) (g : length ls ≡ length ks) where
   -- the text of one more
-  pub text-more : (w : Layout) (i : ℕ) → i < length ks
-      → lexemesText w (take (i + 1) (zipped ks ss ls)) ≡ lexemesText w (take i (zipped ks ss ls)) ++ lexemeText w (entry (getD ks i 0) (getD ss i 0) (getD ls i 0))
-  text-more w i l =
+  pub text-more : (i : ℕ) → i < length ks
+      → lexemesText (take (i + 1) (zipped ks ss ls)) ≡ lexemesText (take i (zipped ks ss ls)) ++ lexemeText (entry (getD ks i 0) (getD ss i 0) (getD ls i 0))
+  text-more i l =
       let es = zipped ks ss ls in
       let inside : i < length es = omega (arith, zipped-length ks ss ls h g) in
       rw (add-one, take-suc es i (entry 0 0 0) inside, one-more, zipped-at ks ss ls i h g)
 
   -- and of all
-  pub text-all : (w : Layout) (i : ℕ) → length ks ≤ i → lexemesText w (take i (zipped ks ss ls)) ≡ lexemesText w (zipped ks ss ls)
-  text-all w i l = ap (lexemesText w) (take-all i (zipped ks ss ls) (omega (arith, zipped-length ks ss ls h g)))
+  pub text-all : (i : ℕ) → length ks ≤ i → lexemesText (take i (zipped ks ss ls)) ≡ lexemesText (zipped ks ss ls)
+  text-all i l = ap lexemesText (take-all i (zipped ks ss ls) (omega (arith, zipped-length ks ss ls h g)))

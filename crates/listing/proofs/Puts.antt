@@ -1,4 +1,4 @@
--- Laws of a text that is put into a list piece by piece. Where there is room, record's writers leave the text behind what stood before it and
+-- Laws of a text that is put into a list piece by piece. Where there is room, the writers leave the text behind what stood before it and
 -- before what stood past it, so a piece that is put right behind another makes one text with it.
 use Prim.Native.Nat.{ℕ, _+_, _≤_}
 use native.Mathlib.Omega.{arith}
@@ -7,11 +7,11 @@ use mathlib.Core.List.{List, [], _++_, append-assoc}
 use lib.ListN.{length, take, drop, length-append}
 use lib.Seq.{drop-at, drop-drop, length-take-le}
 use borrow.Author.Tests.{le-leb}
-use Rattle.record.specs.Put.{putAt, pastAt}
-use Rattle.record.proofs.Writes.{past-in, put-stands}
+use Rattle.writing.specs.Put.{putAt, pastAt}
+use Rattle.writing.proofs.Writes.{past-in, put-stands}
 use Rattle.listing.specs.Puts.{Puts}
 
--- what record's writers promise is that a text is put, where it fits
+-- what the writers promise is that a text is put, where it fits
 pub puts : (d : List ℕ) (at : ℕ) (xs : List ℕ) {r : ℕ} {e : List ℕ} → (r ≡ pastAt d at xs) × (e ≡ putAt d at xs) → at + length xs ≤ length d → Puts xs d at r e
 puts d at xs p h = record { room = h; past = p .0 ∙ past-in d at xs h; left = p .1 }
 

@@ -3,24 +3,8 @@
 use mathlib.Core.Path.{sym, _∙_}
 use denote.Ref.{now}
 use Rattle.byte.proofs.One.{OneAnswer, OneContent}
-use Rattle.listing.proofs.put_refusal.Kinds as put-refusal
-use Rattle.listing.proofs.put_refusal.Reads as put-refusal-reads
-use Rattle.listing.proofs.put_lexeme.Kinds as put-lexeme
-use Rattle.listing.proofs.put_lexeme.Reads as put-lexeme-reads
 use Rattle.listing.proofs.list_lexemes.Kinds as list-lexemes
 use Rattle.listing.proofs.list_lexemes.Reads as list-lexemes-reads
-
-pub same-put-refusal : OneAnswer put-refusal.ps put-refusal.r put-refusal-reads.Post
-same-put-refusal κs a x y e f p q = p .0 ∙ sym (q .0)
-
-pub same-put-refusal-out : OneContent put-refusal.ps put-refusal.r put-refusal-reads.Post (λ κs e. now (e .0))
-same-put-refusal-out κs a x y e f p q = p .1 ∙ sym (q .1)
-
-pub same-put-lexeme : OneAnswer put-lexeme.ps put-lexeme.r put-lexeme-reads.Post
-same-put-lexeme κs a x y e f p q = p .0 ∙ sym (q .0)
-
-pub same-put-lexeme-out : OneContent put-lexeme.ps put-lexeme.r put-lexeme-reads.Post (λ κs e. now (e .0))
-same-put-lexeme-out κs a x y e f p q = p .1 ∙ sym (q .1)
 
 pub same-list-lexemes : OneAnswer list-lexemes.ps list-lexemes.r list-lexemes-reads.Post
 same-list-lexemes κs a x y e f p q = p .0 ∙ sym (q .0)

@@ -7,13 +7,11 @@ use lib.ListN.{length}
 use Rattle.byte.specs.Ascii.{ascii}
 use Rattle.utf8.specs.declared.Refusal.{Refusal}
 use Rattle.utf8.specs.Answers.{tooLong}
-use Rattle.record.specs.Decimal.{mostDigits, decimalText}
+use Rattle.writing.specs.Decimal.{mostDigits, decimalText}
 use Rattle.lex.specs.declared.Lexing.{Lexing}
 use Rattle.lex.specs.declared.Lexing.the-variants.{Count, Refused}
 use Rattle.lex.specs.Steps.{Entry, entry}
 use Rattle.lex.specs.Lex.{entriesOf, lexed}
-use Rattle.listing.specs.declared.Layout.{Layout}
-use Rattle.listing.specs.declared.Layout.the-variants.{Line, Field}
 
 -- "Order of the port" 6: "for at most 4,096 bytes"
 abbrev pub inputLimit : ℕ
@@ -35,11 +33,11 @@ mostText = mostLexemes * longestLexeme
 abbrev pub numbered : ℕ → List ℕ → List ℕ
 numbered n after = decimalText n ++ after
 
--- three numbers, the first two with one sign behind them, the last with another
-abbrev pub numbers : ℕ → ℕ → ℕ → List ℕ → List ℕ → List ℕ
-numbers a b c between after = numbered a between ++ numbered b between ++ numbered c after
+-- three numbers, with a space between them and LF behind
+abbrev pub numbers : ℕ → ℕ → ℕ → List ℕ
+numbers a b c = numbered a (ascii " ") ++ numbered b (ascii " ") ++ numbered c (ascii "\n")
 
--- their length where no sign is longer than a byte, and that of a line
+-- the most bytes that they take, and a line
 abbrev pub mostNumbers : ℕ
 mostNumbers = 3 * (mostDigits + 1)
 
@@ -48,16 +46,15 @@ longestLine = length (ascii "refused ") + mostNumbers
 
 -- "Values on both sides": "a refusal as `refused`, number, byte, character"
 unfoldable pub refusal : Refusal → List ℕ
-refusal r = ascii "refused " ++ numbers (r .number) (r .place .byte .0) (r .place .character .0) (ascii " ") (ascii "\n")
+refusal r = ascii "refused " ++ numbers (r .number) (r .place .byte .0) (r .place .character .0)
 
--- "Values on both sides": "each lexeme as kind, start, length", on a line; or, for `replay`, in a field
-abbrev pub lexemeText : Layout → Entry → List ℕ
-lexemeText Line e = numbers (e .kind) (e .start) (e .length) (ascii " ") (ascii "\n")
-lexemeText Field e = ascii " " ++ numbers (e .kind) (e .start) (e .length) (ascii ",") []
+-- "Values on both sides": "each lexeme as kind, start, length", on a line
+abbrev pub lexemeText : Entry → List ℕ
+lexemeText e = numbers (e .kind) (e .start) (e .length)
 
-unfoldable pub lexemesText : Layout → List Entry → List ℕ
-lexemesText l [] = []
-lexemesText l (e ∷ es) = lexemeText l e ++ lexemesText l es
+unfoldable pub lexemesText : List Entry → List ℕ
+lexemesText [] = []
+lexemesText (e ∷ es) = lexemeText e ++ lexemesText es
 
 -- the lexemes that three lists hold
 abbrev pub zipped : List ℕ → List ℕ → List ℕ → List Entry
@@ -68,7 +65,7 @@ zipped (k ∷ ks) (s ∷ ss) (l ∷ ls) = entry k s l ∷ zipped ks ss ls
 
 -- "The program prints each lexeme ..; a refusal ..": its one line and no lexeme
 unfoldable pub printedBy : List ℕ → Lexing → List ℕ
-printedBy q (Count n) = lexemesText Line (entriesOf q)
+printedBy q (Count n) = lexemesText (entriesOf q)
 printedBy q (Refused r) = refusal r
 
 -- "Order of the port" 6: "longer input is refusal 1"

@@ -3,7 +3,7 @@ use Prim.Native.Nat.{ℕ, _+_, _≤_}
 use mathlib.Core.Path.{_≡_}
 use mathlib.Core.List.{List}
 use lib.ListN.{length}
-use Rattle.record.specs.Put.{putAt}
+use Rattle.writing.specs.Put.{putAt}
 
 -- a text that fits was put into d at an offset, which left e, and r is the offset past it
 pub record Puts (text d : List ℕ) (at r : ℕ) (e : List ℕ) : Type 0 where

@@ -1,15 +1,15 @@
-// What the program prints of a query: a line for each lexeme, or one for the refusal. `replay` says the same of a refusal, and
-// lists lexemes in a layout of its own. A text is written whole where it fits, and else not at all.
+// What the program prints of a query: a line for each lexeme, or one for the refusal. A text is written whole where it fits, and
+// else not at all.
 use lex::Lexing;
 use utf8::Refusal;
 ghost use mathlib.Core.Path.{_≡_};
 ghost use Prim.Native.Nat.{_+_, _≤_};
 ghost use lib.ListN.{length};
-ghost use Rattle.record.specs.Put.{putAt, pastAt};
-ghost use Rattle.record.specs.Decimal.{mostDigits};
+ghost use Rattle.writing.specs.Put.{putAt, pastAt};
+ghost use Rattle.writing.specs.Decimal.{mostDigits};
 ghost use Rattle.lex.specs.Steps.{entry};
 ghost use Rattle.lex.specs.Lex.{lexed};
-ghost use Rattle.listing.specs.Listing.{mostLexemes, mostText, longestLine, mostNumbers, numbered, numbers, refusal, lexemeText, lexemesText, zipped, printedBy, printed};
+ghost use Rattle.listing.specs.Listing.{mostLexemes, mostText, mostNumbers, numbered, numbers, refusal, lexemeText, lexemesText, zipped, printedBy, printed};
 ghost use Rattle.listing.specs.Puts.{Puts};
 
 // A longer input is refused.
@@ -27,41 +27,27 @@ pub const MOST_TEXT: usize = MOST_LEXEMES * LONGEST_LEXEME;
 // No line is longer: `refused `, three numbers of 64 bits, and a sign behind each.
 const LONGEST_LINE: usize = 71;
 
-// How a lexeme is written: as a line `KIND START LENGTH`, or as a space and `KIND,START,LENGTH`.
-pub enum Layout {
-    Line,
-    Field,
-}
-
 // Writes a number and what follows it.
 fn put_number(out: &mut [u8], at: usize, n: usize, after: &[u8]) -> usize
     requires { ⌜ at + mostDigits + length (now after) ≤ length (now out) ⌝ }
     ensures { λ r. ⌜ Puts (numbered n (now (after .entry))) (now (out .entry)) at r (now (out .exit)) ⌝ }
 {
-    let next = record::put_decimal(out, at, n as u64);
-    record::put_text(out, next, after)
+    let next = writing::put_decimal(out, at, n as u64);
+    writing::put_text(out, next, after)
 }
 
-// Writes three numbers, the first two with one sign behind them, the last with another.
-fn put_numbers(
-    out: &mut [u8],
-    at: usize,
-    first: usize,
-    second: usize,
-    third: usize,
-    between: &[u8],
-    after: &[u8],
-) -> usize
-    requires { ⌜ (length (now between) ≤ 1) × (length (now after) ≤ 1) × (at + mostNumbers ≤ length (now out)) ⌝ }
-    ensures { λ r. ⌜ Puts (numbers first second third (now (between .entry)) (now (after .entry))) (now (out .entry)) at r (now (out .exit)) ⌝ }
+// Writes a line's end: three numbers, with a space between them and LF behind.
+fn put_numbers(out: &mut [u8], at: usize, first: usize, second: usize, third: usize) -> usize
+    requires { ⌜ at + mostNumbers ≤ length (now out) ⌝ }
+    ensures { λ r. ⌜ Puts (numbers first second third) (now (out .entry)) at r (now (out .exit)) ⌝ }
 {
-    let one = put_number(out, at, first, between);
-    let two = put_number(out, one, second, between);
-    put_number(out, two, third, after)
+    let one = put_number(out, at, first, b" ");
+    let two = put_number(out, one, second, b" ");
+    put_number(out, two, third, b"\n")
 }
 
 // Writes `refused NUMBER BYTE CHARACTER` and LF at `at` where it fits, and answers the offset past it, else `at`.
-pub fn put_refusal(out: &mut [u8], at: usize, r: Refusal) -> usize
+fn put_refusal(out: &mut [u8], at: usize, r: Refusal) -> usize
     ensures { λ n. ⌜ n ≡ pastAt (now (out .entry)) at (refusal r) ⌝ }
     ensures { λ n. ⌜ now (out .exit) ≡ putAt (now (out .entry)) at (refusal r) ⌝ }
 {
@@ -69,58 +55,31 @@ pub fn put_refusal(out: &mut [u8], at: usize, r: Refusal) -> usize
     let byte = place.byte;
     let character = place.character;
     let mut line = [0u8; LONGEST_LINE];
-    let from = record::put_text(&mut line, 0, b"refused ");
-    let end = put_numbers(&mut line, from, r.number, byte.0, character.0, b" ", b"\n");
-    record::put_text(out, at, &line[..end])
+    let from = writing::put_text(&mut line, 0, b"refused ");
+    let end = put_numbers(&mut line, from, r.number, byte.0, character.0);
+    writing::put_text(out, at, &line[..end])
 }
 
-// Writes a lexeme at the front of a list that has room for it.
-fn spell_lexeme(line: &mut [u8], layout: Layout, kind: usize, start: usize, size: usize) -> usize
-    requires { ⌜ longestLine ≤ length (now line) ⌝ }
-    ensures { λ r. ⌜ Puts (lexemeText layout (entry kind start size)) (now (line .entry)) 0 r (now (line .exit)) ⌝ }
-{
-    match layout {
-        Layout::Line => put_numbers(line, 0, kind, start, size, b" ", b"\n"),
-        Layout::Field => {
-            let from = record::put_text(line, 0, b" ");
-            put_numbers(line, from, kind, start, size, b",", b"")
-        }
-    }
-}
-
-// Writes a lexeme in a layout at `at` where it fits, and answers the offset past it, else `at`.
-pub fn put_lexeme(
-    out: &mut [u8],
-    at: usize,
-    layout: Layout,
-    kind: u16,
-    start: u32,
-    size: u32,
-) -> usize
-    ensures { λ r. ⌜ r ≡ pastAt (now (out .entry)) at (lexemeText layout (entry kind start size)) ⌝ }
-    ensures { λ r. ⌜ now (out .exit) ≡ putAt (now (out .entry)) at (lexemeText layout (entry kind start size)) ⌝ }
+// Writes `KIND START LENGTH` and LF at `at` where it fits, and answers the offset past it, else `at`.
+fn put_lexeme(out: &mut [u8], at: usize, kind: u16, start: u32, size: u32) -> usize
+    ensures { λ r. ⌜ r ≡ pastAt (now (out .entry)) at (lexemeText (entry kind start size)) ⌝ }
+    ensures { λ r. ⌜ now (out .exit) ≡ putAt (now (out .entry)) at (lexemeText (entry kind start size)) ⌝ }
 {
     let mut line = [0u8; LONGEST_LINE];
-    let end = spell_lexeme(
-        &mut line,
-        layout,
-        kind as usize,
-        start as usize,
-        size as usize,
-    );
-    record::put_text(out, at, &line[..end])
+    let end = put_numbers(&mut line, 0, kind as usize, start as usize, size as usize);
+    writing::put_text(out, at, &line[..end])
 }
 
 // Writes a line for each of the lexemes that three lists of one length hold.
 fn put_lexemes(kinds: &[u16], starts: &[u32], lengths: &[u32], text: &mut [u8]) -> usize
     requires { ⌜ (length (now kinds) ≤ mostLexemes) × (mostText ≤ length (now text)) ⌝ }
     requires { ⌜ (length (now starts) ≡ length (now kinds)) × (length (now lengths) ≡ length (now kinds)) ⌝ }
-    ensures { λ r. ⌜ Puts (lexemesText Layout.Line (zipped (now (kinds .entry)) (now (starts .entry)) (now (lengths .entry)))) (now (text .entry)) 0 r (now (text .exit)) ⌝ }
+    ensures { λ r. ⌜ Puts (lexemesText (zipped (now (kinds .entry)) (now (starts .entry)) (now (lengths .entry)))) (now (text .entry)) 0 r (now (text .exit)) ⌝ }
 {
     let mut at = 0;
     let mut i = 0;
     while i < kinds.len() {
-        at = put_lexeme(text, at, Layout::Line, kinds[i], starts[i], lengths[i]);
+        at = put_lexeme(text, at, kinds[i], starts[i], lengths[i]);
         i += 1;
     }
     at
@@ -166,5 +125,5 @@ pub fn list_lexemes(query: &[u8], out: &mut [u8]) -> usize
 {
     let mut text = [0u8; MOST_TEXT];
     let end = list_to(query, &mut text);
-    record::put_text(out, 0, &text[..end])
+    writing::put_text(out, 0, &text[..end])
 }

@@ -3,8 +3,8 @@ use Prim.Native.Nat.{_+_}
 use mathlib.Core.Path.{_≡_, ap}
 use native.Mathlib.Omega.{arith}
 use lib.ListN.{length, length-append}
-use Rattle.record.specs.Decimal.{decimalText}
-use Rattle.record.proofs.Decimals.{digits-one, digits-more, digits-few}
+use Rattle.writing.specs.Decimal.{decimalText}
+use Rattle.writing.proofs.Decimals.{digits-one, digits-more, digits-few}
 use Rattle.display.proofs.digits.Statement.{statement}
 use Rattle.display.proofs.digits.Tie as tie
 

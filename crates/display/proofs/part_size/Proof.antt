@@ -2,8 +2,8 @@
 use native.Mathlib.Omega.{arith}
 use lib.ListN.{length-append}
 use denote.Ref.{now}
-use Rattle.record.specs.Decimal.{decimalText}
-use Rattle.record.proofs.Decimals.{digits-few}
+use Rattle.writing.specs.Decimal.{decimalText}
+use Rattle.writing.proofs.Decimals.{digits-few}
 use Rattle.display.proofs.Steps.{counted-none, counted-some}
 use borrow.Author.Needs.{needs}
 use Rattle.display.proofs.part_size.Statement.{statement}

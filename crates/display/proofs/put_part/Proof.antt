@@ -3,7 +3,7 @@ use mathlib.Core.Path.{ap}
 use native.Mathlib.Omega.{arith}
 use lib.ListN.{length, length-append}
 use denote.Ref.{now}
-use Rattle.record.specs.Decimal.{decimalText}
+use Rattle.writing.specs.Decimal.{decimalText}
 use Rattle.display.proofs.Steps.{stored-none, stored-put, stored-on, counted-none, counted-some}
 use borrow.Author.Needs.{needs}
 use Rattle.display.proofs.put_part.Statement.{statement}

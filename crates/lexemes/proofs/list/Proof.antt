@@ -1,6 +1,6 @@
--- The offset past what was put lies within the list, as record's writers have it (`past-inside`).
+-- The offset past what was put lies within the list, as the writers have it (`past-inside`).
 use Rattle.io.proofs.Counting.{counts}
-use Rattle.record.proofs.Bounds.{past-inside}
+use Rattle.writing.proofs.Writes.{past-inside}
 use Rattle.listing.specs.Listing.{printed}
 use denote.Ref.{now}
 use native.Mathlib.Omega.{arith}

@@ -2,7 +2,6 @@
 use Rattle.listing.proofs.Puts.{puts, puts-none, puts-on}
 use Rattle.listing.proofs.Few.{lexeme-few}
 use Rattle.listing.proofs.Lexemes.{text-more, text-all}
-use Rattle.listing.specs.declared.Layout.the-variants.{Line}
 use Rattle.listing.specs.Puts.{Puts}
 use Rattle.listing.specs.Listing.{longestLexeme, lexemeText, lexemesText, zipped}
 use Rattle.lex.specs.Steps.{entry}
@@ -19,7 +18,7 @@ Inv-loop kinds starts lengths text₀ at₀ i₀ text at i =
     (i ≤ length kinds)
     × (length text ≡ length text₀)
     × (at ≤ i * longestLexeme)
-    × Puts (lexemesText Line (take i (zipped kinds starts lengths))) text₀ 0 at text
+    × Puts (lexemesText (take i (zipped kinds starts lengths))) text₀ 0 at text
 
 abbrev μ-loop : tie.MeasureT-loop
 μ-loop kinds starts lengths text₀ at₀ i₀ text at i = length kinds - i
@@ -64,9 +63,9 @@ loop-again c =
     let kind = getD (now (a .kinds)) (w .i) 0 in
     let start = getD (now (a .starts)) (w .i) 0 in
     let size = getD (now (a .lengths)) (w .i) 0 in
-    let few = lexeme-few Line kind start size (omega (arith, c .before .before .before .before .before .before .before .before .before .before .before .before .shared-slice-known .given (w .i))) (omega (arith, c .before .before .before .before .before .before .before .before .before .before .before .shared-slice-known2 .given (w .i))) (omega (arith, c .before .before .before .before .before .before .before .before .before .before .shared-slice-known3 .given (w .i))) in
-    let one = puts _ (w .at) (lexemeText Line (entry kind start size)) (l .ensures) (omega arith) in
-    (omega arith, omega (arith, l .kept .0), omega (arith, one .past), rw (text-more (now (a .kinds)) (now (a .starts)) (now (a .lengths)) (p .0) (p .1) Line (w .i) (omega arith)) (puts-on (w .inv .3) one (w .inv .1)))
+    let few = lexeme-few kind start size (omega (arith, c .before .before .before .before .before .before .before .before .before .before .before .before .shared-slice-known .given (w .i))) (omega (arith, c .before .before .before .before .before .before .before .before .before .before .before .shared-slice-known2 .given (w .i))) (omega (arith, c .before .before .before .before .before .before .before .before .before .before .shared-slice-known3 .given (w .i))) in
+    let one = puts _ (w .at) (lexemeText (entry kind start size)) (l .ensures) (omega arith) in
+    (omega arith, omega (arith, l .kept .0), omega (arith, one .past), rw (text-more (now (a .kinds)) (now (a .starts)) (now (a .lengths)) (p .0) (p .1) (w .i) (omega arith)) (puts-on (w .inv .3) one (w .inv .1)))
 
 same-length : tie.Need-same-length Inv-loop μ-loop
 same-length c = omega arith
@@ -75,7 +74,7 @@ returns : tie.Need-returns Inv-loop μ-loop
 returns c =
     let a = c .before .before .before .before .before .before .args in
     let p = c .before .before .before .before .before .before .pre .1 in
-    rw (text-all (now (a .kinds)) (now (a .starts)) (now (a .lengths)) (p .0) (p .1) Line (c .before .loop .i) (omega arith)) at (c .before .loop .inv .3)
+    rw (text-all (now (a .kinds)) (now (a .starts)) (now (a .lengths)) (p .0) (p .1) (c .before .loop .i) (omega arith)) at (c .before .loop .inv .3)
 
 pub put-lexemes-spec : {M : Type 1} → statement M
 put-lexemes-spec =

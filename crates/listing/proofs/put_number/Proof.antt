@@ -1,7 +1,7 @@
 -- The number's digits are few, and what follows them stands behind them.
 use Rattle.listing.proofs.Puts.{puts, puts-on}
-use Rattle.record.proofs.Decimals.{digits-few}
-use Rattle.record.specs.Decimal.{mostDigits, decimalText}
+use Rattle.writing.proofs.Decimals.{digits-few}
+use Rattle.writing.specs.Decimal.{mostDigits, decimalText}
 use lib.ListN.{length}
 use denote.Ref.{now}
 use Prim.Native.Nat.{_≤_}

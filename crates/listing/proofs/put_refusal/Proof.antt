@@ -23,20 +23,14 @@ put-text-requires c κs = search needs
 slice-aggregate-put-numbers : tie.Need-slice-aggregate-put-numbers
 slice-aggregate-put-numbers c = search needs
 
-slice-aggregate-put-numbers-2 : tie.Need-slice-aggregate-put-numbers-2
-slice-aggregate-put-numbers-2 c = search needs
-
-slice-aggregate-put-numbers-3 : tie.Need-slice-aggregate-put-numbers-3
-slice-aggregate-put-numbers-3 c = search needs
-
 put-numbers-requires : tie.Need-put-numbers-requires
-put-numbers-requires c κs = let t = c .before .before .before .before .put-text in omega (arith, puts _ 0 (ascii "refused ") (t .ensures) (omega arith) .past, t .kept .0)
+put-numbers-requires c κs = let t = c .before .before .put-text in omega (arith, puts _ 0 (ascii "refused ") (t .ensures) (omega arith) .past, t .kept .0)
 
 -- the line stands at the front
-front : (c : tie.After-put-numbers) → let t = c .put-numbers in let a = c .before .before .before .before .before .before .before .before .before .before .before .before .args in (t .result ≤ length (t .last .0)) × (take (t .result) (t .last .0) ≡ refusal (a .r))
+front : (c : tie.After-put-numbers) → let t = c .put-numbers in let a = c .before .before .before .before .before .before .before .before .before .before .args in (t .result ≤ length (t .last .0)) × (take (t .result) (t .last .0) ≡ refusal (a .r))
 unfolding refusal
 front c =
-    let f = c .before .before .before .before .before .put-text in
+    let f = c .before .before .before .put-text in
     puts-front (puts-on (puts _ 0 (ascii "refused ") (f .ensures) (omega arith)) (c .put-numbers .ensures) (f .kept .0)) (c .put-numbers .kept .0 ∙ f .kept .0)
 
 array-share-prefix-line : tie.Need-array-share-prefix-line
@@ -62,8 +56,6 @@ put-refusal-spec =
     slice-aggregate-put-text-2
     put-text-requires
     slice-aggregate-put-numbers
-    slice-aggregate-put-numbers-2
-    slice-aggregate-put-numbers-3
     put-numbers-requires
     array-share-prefix-line
     slice-aggregate-put-text-3

@@ -1,0 +1,162 @@
+//! The lexemes of a query: as a vector, or in lists that are lent.
+
+use crate::error::{result, Error};
+use crate::ffi;
+use crate::token::TokenId;
+use core::iter::{FusedIterator, Zip};
+use core::ops::Range;
+use core::slice::Iter;
+
+/// A lexeme: its kind, the byte of the query that it starts at, and how many bytes it has.
+#[derive(Clone, Copy, Debug, PartialEq, Eq, Hash)]
+pub struct Lexeme {
+    /// Its kind: one of [`token`](crate::token).
+    pub kind: TokenId,
+    /// The byte that it starts at.
+    pub start: usize,
+    /// How many bytes it has.
+    pub length: usize,
+}
+
+impl Lexeme {
+    /// The bytes of the query that the lexeme is.
+    ///
+    /// ```
+    /// let lexemes = simmerpath::lexer("a + b")?;
+    /// assert_eq!(lexemes[2].range(), 4..5);
+    /// # Ok::<(), simmerpath::Error>(())
+    /// ```
+    pub fn range(&self) -> Range<usize> {
+        self.start..self.start.saturating_add(self.length)
+    }
+
+    /// The text of the lexeme, given the query; empty where it is not one of this query.
+    ///
+    /// ```
+    /// let query = r#"{job="é"}"#;
+    /// let lexemes = simmerpath::lexer(query)?;
+    /// assert_eq!(lexemes[3].text(query), r#""é""#);
+    /// # Ok::<(), simmerpath::Error>(())
+    /// ```
+    pub fn text<'q>(&self, query: &'q str) -> &'q str {
+        query.get(self.range()).unwrap_or_default()
+    }
+
+    /// The same of a query that is given as bytes.
+    ///
+    /// ```
+    /// let query = b"a + b";
+    /// let lexemes = simmerpath::lexer(query)?;
+    /// assert_eq!(lexemes[1].bytes(query), b"+");
+    /// # Ok::<(), simmerpath::Error>(())
+    /// ```
+    pub fn bytes<'q>(&self, query: &'q [u8]) -> &'q [u8] {
+        query.get(self.range()).unwrap_or_default()
+    }
+}
+
+/// The lexemes of a query, its end included.
+///
+/// # Errors
+///
+/// Refusals 1, 2 and 10 to 32 ([`refusal`](crate::refusal)); the first that the query gives from left to right.
+///
+/// ```
+/// use simmerpath::token::{T_EOF, T_NUMBER, T_SUB};
+/// use simmerpath::Lexeme;
+///
+/// let lexemes = simmerpath::lexer("-0x1F")?;
+/// assert_eq!(lexemes[0], Lexeme { kind: T_SUB, start: 0, length: 1 });
+/// assert_eq!(lexemes[1], Lexeme { kind: T_NUMBER, start: 1, length: 4 });
+/// assert_eq!(lexemes[2], Lexeme { kind: T_EOF, start: 5, length: 0 });
+///
+/// let refused = simmerpath::lexer("(up").unwrap_err();
+/// assert_eq!(refused.to_string(), "unclosed left parenthesis, at byte 3");
+/// # Ok::<(), simmerpath::Error>(())
+/// ```
+#[cfg(feature = "alloc")]
+pub fn lexer<Q>(query: &Q) -> Result<alloc::vec::Vec<Lexeme>, Error>
+where
+    Q: AsRef<[u8]> + ?Sized,
+{
+    let query = query.as_ref();
+    let room = query.len().min(crate::TEXT_LIMIT) + 1;
+    let mut kinds = alloc::vec![0; room];
+    let mut starts = alloc::vec![0; room];
+    let mut lengths = alloc::vec![0; room];
+    lex_into(query, &mut kinds, &mut starts, &mut lengths).map(Iterator::collect)
+}
+
+/// Writes the lexemes of a query, its end included, to the fronts of three lists. What stands behind them stays, and where the
+/// query is refused all of it. A query has at most one lexeme more than bytes.
+///
+/// # Errors
+///
+/// Those of [`lexer`], and [`NO_ROOM`](crate::refusal::NO_ROOM) where the shortest list is too short.
+///
+/// ```
+/// let query = "a or b";
+/// let (mut kinds, mut starts, mut lengths) = ([9; 5], [9; 5], [9; 5]);
+/// let lexemes = simmerpath::lex_into(query, &mut kinds, &mut starts, &mut lengths)?;
+/// assert_eq!(lexemes.len(), 4);
+/// assert!(lexemes.map(|lexeme| lexeme.text(query)).eq(["a", "or", "b", ""]));
+/// assert_eq!((kinds, starts, lengths), ([1, 36, 1, 0, 9], [0, 2, 5, 6, 9], [1, 2, 1, 0, 9]));
+/// # Ok::<(), simmerpath::Error>(())
+/// ```
+pub fn lex_into<'l, Q>(
+    query: &Q,
+    kinds: &'l mut [TokenId],
+    starts: &'l mut [u32],
+    lengths: &'l mut [u32],
+) -> Result<Lexemes<'l>, Error>
+where
+    Q: AsRef<[u8]> + ?Sized,
+{
+    let query = query.as_ref();
+    let answer = ffi::lexer(query, kinds, starts, lengths);
+    let count = result(answer, query)? as usize;
+    let spans = starts[..count].iter().zip(&lengths[..count]);
+    Ok(Lexemes {
+        lists: kinds[..count].iter().zip(spans),
+    })
+}
+
+/// The starts of lexemes, and their lengths.
+type Spans<'l> = Zip<Iter<'l, u32>, Iter<'l, u32>>;
+
+/// An iterator over the lexemes in three lists: what [`lex_into`] gives.
+#[derive(Clone, Debug)]
+pub struct Lexemes<'l> {
+    lists: Zip<Iter<'l, TokenId>, Spans<'l>>,
+}
+
+/// The lexeme of an entry of each list.
+fn lexeme((&kind, (&start, &length)): (&TokenId, (&u32, &u32))) -> Lexeme {
+    Lexeme {
+        kind,
+        start: start as usize,
+        length: length as usize,
+    }
+}
+
+impl Iterator for Lexemes<'_> {
+    type Item = Lexeme;
+
+    fn next(&mut self) -> Option<Lexeme> {
+        self.lists.next().map(lexeme)
+    }
+
+    fn size_hint(&self) -> (usize, Option<usize>) {
+        self.lists.size_hint()
+    }
+}
+
+impl DoubleEndedIterator for Lexemes<'_> {
+    fn next_back(&mut self) -> Option<Lexeme> {
+        self.lists.next_back().map(lexeme)
+    }
+}
+
+impl ExactSizeIterator for Lexemes<'_> {}
+
+impl FusedIterator for Lexemes<'_> {}

@@ -1,0 +1,55 @@
+//! What is there without allocation: all but the functions that answer with a vector, a string or a `Cow`.
+
+use simmerpath::token::{T_DURATION, T_EOF, T_IDENTIFIER};
+use simmerpath::{display_duration, escape_string_into, get_keyword_token, is_label, lex_into};
+use simmerpath::{parse_duration, parse_str_radix, token_display, unquote_string_into, utf8};
+use simmerpath::{Lexeme, Reading};
+use std::time::Duration;
+
+#[test]
+fn lexemes_in_lent_lists() {
+    let (mut kinds, mut starts, mut lengths) = ([0; 5], [0; 5], [0; 5]);
+    let lexemes = lex_into("a[5m]", &mut kinds, &mut starts, &mut lengths).unwrap();
+    assert_eq!(lexemes.len(), 5);
+    let last = lexemes.clone().next_back();
+    let end = Lexeme {
+        kind: T_EOF,
+        start: 5,
+        length: 0,
+    };
+    assert_eq!(last, Some(end));
+    assert!(lexemes
+        .map(|lexeme| lexeme.kind)
+        .eq([T_IDENTIFIER, 10, T_DURATION, 11, T_EOF]));
+}
+
+#[test]
+fn an_empty_list_is_too_short() {
+    let error = lex_into("", &mut [], &mut [], &mut []).unwrap_err();
+    assert_eq!((error.number(), error.byte(), error.character()), (3, 0, 0));
+}
+
+#[test]
+fn texts_in_lent_buffers() {
+    let mut text = [b'.'; 5];
+    let escaped = escape_string_into("\"é", &mut text).unwrap();
+    assert_eq!(escaped, "\\\"é");
+    let read = unquote_string_into(r"'\xff'", Reading::Documented, &mut text).unwrap();
+    assert_eq!(read, [0xff]);
+    let empty = unquote_string_into("''", Reading::default(), &mut []).unwrap();
+    assert_eq!(empty, b"");
+}
+
+#[test]
+fn what_needs_no_room() {
+    assert_eq!(parse_duration("1m").unwrap(), Duration::from_secs(60));
+    assert_eq!(display_duration(&Duration::from_secs(60)).as_str(), "1m");
+    assert_eq!(parse_str_radix("0x10").unwrap().value, 16.0);
+    assert_eq!(token_display(T_EOF).as_str(), "<eof>");
+    assert_eq!(get_keyword_token(""), None);
+    assert!(!is_label(""));
+    assert_eq!(utf8::validate(""), Ok(0));
+    assert_eq!(utf8::char_at("", 0), Ok(None));
+    assert_eq!(utf8::char_number("", 1), 0);
+    assert_eq!(utf8::encode(0x20, &mut [], 0).unwrap_err().number(), 3);
+}

@@ -1,0 +1,158 @@
+//! What is said of each refusal: by promql-parser, and by the error itself, which adds the place.
+#![cfg(feature = "alloc")]
+
+use simmerpath::{lexer, parse_duration, parse_str_radix, unquote_str, Error};
+
+/// A query, the number and byte of its refusal, and what promql-parser says of it.
+const QUERIES: [(&str, u16, usize, &str); 30] = [
+    ("(a", 10, 2, "unclosed left parenthesis"),
+    ("a=~", 11, 2, "unexpected character after '=': '~'"),
+    ("a !é", 12, 3, "unexpected character after '!': 'é'"),
+    ("a !", 13, 3, "'!' can not be at the end"),
+    ("1 .a", 14, 3, "unexpected character after '.': 'a'"),
+    ("1 .", 15, 2, "unexpected character: '.'"),
+    ("a)", 16, 1, "unexpected right parenthesis ')'"),
+    ("a}", 17, 1, "unexpected right brace '}'"),
+    ("a]", 18, 1, "unexpected right bracket ']'"),
+    ("é1", 19, 0, "unexpected character: 'é'"),
+    ("\u{b}", 19, 0, "unexpected character: '\\u{b}'"),
+    ("1 + 5m3", 20, 7, "bad number or duration syntax: 5m3"),
+    ("'\\é'", 21, 2, "unknown escape sequence 'é'"),
+    ("'\\", 22, 2, "escape sequence not terminated"),
+    ("'it' \"é'", 23, 9, "unterminated quoted string \""),
+    (
+        "{!a",
+        24,
+        2,
+        "unexpected character after '!' inside braces: 'a'",
+    ),
+    ("{{", 25, 1, "unexpected left brace '{' inside braces"),
+    ("{+", 26, 1, "unexpected character inside braces: '+'"),
+    ("{", 27, 1, "unexpected end of input inside braces"),
+    ("[1::", 28, 3, "unexpected second colon(:) in brackets"),
+    (
+        "[:",
+        29,
+        1,
+        "expect duration before first colon(:) in brackets",
+    ),
+    ("[[", 30, 1, "unexpected left brace '[' inside brackets"),
+    ("[é", 31, 1, "unexpected character inside brackets: 'é'"),
+    ("[", 32, 1, "unexpected end of input inside brackets"),
+    ("a[5m:1.2.3]", 20, 8, "bad number or duration syntax: 1.2."),
+    ("0xas.5x", 20, 6, "bad number or duration syntax: .5x"),
+    ("5m.5x", 20, 4, "bad number or duration syntax: .5x"),
+    ("0x1e+5x", 20, 6, "bad number or duration syntax: 5x"),
+    (
+        "a:1 #'\n1e+5x",
+        20,
+        11,
+        "bad number or duration syntax: 1e+5x",
+    ),
+    ("`\\`1` '1y2y", 23, 11, "unterminated quoted string '"),
+];
+
+/// What promql-parser says of a text that is refused so, and what the error itself says.
+fn said(text: &str, error: Error) -> (String, String) {
+    (error.message(text).to_string(), error.to_string())
+}
+
+#[test]
+fn of_queries() {
+    for (query, number, byte, message) in QUERIES {
+        let error = lexer(query).unwrap_err();
+        assert_eq!((error.number(), error.byte()), (number, byte), "{query}");
+        assert_eq!(said(query, error).0, message, "{query}");
+    }
+}
+
+#[test]
+fn with_the_place() {
+    let sentence = |query| said(query, lexer(query).unwrap_err()).1;
+    assert_eq!(
+        sentence("a !é"),
+        "unexpected character after '!': 'é', at byte 3"
+    );
+    assert_eq!(
+        sentence("5m3"),
+        "bad number or duration syntax, found the end, at byte 3"
+    );
+    assert_eq!(
+        sentence("5x"),
+        "bad number or duration syntax, found 'x', at byte 1"
+    );
+    assert_eq!(sentence("'é"), "unterminated quoted string, at byte 3");
+}
+
+#[test]
+fn of_literals() {
+    let invalid = ("invalid syntax".into(), "invalid syntax".into());
+    for literal in ["", "'", "a", "'a\"", "`a`b`", r"'\q'", r"'\é'"] {
+        let error = unquote_str(literal).unwrap_err();
+        assert_eq!(said(literal, error), invalid, "{literal}");
+    }
+}
+
+#[test]
+fn of_durations() {
+    let both = |text| said(text, parse_duration(text).unwrap_err());
+    assert_eq!(both("").0, "empty duration string");
+    assert_eq!(both("0").0, "duration must be greater than 0");
+    assert_eq!(both("0h0m").0, "duration must be greater than 0");
+    assert_eq!(both("1.5h").0, "not a valid duration string: 1.5h");
+    assert_eq!(both("1.5h").1, "not a valid duration string");
+    assert_eq!(
+        both("-1").0,
+        "the seconds are negative, not finite, or too many"
+    );
+}
+
+#[test]
+fn of_numbers() {
+    let both = |text| said(text, parse_str_radix(text).unwrap_err());
+    for text in ["", "abc", "1.2.3", "09a", "+-07", "1e"] {
+        assert_eq!(
+            both(text).0,
+            format!("ParseFloatError. {text} can't be parsed into f64")
+        );
+    }
+    for text in ["0e5", "0xg", "- 0b1", "0X", "0x8000000000000000", "5x"] {
+        assert_eq!(
+            both(text).0,
+            format!("ParseFloatError. {text} can't be parsed into i64")
+        );
+    }
+    assert_eq!(both("0e5").1, "not the text of a number");
+    assert_eq!(
+        both("0x8000000000000000").1,
+        "outside a signed 64-bit integer"
+    );
+}
+
+#[test]
+fn a_message_shows_nothing_that_another_text_has_not() {
+    let error = lexer("1 + 5m3").unwrap_err();
+    assert_eq!(
+        error.message("").to_string(),
+        "bad number or duration syntax: "
+    );
+    let error = lexer("'é").unwrap_err();
+    assert_eq!(
+        error.message("ab").to_string(),
+        "unterminated quoted string "
+    );
+}
+
+#[cfg(any(core_error, feature = "std"))]
+#[test]
+fn an_error_is_one_of_rust() {
+    fn read(query: &str) -> Result<usize, Box<dyn std::error::Error>> {
+        Ok(lexer(query)?.len())
+    }
+    assert_eq!(read("1").unwrap(), 2);
+    let error = read("{").unwrap_err();
+    assert_eq!(
+        error.to_string(),
+        "unexpected end of input inside braces, at byte 1"
+    );
+}

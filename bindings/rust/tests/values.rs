@@ -1,0 +1,143 @@
+//! The values that document 01 gives, its misreadings to catch, and the worked examples of promql-parser.
+#![cfg(feature = "alloc")]
+
+use simmerpath::token::*;
+use simmerpath::{display_duration, lexer, parse_duration, parse_str_radix, unquote_string};
+use simmerpath::{Lexeme, Notation, Reading};
+use std::time::Duration;
+
+/// The kinds of the lexemes of a query.
+fn kinds(query: &str) -> Vec<TokenId> {
+    let lexemes = lexer(query).unwrap();
+    lexemes.iter().map(|lexeme| lexeme.kind).collect()
+}
+
+/// The number of a query's refusal, and its byte and character.
+fn refused(query: &str) -> (u16, usize, usize) {
+    let error = lexer(query).unwrap_err();
+    (error.number(), error.byte(), error.character())
+}
+
+#[test]
+fn queries_that_are_accepted() {
+    let end = Lexeme {
+        kind: T_EOF,
+        start: 0,
+        length: 0,
+    };
+    assert_eq!(lexer("").unwrap(), [end]);
+    assert_eq!(kinds("{or }"), [8, 36, 9, 0]);
+    assert_eq!(kinds("{order}"), [8, 1, 9, 0]);
+    assert_eq!(kinds("[ :5m]"), [10, 13, 5, 11, 0]);
+    assert_eq!(kinds("fill ()"), [70, 6, 7, 0]);
+    assert_eq!(kinds("fill #"), [1, 0]);
+    assert_eq!(kinds("0x"), [T_NUMBER, T_EOF]);
+    assert_eq!(kinds("1.5h"), [T_DURATION, T_EOF]);
+    assert_eq!(kinds("a[5m]"), [1, 10, 5, 11, 0]);
+}
+
+#[test]
+fn queries_that_are_refused() {
+    assert_eq!(refused("[:5m]"), (29, 1, 1));
+    assert_eq!(refused("5m3"), (20, 3, 3));
+    assert_eq!(refused("\"é"), (23, 3, 2));
+}
+
+#[test]
+fn literals_in_both_readings() {
+    let literal = r#""\303\251""#;
+    let read = |reading| unquote_string(literal, reading).unwrap();
+    assert_eq!(*read(Reading::Crate), [0xc3, 0x83, 0xc2, 0xa9]);
+    assert_eq!(*read(Reading::Documented), [0xc3, 0xa9]);
+}
+
+#[test]
+fn durations_that_are_read() {
+    let read = |text| parse_duration(text).unwrap();
+    assert_eq!(read("00"), Duration::ZERO);
+    assert_eq!(read("0.0009765625"), Duration::from_nanos(976_562));
+    assert_eq!(read("0.0029296875"), Duration::from_nanos(2_929_688));
+    assert_eq!(read("0.9999999999"), Duration::from_secs(1));
+    assert_eq!(read("1d5000000000ms"), Duration::from_secs(86_400));
+    assert_eq!(read("1h"), Duration::from_secs(3_600));
+    assert_eq!(read("4d"), Duration::from_secs(3_600 * 24 * 4));
+    assert_eq!(read("4d1h"), Duration::from_secs(3_600 * 97));
+    let exact = Duration::from_secs(9_007_199_254_740_992);
+    assert_eq!(read("9007199254740992"), exact);
+}
+
+#[test]
+fn durations_that_are_refused() {
+    let number = |text| parse_duration(text).unwrap_err().number();
+    assert_eq!(number(""), 50);
+    assert_eq!(number("0"), 51);
+    assert_eq!(number("1.5h"), 52);
+    assert_eq!(number("9007199254740993"), 53);
+    assert_eq!(number("-1"), 54);
+}
+
+#[test]
+fn durations_that_are_written() {
+    let written = |days: u64| display_duration(&Duration::from_secs(86_400 * days)).to_string();
+    assert_eq!(written(0), "0s");
+    assert_eq!(written(14), "2w");
+    assert_eq!(written(90), "90d");
+    assert_eq!(&*display_duration(&Duration::from_nanos(999_999)), "");
+    let longest = display_duration(&Duration::MAX);
+    assert_eq!(&*longest, "213503982334601d7h15s999ms");
+}
+
+#[test]
+fn numbers() {
+    let read = |text| parse_str_radix(text).unwrap();
+    let bits = |text| read(text).value.to_bits();
+    assert_eq!(bits("9007199254740992"), 9_007_199_254_740_992f64.to_bits());
+    assert_eq!(bits("-0"), (-0f64).to_bits());
+    assert_eq!(bits("-00"), 0f64.to_bits());
+    assert_eq!(read("-00").notation, Notation::Octal);
+    assert_eq!(read("inf").notation, Notation::Decimal);
+    assert!(read("NaN").value.is_nan());
+    let number = |text| parse_str_radix(text).unwrap_err().number();
+    assert_eq!(number("9007199254740993"), 53);
+    assert_eq!(number("0e5"), 60);
+    assert_eq!(number("-0x8000000000000000"), 61);
+}
+
+#[test]
+fn misreadings() {
+    let query = r#""a""#;
+    assert_eq!(lexer(query).unwrap()[0].text(query), query);
+    assert_eq!(kinds("fill #\n()"), [T_IDENTIFIER, 6, 7, 0]);
+    assert_eq!(kinds("0x1e+5"), [T_NUMBER, T_ADD, T_NUMBER, T_EOF]);
+    let nanosecond = Duration::from_nanos(1);
+    assert_eq!(parse_duration("0.0000000006"), Ok(nanosecond));
+}
+
+#[test]
+fn kinds_show_the_words_that_they_are_of() {
+    for word in [
+        "and",
+        "atan2",
+        "sum",
+        "limit_ratio",
+        "offset",
+        "fill_right",
+        "end",
+    ] {
+        let kind = get_keyword_token(word).unwrap();
+        assert_eq!(token_display(kind).as_str(), word);
+        assert_eq!(get_keyword_token(&word.to_uppercase()), Some(kind));
+    }
+    assert_eq!(token_display(T_METRIC_IDENTIFIER).as_str(), "{Metric_ID}");
+    assert_eq!(get_keyword_token("limit\u{212a}"), None);
+}
+
+#[test]
+fn classes_have_as_many_kinds_as_they_should() {
+    let count = |class: fn(TokenId) -> bool| (0..=TokenId::MAX).filter(|&kind| class(kind)).count();
+    assert_eq!(count(is_operator), 19);
+    assert_eq!(count(is_comparison_operator), 6);
+    assert_eq!(count(is_set_operator), 3);
+    assert_eq!(count(is_aggregator), 14);
+    assert_eq!(count(is_aggregator_with_param), 6);
+}

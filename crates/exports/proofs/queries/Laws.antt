@@ -1,0 +1,21 @@
+-- The laws of queries in `specs/Laws`: an accepted answer is at most one more than a query's bytes, well below bit 63; a refusal's
+-- number is at most 32 and its place within the query, by the bounds of `lex`'s answers.
+use native.Mathlib.Omega.{arith}
+use mathlib.Core.Path.{_≡_, subst}
+use Rattle.lex.specs.declared.Lexing.{Lexing}
+use Rattle.lex.specs.declared.Lexing.the-variants.{Count, Refused}
+use Rattle.lex.specs.Lex.{lexed}
+use Rattle.lex.proofs.Bounds.{Bounded, lexing-bound}
+use Rattle.exports.specs.Lexer.{lexerCode}
+use Rattle.exports.specs.Laws.{looksRefused, isNotLexed, LexerTold, LexerKept}
+use Rattle.exports.proofs.packing.Laws.{small, packed-told, placed-kept}
+
+pub lexer-told : LexerTold
+lexer-told room q = go (lexed room q) (lexing-bound room q)
+  where
+    go : (x : Lexing) → Bounded x → looksRefused (lexerCode x) ≡ isNotLexed x
+    go (Count n) h = small n (omega arith)
+    go (Refused r) h = packed-told r
+
+pub lexer-kept : LexerKept
+lexer-kept room q r e = placed-kept (omega arith) (omega arith) (subst Bounded e (lexing-bound room q))

@@ -1,0 +1,107 @@
+-- `exports::queries::simmerpath_lexer` meets its contract: it is the code of what `lexer` says, and leaves in the
+-- lists what that leaves.
+use Prim.Native.Nat.{ℕ}
+use mathlib.Core.List.{List}
+use mathlib.Core.Path.{_≡_, sym, ap, _∙_}
+use denote.Ref.{now}
+use borrow.Author.Needs.{needs}
+use lib.ListN.{length}
+use Rattle.lex.specs.declared.Lexing.{Lexing}
+use Rattle.lex.specs.Steps.{Entry}
+use Rattle.lex.specs.Lex.{lexed, listed, leftBy, kindOf, startOf, lengthOf, shortest, refusedBy}
+use Rattle.exports.specs.Packed.{packedOf}
+use Rattle.exports.specs.Lexer.{lexerCode}
+use Rattle.exports.proofs.queries.simmerpath_lexer.Statement.{statement}
+use Rattle.exports.proofs.queries.simmerpath_lexer.Tie as tie
+
+lexer-requires : tie.Need-lexer-requires
+lexer-requires c κs = search needs
+
+enum-known-l : tie.Need-enum-known-l
+enum-known-l c = search needs
+
+enum-told : tie.Need-enum-told
+enum-told c = search needs
+
+refused-by-requires : tie.Need-refused-by-requires
+refused-by-requires c κs = search needs
+
+packed-requires : tie.Need-packed-requires
+packed-requires c κs = search needs
+
+module _ (c : tie.After-lexer) where
+  abbrev start : tie.Start
+  start = c .before .before .before .before .before .before .before .before
+
+  abbrev q : List ℕ
+  q = now (start .args .query)
+
+  abbrev ks : List ℕ
+  ks = now (start .args .kinds)
+
+  abbrev ss : List ℕ
+  ss = now (start .args .starts)
+
+  abbrev ls : List ℕ
+  ls = now (start .args .lengths)
+
+  abbrev room : ℕ
+  room = shortest (length ks) (length ss) (length ls)
+
+  -- what a list is left with
+  abbrev left : (Entry → ℕ) → List ℕ → List ℕ
+  left f d = leftBy (lexed room q) (listed f q d) d
+
+  left-is : (c .lexer .last .1 .0 ≡ left kindOf ks) × ((c .lexer .last .1 .1 .0 ≡ left startOf ss) × (c .lexer .last .1 .1 .1 .0 ≡ left lengthOf ls))
+  left-is = rw (c .lexer .ensures .0) at (c .lexer .ensures .1)
+
+  -- the code of the answer in whose arm we are
+  code-is : (x : Lexing) → c .lexer .result ≡ x → lexerCode x ≡ lexerCode (lexed room q)
+  code-is x t = ap lexerCode (sym t ∙ c .lexer .ensures .0)
+
+same-length : tie.Need-same-length
+same-length c = search needs
+
+same-length-2 : tie.Need-same-length-2
+same-length-2 c = search needs
+
+same-length-3 : tie.Need-same-length-3
+same-length-3 c = search needs
+
+returns : tie.Need-returns
+returns c =
+    let d = c .before .before .before .before .before .before .before .before .before .before in
+    let e = c .before .before .enum-told .given .1 in
+    (c .packed .ensures ∙ ap packedOf (c .before .refused-by .ensures ∙ ap refusedBy e) ∙ code-is d _ e, left-is d)
+
+same-length-4 : tie.Need-same-length-4
+same-length-4 c = search needs
+
+same-length-5 : tie.Need-same-length-5
+same-length-5 c = search needs
+
+same-length-6 : tie.Need-same-length-6
+same-length-6 c = search needs
+
+returns-2 : tie.Need-returns-2
+returns-2 c =
+    let d = c .before .before .before .before .before .before .before .before .before in
+    (code-is d _ (c .before .l .given .1), left-is d)
+
+pub simmerpath-lexer-spec : {M : Type 1} → statement M
+simmerpath-lexer-spec =
+    tie.close
+    (tie.spec
+    lexer-requires
+    enum-known-l
+    enum-told
+    refused-by-requires
+    packed-requires
+    same-length
+    same-length-2
+    same-length-3
+    returns
+    same-length-4
+    same-length-5
+    same-length-6
+    returns-2)

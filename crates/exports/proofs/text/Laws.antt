@@ -1,0 +1,62 @@
+-- The laws of texts in `specs/Laws`: an accepted answer is at most a text's bytes, well below bit 63, and a refusal's place lies within
+-- the text, by the bounds of the answers of `utf8` and `encode`.
+use Prim.Native.Nat.{_<_}
+use native.Mathlib.Omega.{arith}
+use mathlib.Core.Bool.{Bool, true, false, cond, _||_}
+use mathlib.Core.Path.{_≡_, refl, subst}
+use lib.Dec.{ltb}
+use lib.ListN.{length}
+use borrow.Author.Tests.{ltb-false}
+use Rattle.utf8.specs.declared.Admission.{Admission}
+use Rattle.utf8.specs.declared.Admission.the-variants.{Admitted, Refused}
+use Rattle.utf8.specs.declared.Character.{Character}
+use Rattle.utf8.specs.declared.Character.the-variants.{Scalar, Nothing, IllFormed}
+use Rattle.encode.specs.declared.Encoding.{Encoding}
+use Rattle.encode.specs.declared.Encoding.the-variants.{Written, NotScalar, NoRoom}
+use Rattle.utf8.specs.Answers.{placeAt, textLimit, tooLong, notUtf8, admitted, characterAt}
+use Rattle.encode.specs.Answers.{encodingOf}
+use Rattle.utf8.proofs.Bounds.{Bounded, admitted-bound, Within, character-within, number-bound}
+use Rattle.encode.proofs.Bounds.{AtMostFour, encoding-bound}
+use Rattle.exports.specs.Packed.{packedOf}
+use Rattle.exports.specs.Utf8.{validateCode, characterCode, charAtCode, encodeCode}
+use Rattle.exports.specs.Laws.{looksRefused, isNotAdmitted, ValidateTold, ValidateKept, isIllFormed, CharAtTold, CharAtKept, isUnwritten, EncodeTold, EncodeKept}
+use Rattle.exports.proofs.packing.Laws.{small, packed-told, placed-kept}
+
+pub validate-told : ValidateTold
+validate-told xs = go (admitted textLimit xs) (admitted-bound textLimit xs)
+  where
+    go : (a : Admission) → Bounded textLimit a → looksRefused (validateCode a) ≡ isNotAdmitted a
+    go (Admitted n) h = small (n .0) (omega arith)
+    go (Refused r) h = packed-told r
+
+pub validate-kept : ValidateKept
+validate-kept xs r e = placed-kept (omega arith) (omega arith) (subst (Bounded textLimit) e (admitted-bound textLimit xs))
+
+pub char-at-told : CharAtTold
+unfolding charAtCode
+char-at-told xs at = go (ltb textLimit (length xs)) refl (characterAt xs at) (character-within xs at)
+  where
+    go : (t : Bool) → ltb textLimit (length xs) ≡ t → (k : Character) → Within xs at k → looksRefused (cond t (packedOf tooLong) (characterCode xs at k)) ≡ t || isIllFormed k
+    go true e k h = refl
+    go false e (Scalar c n) h = small n (omega (arith, ltb-false textLimit (length xs) e))
+    go false e Nothing h = refl
+    go false e IllFormed h = packed-told (notUtf8 (placeAt xs at))
+
+pub char-at-kept : CharAtKept
+char-at-kept = (
+  omega arith,
+  λ xs at h e.
+      let inside : at < length xs = subst (Within xs at) e (character-within xs at) in
+      omega (arith, number-bound xs at),
+)
+
+pub encode-told : EncodeTold
+encode-told c room at = go (encodingOf c room at) (encoding-bound c room at)
+  where
+    go : (k : Encoding) → AtMostFour k → looksRefused (encodeCode k) ≡ isUnwritten k
+    go (Written n) h = small n (omega arith)
+    go NotScalar h = refl
+    go NoRoom h = refl
+
+pub encode-kept : EncodeKept
+encode-kept = (omega arith, omega arith)

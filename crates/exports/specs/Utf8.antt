@@ -1,0 +1,47 @@
+-- What the C functions over `utf8` and `encode` answer, and what they leave in what was lent, by cases over the answers of those.
+use Prim.Native.Nat.{ℕ}
+use mathlib.Core.Bool.{cond}
+use mathlib.Core.List.{List}
+use lib.Dec.{ltb}
+use lib.ListN.{length}
+use Rattle.utf8.specs.declared.Admission.{Admission}
+use Rattle.utf8.specs.declared.Admission.the-variants.{Admitted, Refused}
+use Rattle.utf8.specs.declared.Character.{Character}
+use Rattle.utf8.specs.declared.Character.the-variants.{Scalar, Nothing, IllFormed}
+use Rattle.encode.specs.declared.Encoding.{Encoding}
+use Rattle.encode.specs.declared.Encoding.the-variants.{Written, NotScalar, NoRoom}
+use Rattle.utf8.specs.Answers.{placeAt, textLimit, tooLong, noRoom, notUtf8, characterAt}
+use Rattle.string.specs.Literal.{badLiteral}
+use Rattle.exports.specs.Packed.{packedOf}
+
+-- the number of characters, or the refusal
+abbrev pub validateCode : Admission → ℕ
+validateCode (Admitted n) = n .0
+validateCode (Refused r) = packedOf r
+
+-- the length of the character at an offset, 0 for nothing more, or refusal 2 at the offset
+abbrev pub characterCode : List ℕ → ℕ → Character → ℕ
+characterCode xs at (Scalar c n) = n
+characterCode xs at Nothing = 0
+characterCode xs at IllFormed = packedOf (notUtf8 (placeAt xs at))
+
+-- but of a text that is too long refusal 1
+unfoldable pub charAtCode : List ℕ → ℕ → ℕ
+charAtCode xs at =
+    cond (ltb textLimit (length xs)) (packedOf tooLong) (characterCode xs at (characterAt xs at))
+
+-- the code point of a character, or what was there before
+abbrev pub codeOr : ℕ → Character → ℕ
+codeOr old (Scalar c n) = c
+codeOr old Nothing = old
+codeOr old IllFormed = old
+
+-- what `code` holds then: of a text that is too long, what it held
+unfoldable pub charAtLeft : List ℕ → ℕ → ℕ → ℕ
+charAtLeft xs at old = cond (ltb textLimit (length xs)) old (codeOr old (characterAt xs at))
+
+-- how many bytes were written, or why none were
+abbrev pub encodeCode : Encoding → ℕ
+encodeCode (Written n) = n
+encodeCode NotScalar = packedOf badLiteral
+encodeCode NoRoom = packedOf noRoom

@@ -1,0 +1,40 @@
+// The C functions over `duration` and `display`: each answers with one number, and writes what else it gives to what is lent.
+// A refusal is answered as `packing` makes it one number.
+use crate::packing;
+use display::Displaying;
+use duration::Timing;
+use span::Duration;
+ghost use mathlib.Core.Path.{_≡_};
+ghost use lib.ListN.{length};
+ghost use Rattle.duration.specs.Duration.{timingOf};
+ghost use Rattle.display.specs.Display.{textOf, displayingOf, leftBy};
+ghost use Rattle.exports.specs.Duration.{durationCode, secsLeft, nanosLeft, durationOf, displayingCode};
+
+// 0 for a duration, whose seconds and nanoseconds it writes; or refusal 1, 2 or 50 to 54.
+#[no_mangle]
+pub extern "C" fn simmerpath_parse_duration(text: &[u8], secs: &mut u64, nanos: &mut u32) -> u64
+    ensures { λ r. ⌜ r ≡ durationCode (timingOf (now (text .entry))) ⌝ }
+    ensures { λ _. ⌜ now (secs .exit) ≡ secsLeft (timingOf (now (text .entry))) (now (secs .entry)) ⌝ }
+    ensures { λ _. ⌜ now (nanos .exit) ≡ nanosLeft (timingOf (now (text .entry))) (now (nanos .entry)) ⌝ }
+{
+    let t = duration::parse_duration(text);
+    let Timing::Lasts(d) = t else {
+        return packing::packed(duration::refused_by(t));
+    };
+    *secs = d.secs;
+    *nanos = d.nanos;
+    0
+}
+
+// How many bytes of a duration's text were written at the front of a lent buffer, or refusal 54 or 3.
+#[no_mangle]
+pub extern "C" fn simmerpath_display_duration(secs: u64, nanos: u32, out: &mut [u8]) -> u64
+    ensures { λ r. ⌜ r ≡ displayingCode (displayingOf (length (now (out .entry))) (durationOf secs nanos)) ⌝ }
+    ensures { λ _. ⌜ now (out .exit) ≡ leftBy (displayingOf (length (now (out .entry))) (durationOf secs nanos)) (textOf (durationOf secs nanos)) (now (out .entry)) ⌝ }
+{
+    let d = display::display_duration(Duration { secs, nanos }, out);
+    let Displaying::Written(n) = d else {
+        return packing::packed(display::refused_by(d));
+    };
+    n as u64
+}

@@ -1,0 +1,66 @@
+// The C functions over `escape` and `string`: each answers with one number, and writes its text to the buffer that is lent.
+// A refusal is answered as `packing` makes it one number.
+use crate::packing;
+use escape::Escaping;
+use string::Unquoting;
+use utf8::Reading;
+ghost use mathlib.Core.Path.{_≡_};
+ghost use Prim.Native.Nat.{ℕ, _<_};
+ghost use lib.ListN.{length};
+ghost use Rattle.escape.specs.Escape.{escaped, escapingOf, leftBy};
+ghost use Rattle.string.specs.declared.Unquoting.the-variants.{Inner, Written};
+ghost use Rattle.string.specs.Literal.{unquoted, unquotingOf, textBy};
+ghost use Rattle.exports.specs.String.{escapeCode, readingOf, innerFrom, unquoteCode};
+
+// Bit 32: a text stands in the literal itself.
+const INNER: u64 = 0x1_0000_0000;
+
+// How many bytes of an escaped text were written at the front of a lent buffer, or refusal 1, 2 or 3.
+#[no_mangle]
+pub extern "C" fn simmerpath_escape_string(text: &[u8], out: &mut [u8]) -> u64
+    ensures { λ r. ⌜ r ≡ escapeCode (escapingOf (length (now (out .entry))) (now (text .entry))) ⌝ }
+    ensures { λ _. ⌜ now (out .exit) ≡ leftBy (escapingOf (length (now (out .entry))) (now (text .entry))) (escaped (now (text .entry))) (now (out .entry)) ⌝ }
+{
+    let e = escape::escape_string(text, out);
+    let Escaping::Written(size) = e else {
+        return packing::packed(escape::refused_by(e));
+    };
+    size as u64
+}
+
+// The reading that a number stands for: 0 is the Rust's, and any other the documented one.
+fn reading_of(documented: u32) -> Reading
+    ensures { λ r. ⌜ r ≡ readingOf documented ⌝ }
+{
+    if documented == 0 {
+        Reading::Crate
+    } else {
+        Reading::Documented
+    }
+}
+
+// What is told of a text that was not written: how many bytes of it stand in the literal itself, or its refusal.
+fn not_written(u: Unquoting) -> u64
+    requires { ⌜ ((n : ℕ) → u ≡ Written n → ⊥) ⌝ }
+    requires { ⌜ ((n : ℕ) → u ≡ Inner n → n < innerFrom) ⌝ }
+    ensures { λ r. ⌜ r ≡ unquoteCode u ⌝ }
+{
+    let Unquoting::Inner(n) = u else {
+        return packing::packed(string::refused_by(u));
+    };
+    INNER + n as u64
+}
+
+// How many bytes the text of a literal has: it was written at the front of a lent buffer, or, with bit 32, it stands behind the
+// literal's first byte. Or refusal 1, 2, 40 or 3.
+#[no_mangle]
+pub extern "C" fn simmerpath_unquote_string(literal: &[u8], documented: u32, text: &mut [u8]) -> u64
+    ensures { λ r. ⌜ r ≡ unquoteCode (unquotingOf (readingOf documented) (length (now (text .entry))) (now (literal .entry))) ⌝ }
+    ensures { λ _. ⌜ now (text .exit) ≡ textBy (unquotingOf (readingOf documented) (length (now (text .entry))) (now (literal .entry))) (unquoted (readingOf documented) (now (literal .entry))) (now (text .entry)) ⌝ }
+{
+    let u = string::unquote_string(literal, reading_of(documented), text);
+    let Unquoting::Written(n) = u else {
+        return not_written(u);
+    };
+    n as u64
+}

@@ -1,2 +1,0 @@
-pub mod Duration
-pub mod Laws

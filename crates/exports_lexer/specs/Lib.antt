@@ -1,2 +1,0 @@
-pub mod Lexer
-pub mod Laws

@@ -1,2 +1,0 @@
-pub mod String
-pub mod Laws

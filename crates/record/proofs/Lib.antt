@@ -1,9 +1,0 @@
-pub mod Digit
-pub mod Hex
-pub mod Decimals
-pub mod Writes
-pub mod Records
-pub mod ReadBack
-pub mod Bounds
-pub mod Cases
-pub mod Unique

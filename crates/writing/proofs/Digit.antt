@@ -1,0 +1,19 @@
+-- Laws of digits: the sign of a number stands for that number, and is a digit. Each holds by one test that antt computes at every number
+-- below ten.
+use Prim.Native.Nat.{ℕ, _<_}
+use mathlib.Core.Bool.{true}
+use mathlib.Core.Path.{_≡_, refl}
+use lib.Dec.{eqb}
+use borrow.Author.Tests.{eqb-true}
+use Rattle.byte.specs.declared.Class.the-variants.{Digit}
+use Rattle.byte.specs.Byte.{isWithin, isIn, digitOf}
+use Rattle.byte.proofs.Below.{below}
+use Rattle.writing.specs.Decimal.{decimalBase, signOf}
+
+pub digit-sign : (d : ℕ) → d < decimalBase → digitOf (signOf d) ≡ d
+unfolding digitOf signOf isWithin
+digit-sign d h = eqb-true (digitOf (signOf d)) d (below (λ x. eqb (digitOf (signOf x)) x) decimalBase refl d h)
+
+pub sign-digit : (d : ℕ) → d < decimalBase → isIn Digit (signOf d) ≡ true
+unfolding isIn signOf isWithin
+sign-digit d h = below (λ x. isIn Digit (signOf x)) decimalBase refl d h

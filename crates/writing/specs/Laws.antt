@@ -1,0 +1,30 @@
+-- What whoever writes may rely on: the digits of a number say the number and are few, and what is written stands where it was to go.
+use Prim.Native.Nat.{ℕ, _+_, _^_, _<_, _≤_}
+use mathlib.Core.Path.{_≡_}
+use mathlib.Core.List.{List, _++_}
+use lib.Dec.{ltb}
+use lib.ListN.{length, take}
+use Rattle.writing.specs.Decimal.{decimalBase, mostDigits, valueOf, digitsBy, decimalText}
+use Rattle.writing.specs.Put.{putAt, pastAt}
+
+-- the digits of n are one digit, or those of n / 10 and then n % 10, of every number
+abbrev pub DigitsOf : Type 0
+DigitsOf = (n : ℕ) → decimalText n ≡ digitsBy (ltb n decimalBase) decimalText n
+
+-- their value is the number
+abbrev pub DecimalValue : Type 0
+DecimalValue = (n : ℕ) → valueOf (decimalText n) ≡ n
+
+-- and they are few where it fits
+abbrev pub DigitsFew : Type 0
+DigitsFew = (n : ℕ) → n < 2 ^ 64 → length (decimalText n) ≤ mostDigits
+
+-- the offset past a text is at or past the one that it was to go to, and within the list where that was
+abbrev pub PastInside : Type 0
+PastInside = (d : List ℕ) (at : ℕ) (xs : List ℕ) → (at ≤ pastAt d at xs) × (at ≤ length d → pastAt d at xs ≤ length d)
+
+-- where a text fits, it stands behind what stood before its offset
+abbrev pub PutStands : Type 0
+PutStands =
+    (d : List ℕ) (at : ℕ) (xs : List ℕ) → at + length xs ≤ length d
+    → (pastAt d at xs ≡ at + length xs) × (take (pastAt d at xs) (putAt d at xs) ≡ take at d ++ xs)
