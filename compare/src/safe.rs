@@ -19,7 +19,8 @@ const SHARE: usize = 20;
 /// One fixed input is compared for so many that there are.
 const STEP: usize = 7;
 
-/// How often a short text is repeated to make one that is escaped in parts.
+/// A text of so many bytes is escaped many times over too, so often that the C function would not take the whole.
+const REPEATED: usize = 4;
 const MANY: usize = 30_000;
 
 /// What must be answered where a value is returned.
@@ -167,10 +168,10 @@ fn unquote_string(bytes: &[u8]) -> Option<Difference> {
     difference("the text", ours.map(|text| (&**text, is_part(text))), must)
 }
 
-/// Where a text differs when it is escaped, and many times that text, which may be longer than the C function takes.
+/// Where a text differs when it is escaped, once and many times over.
 fn escape_string(bytes: &[u8]) -> Option<Difference> {
     let text = admitted(bytes).ok()?;
-    let many = if text.len() == 4 { MANY } else { 1 };
+    let many = if text.len() == REPEATED { MANY } else { 1 };
     [1, many].into_iter().find_map(|times| {
         let ours = simmerpath::escape_string(&text.repeat(times));
         let must = string::escape(&text.repeat(times));

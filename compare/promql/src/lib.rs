@@ -100,9 +100,16 @@ pub fn number(text: &str) -> Option<Result<f64, String>> {
     quietly(|| number::parse_str_radix(text))
 }
 
-/// The duration of a text, or what is said of a bad one; none where the Rust panics.
+/// The duration of a text, or what is said of a bad one; none where the Rust panics. Minus zero seconds are zero here, as newer
+/// libraries have it: that of Rust 1.63 panics on them.
 pub fn duration(text: &str) -> Option<Result<Duration, String>> {
-    quietly(|| duration::parse_duration(text))
+    let read = quietly(|| duration::parse_duration(text));
+    let is_zero = || text.parse() == Ok(0.0);
+    let panics = || quietly(|| Duration::from_secs_f64(-0.0)).is_none();
+    if read.is_none() && is_zero() && panics() {
+        return Some(Ok(Duration::ZERO));
+    }
+    read
 }
 
 /// The text of a duration.
