@@ -14,27 +14,27 @@ use denote.Triple.Clauses.{AtExit}
 use borrow.Author.Tests.{leb-true}
 use Rattle.utf8.specs.declared.Reading.{Reading}
 use Rattle.utf8.specs.Answers.{textLimit}
-use Rattle.utf8.specs.Laws.{isAscii}
+use Rattle.utf8.specs.laws.Characters.{isAscii}
 use Rattle.utf8.proofs.Ascii.{ascii-text}
-use Rattle.string.specs.Laws.{isRead}
+use Rattle.string.specs.laws.ReadBack.{isRead}
 use Rattle.string.proofs.Calls.{Read, read-calls}
-use Rattle.span.specs.declared.Duration.{Duration}
-use Rattle.span.specs.Unit.{nanosASecond}
+use Rattle.duration.specs.declared.span.Duration.{Duration}
+use Rattle.duration.specs.Unit.{nanosASecond}
 use Rattle.duration.specs.declared.Timing.{Timing}
 use Rattle.duration.specs.Duration.{timingOf}
 use Rattle.duration.proofs.parse_duration.Kinds as parse
 use Rattle.duration.proofs.parse_duration.Reads as parse-reads
-use Rattle.display.specs.declared.Displaying.{Displaying}
-use Rattle.display.specs.declared.Displaying.the-variants.{Written}
-use Rattle.display.specs.Display.{textOf, displayingOf, leftBy}
-use Rattle.display.proofs.Answers.{fits}
-use Rattle.display.proofs.display_duration.Kinds as display
-use Rattle.display.proofs.display_duration.Reads as display-reads
+use Rattle.duration.specs.declared.display.Displaying.{Displaying}
+use Rattle.duration.specs.declared.display.Displaying.the-variants.{Written}
+use Rattle.duration.specs.Display.{textOf, displayingOf, leftBy}
+use Rattle.duration.proofs.display.Answers.{fits}
+use Rattle.duration.proofs.display.display_duration.Kinds as display
+use Rattle.duration.proofs.display.display_duration.Reads as display-reads
 use Rattle.lex.specs.declared.Lexing.the-variants as lexing
 use Rattle.lex.specs.Lex.{refusedAt, roomed, lexed, kindOf}
 use Rattle.lex.proofs.Measures.{fits as fits-room}
 use Rattle.join.proofs.Calls.{LexCall, roomIn, kinds, answered, wrote}
-use Rattle.cases.specs.Cases.{Case, lexes, refuses, literal, timed, written, queries, texts, cases, Shown, Each}
+use Rattle.cases.specs.laws.Cases.{Case, lexes, refuses, literal, timed, written, queries, texts, cases, Shown, Each}
 use Rattle.cases.proofs.Shown.{queries-shown, texts-shown, each-both}
 
 -- a call of `parse_duration` on a text, and one of `display_duration` on a duration with a buffer of so many bytes, that keep their promises

@@ -3,36 +3,36 @@ use mathlib.Core.List.{List, [], _∷_, _++_}
 use mathlib.Core.Path.{_≡_, refl}
 use lib.Count.{trailingZeros}
 use lib.Ieee.{round, size, span, climb, units as floatUnits, odd, lt, le}
-use Rattle.byte.specs.Ascii.{ascii}
+use Rattle.scan.specs.Ascii.{ascii}
 use Rattle.scan.specs.Run.{runLength}
 use Rattle.scan.specs.Text.{has, sameText}
-use Rattle.byte.specs.Byte.{isWithin, isHexDigit, digitOf, isDigitIn, lowered, isIn, isAlpha}
+use Rattle.scan.specs.Byte.{isWithin, isHexDigit, digitOf, isDigitIn, lowered, isIn, isAlpha}
 use Rattle.utf8.specs.Table.{fits, sizeIn, charLength}
 use Rattle.utf8.specs.Text.{charsPast, sizeOf}
 use Rattle.utf8.specs.Answers.{validityOf, admitted, atStart}
 use Rattle.utf8.specs.Code.{isScalar, encoded, sixBits, codeOf}
-use Rattle.tile.specs.Tile.{letterValue, numeralFrom, isAllowed, numbered, escapeOf, beginsEscape, tileOf}
+use Rattle.string.specs.Tile.{letterValue, numeralFrom, isAllowed, numbered, escapeOf, beginsEscape, tileOf}
 use Rattle.string.specs.Tiles.{tilesPast, hasBad, pieceBytes, bytesOf}
 use Rattle.string.specs.Literal.{isQuote, isEnclosed, hasNewline}
-use Rattle.sign.specs.Sign.{isSign}
+use Rattle.scan.specs.Sign.{isSign}
 use Rattle.decimal.specs.Grammar.{hasDigits, exponentHasDigits, isNumeral, isInfinite, isNan}
 use Rattle.decimal.specs.Value.{valueFrom, isZeros, trailing, isExact, nearest, scaledBy, decimalIn, decimalOf}
-use Rattle.units.specs.Units.{isPart, behind, sumBy, counted, isUnitText, unitsOf}
+use Rattle.duration.specs.Units.{isPart, behind, sumBy, counted, isUnitText, unitsOf}
 use Rattle.duration.specs.declared.Timing.the-variants.{Lasts, Refused}
 use Rattle.duration.specs.Duration.{durationRead, timingOf}
 use Rattle.writing.specs.Decimal.{signOf, digitsOf as digitsIn, decimalText}
-use Rattle.display.specs.Display.{counted as shownAs, partOf, restOf, textOf}
-use Rattle.byte.specs.Byte.{isSpace, isAlphaNumeric, isWord, isLine}
+use Rattle.duration.specs.Display.{counted as shownAs, partOf, restOf, textOf}
+use Rattle.scan.specs.Byte.{isSpace, isAlphaNumeric, isWord, isLine}
 use Rattle.utf8.specs.Text.{begunIn, charNumber}
 use Rattle.token.specs.Words.{words, kindIn, keywordOf}
 use Rattle.numeral.specs.Numeral.{isHex, fractionEnd, exponentEnd, numberEnd, isUnit, stopOf, turnOf, durationFrom, numeralOf}
 use Rattle.quoted.specs.Quoted.{commentEnd}
-use Rattle.lead.specs.Lead.{symbolOf, leadOf, braceSymbolOf, braceLeadOf, bracketSymbolOf, bracketLeadOf}
-use Rattle.word.specs.Word.{isFill, ruleBy, isOr, braceRule, kindBy}
+use Rattle.munch.specs.Lead.{symbolOf, leadOf, braceSymbolOf, braceLeadOf, bracketSymbolOf, bracketLeadOf}
+use Rattle.munch.specs.Word.{isFill, ruleBy, isOr, braceRule, kindBy}
 use Rattle.munch.specs.Munch.{deeper, numberStep, commentStep, wordStep, rightParenStep, leftBracketStep, endStep, outsideStep, braceWord, braceStep, colonStep, bracketStep, munchedBy}
 use Rattle.lex.specs.Steps.{stepsPast, readFrom}
 use Rattle.lex.specs.Lex.{tallied, measured}
-use Rattle.cases.specs.Cases.{Case, queries, texts, duration, days, Shown, Each, AllShown}
+use Rattle.cases.specs.laws.Cases.{Case, queries, texts, duration, days, Shown, Each, AllShown}
 
 pub queries-shown : Each Shown queries
 unfolding measured tallied stepsPast readFrom munchedBy outsideStep braceStep bracketStep leadOf symbolOf braceLeadOf braceSymbolOf bracketLeadOf bracketSymbolOf wordStep braceWord numberStep commentStep leftBracketStep rightParenStep endStep colonStep deeper ruleBy braceRule kindBy isFill isOr keywordOf words kindIn numeralOf numberEnd exponentEnd fractionEnd isHex isUnit durationFrom turnOf stopOf commentEnd isSign admitted validityOf charsPast sizeOf charNumber begunIn charLength sizeIn fits codeOf isWithin isIn isSpace isAlpha isAlphaNumeric isWord isLine lowered runLength sameText has

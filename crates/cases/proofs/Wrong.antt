@@ -6,12 +6,12 @@ use mathlib.Core.List.{List, [], _∷_}
 use mathlib.Core.Path.{_≡_, sym, ap, _∙_}
 use lib.ListN.{take, getD}
 use denote.Ref.{now}
-use Rattle.byte.specs.Ascii.{ascii}
+use Rattle.scan.specs.Ascii.{ascii}
 use Rattle.utf8.specs.declared.Refusal.{Refusal}
 use Rattle.lex.specs.declared.Lexing.{Lexing}
 use Rattle.lex.specs.declared.Lexing.the-variants.{Count, Refused}
 use Rattle.join.proofs.Calls.{LexCall, roomIn, kinds}
-use Rattle.cases.specs.Cases.{lexes}
+use Rattle.cases.specs.laws.Cases.{lexes}
 use Rattle.cases.proofs.Called.{Called, all-called}
 
 -- the two inputs

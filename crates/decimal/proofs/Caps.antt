@@ -6,8 +6,8 @@ use native.Mathlib.Omega.{arith}
 use mathlib.Core.Bool.{Bool, false}
 use mathlib.Core.Path.{_≡_}
 use borrow.Author.Tests.{eq-eqb, ne-eqb}
-use Rattle.scan.proofs.Tests.{Tests, affirmed, decided, tests-and, tests-le}
-use Rattle.decimal.specs.Laws.{InRange}
+use Rattle.proving.proofs.Tests.{Tests, affirmed, decided, tests-and, tests-le}
+use Rattle.decimal.specs.laws.Decimal.{InRange}
 use Rattle.decimal.specs.Value.{mostTold, longest, mostExact, mostExponent, isExact, scaledBy}
 
 pub tests-exact : (w up down : ℕ) → Tests (isExact w up down) (InRange w up down)

@@ -10,22 +10,22 @@ use mathlib.Core.Path.{_≡_, refl, sym, _∙_}
 use lib.Dec.{eqb}
 use lib.ListN.{length, drop}
 use borrow.Author.Tests.{lt-ltb, le-ltb, eqb-true}
-use Rattle.byte.specs.Ascii.{ascii}
-use Rattle.byte.specs.declared.Class.the-variants.{Digit}
-use Rattle.byte.specs.Byte.{peekAt, isIn, lowered}
+use Rattle.scan.specs.Ascii.{ascii}
+use Rattle.scan.specs.declared.byte.Class.the-variants.{Digit}
+use Rattle.scan.specs.Byte.{peekAt, isIn, lowered}
 use Rattle.scan.specs.Run.{runEnd}
-use Rattle.byte.proofs.Choice.{either, and-right}
-use Rattle.byte.proofs.Classes.{within-bounds, lowered-above}
+use Rattle.proving.proofs.Choice.{either, and-right}
+use Rattle.scan.proofs.byte.Classes.{within-bounds, lowered-above}
 use Rattle.scan.proofs.Runs.{run-passes}
-use Rattle.utf8.specs.Laws.{isAscii}
+use Rattle.utf8.specs.laws.Characters.{isAscii}
 use Rattle.utf8.proofs.Ascii.{by-bytes, lowered-other}
-use Rattle.sign.proofs.Places.{sign-ascii}
+use Rattle.scan.proofs.sign.Places.{sign-ascii}
 use Rattle.decimal.specs.declared.Decimal.{Decimal}
 use Rattle.decimal.specs.declared.Decimal.the-variants.{NotDecimal}
-use Rattle.sign.specs.Sign.{isSign, pastSign}
+use Rattle.scan.specs.Sign.{isSign, pastSign}
 use Rattle.decimal.specs.Grammar.{pastPoint, isExponent, pastExponent, wholeFrom, wholeTo, fractionFrom, fractionTo, exponentFrom, exponentTo, partsOf, hasDigits, exponentHasDigits, isNumeral, isNamed, isInfinite, isNan}
 use Rattle.decimal.specs.Value.{longest, decimalIn, decimalOf}
-use Rattle.decimal.specs.Laws.{ByCharacters}
+use Rattle.decimal.specs.laws.Decimal.{ByCharacters}
 
 -- the places before n hold ASCII
 abbrev AsciiTo : List ℕ → ℕ → Type 0

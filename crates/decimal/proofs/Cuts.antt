@@ -12,16 +12,16 @@ use mathlib.Core.Path.{_≡_, refl, sym, ap, subst, _∙_}
 use lib.ListN.{length, take, drop, take-append-drop, length-take, length-drop}
 use lib.Seq.{getD-drop, drop-drop, drop-cons, take-append-seam, drop-append-seam}
 use borrow.Author.Tests.{eq-eqb, ne-eqb, eqb-true}
-use Rattle.byte.specs.Ascii.{ascii}
-use Rattle.byte.specs.declared.Class.the-variants.{Digit}
-use Rattle.byte.specs.Byte.{end, peekAt, isIn}
+use Rattle.scan.specs.Ascii.{ascii}
+use Rattle.scan.specs.declared.byte.Class.the-variants.{Digit}
+use Rattle.scan.specs.Byte.{end, peekAt, isIn}
 use Rattle.scan.specs.Run.{runLength, runEnd}
-use Rattle.byte.proofs.Choice.{either}
+use Rattle.proving.proofs.Choice.{either}
 use Rattle.scan.proofs.Runs.{inside, run-within}
-use Rattle.scan.proofs.Tests.{tests-or, tests-eq}
-use Rattle.sign.specs.Sign.{isSign, pastSign, isMinus}
+use Rattle.proving.proofs.Tests.{tests-or, tests-eq}
+use Rattle.scan.specs.Sign.{isSign, pastSign, isMinus}
 use Rattle.decimal.specs.Grammar.{between}
-use Rattle.decimal.specs.Spelling.{Sign, Digits, SomeDigits}
+use Rattle.decimal.specs.laws.Spelling.{Sign, Digits, SomeDigits}
 
 -- the signs come before the point
 sign-no : (c : ℕ) → code "." ≤ c → isSign c ≡ false

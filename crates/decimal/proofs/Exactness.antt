@@ -13,14 +13,14 @@ use lib.ListN.{length, take, drop}
 use lib.Pow.{pow-add}
 use lib.Seq.{getD-drop}
 use borrow.Author.Tests.{eqb-true}
-use Rattle.byte.specs.declared.Class.the-variants.{Digit}
-use Rattle.byte.specs.Byte.{peekAt, digitOf, isIn}
+use Rattle.scan.specs.declared.byte.Class.the-variants.{Digit}
+use Rattle.scan.specs.Byte.{peekAt, digitOf, isIn}
 use Rattle.scan.specs.Run.{runEnd}
-use Rattle.byte.proofs.Classes.{within-bounds}
+use Rattle.scan.proofs.byte.Classes.{within-bounds}
 use Rattle.scan.proofs.Runs.{run-passes}
 use Rattle.decimal.specs.Grammar.{between, wholeFrom, wholeTo, fractionFrom, fractionOf, digitsOf, exponentOf, isNegativeExponent}
 use Rattle.decimal.specs.Value.{valueFrom, valueOf, isZeros, trailing, trimmed, significand, raised, reduced}
-use Rattle.decimal.specs.Laws.{numerator, denominator, Scaled, SomeScale, OneScale, InRange, ExactRange}
+use Rattle.decimal.specs.laws.Decimal.{numerator, denominator, Scaled, SomeScale, OneScale, InRange, ExactRange}
 use Rattle.decimal.proofs.Values.{ten-pos}
 use Rattle.decimal.proofs.Zeros.{trailing-few, all-zeros}
 

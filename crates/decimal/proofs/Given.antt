@@ -12,15 +12,15 @@ use lib.Ieee.{Float, nan, inf, fin, binary64, round, size, units, odd}
 use lib.Ieee.Scale.{round-same}
 use lib.ListN.{length}
 use borrow.Author.Tests.{lt-ltb, eq-eqb, ne-eqb}
-use Rattle.byte.proofs.Choice.{exactly}
-use Rattle.scan.proofs.Tests.{Tests, affirmed, decided, itself}
+use Rattle.proving.proofs.Choice.{exactly}
+use Rattle.proving.proofs.Tests.{Tests, affirmed, decided, itself}
 use Rattle.decimal.specs.declared.Number.{Number}
 use Rattle.decimal.specs.declared.Decimal.{Decimal}
 use Rattle.decimal.specs.declared.Decimal.the-variants.{NotDecimal, Named, Exact, Outside}
-use Rattle.sign.specs.Sign.{isMinus}
+use Rattle.scan.specs.Sign.{isMinus}
 use Rattle.decimal.specs.Grammar.{isNumeral, isInfinite, isNan}
 use Rattle.decimal.specs.Value.{significand, raised, reduced, isExact, nearest, scaledBy, plain, longest, decimalIn, decimalOf}
-use Rattle.decimal.specs.Laws.{numerator, denominator, nearestOf, NearestValue, Short, Infinite, Nan, Numeral, Spelled, Zero, ExactRange, InExact, DecimalGiven, ZeroKept}
+use Rattle.decimal.specs.laws.Decimal.{numerator, denominator, nearestOf, NearestValue, Short, Infinite, Nan, Numeral, Spelled, Zero, ExactRange, InExact, DecimalGiven, ZeroKept}
 use Rattle.decimal.proofs.Values.{ten-pos}
 use Rattle.decimal.proofs.Caps.{tests-exact}
 use Rattle.decimal.proofs.Characters.{by-characters}

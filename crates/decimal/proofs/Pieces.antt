@@ -11,15 +11,15 @@ use lib.Dec.{eqb, ltb}
 use lib.ListN.{length, drop}
 use lib.Seq.{drop-length}
 use borrow.Author.Tests.{lt-ltb, eq-eqb, ne-eqb, eqb-true, ltb-true}
-use Rattle.byte.specs.Ascii.{ascii}
-use Rattle.byte.specs.declared.Class.the-variants.{Digit}
-use Rattle.byte.specs.Byte.{peekAt, isWithin, isIn, lowered}
-use Rattle.byte.proofs.Choice.{either}
-use Rattle.byte.proofs.Classes.{within-bounds, above-not, end-in-none}
+use Rattle.scan.specs.Ascii.{ascii}
+use Rattle.scan.specs.declared.byte.Class.the-variants.{Digit}
+use Rattle.scan.specs.Byte.{peekAt, isWithin, isIn, lowered}
+use Rattle.proving.proofs.Choice.{either}
+use Rattle.scan.proofs.byte.Classes.{within-bounds, above-not, end-in-none}
 use Rattle.scan.proofs.Runs.{run-stopped, run-stops}
-use Rattle.sign.specs.Sign.{pastSign, isMinus}
+use Rattle.scan.specs.Sign.{pastSign, isMinus}
 use Rattle.decimal.specs.Grammar.{pastPoint, isExponent, pastExponent, between}
-use Rattle.decimal.specs.Spelling.{Digits, SomeDigits, Mantissa, Power}
+use Rattle.decimal.specs.laws.Spelling.{Digits, SomeDigits, Mantissa, Power}
 use Rattle.decimal.proofs.Places.{no-exponent}
 use Rattle.decimal.proofs.Cuts.{digitsTo, Stand, split, between-some, between-none, there, found, next, digits-cut, digits-found, some-found, sign-cut, sign-told, sign-found}
 

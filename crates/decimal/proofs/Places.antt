@@ -6,12 +6,12 @@ use mathlib.Core.List.{List, _++_}
 use mathlib.Core.Path.{_≡_, refl, sym, ap, subst}
 use lib.Dec.{eqb}
 use lib.ListN.{length, length-append}
-use Rattle.byte.specs.declared.Class.the-variants.{Digit}
-use Rattle.byte.specs.Byte.{end, peekAt, isWithin, isIn, lowered}
+use Rattle.scan.specs.declared.byte.Class.the-variants.{Digit}
+use Rattle.scan.specs.Byte.{end, peekAt, isWithin, isIn, lowered}
 use Rattle.scan.specs.Run.{runEnd}
-use Rattle.byte.proofs.Choice.{either}
+use Rattle.proving.proofs.Choice.{either}
 use Rattle.scan.proofs.Runs.{inside, run-within}
-use Rattle.sign.proofs.Places.{sign-within}
+use Rattle.scan.proofs.sign.Places.{sign-within}
 use Rattle.decimal.specs.declared.Parts.{Parts}
 use Rattle.decimal.proofs.Zeros.{between-long}
 use Rattle.decimal.specs.Grammar.{between, partsOf, digitsOf, pastPoint, isExponent, wholeFrom, wholeTo, fractionFrom, fractionTo, exponentFrom, exponentTo}

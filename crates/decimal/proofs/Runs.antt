@@ -9,7 +9,7 @@ use mathlib.Core.List.{List, [], _∷_, _++_}
 use mathlib.Core.Path.{_≡_, refl}
 use lib.ListN.{length, getD, drop, drop-of-length-le}
 use lib.Seq.{drop-cons}
-use Rattle.byte.specs.Byte.{digitOf}
+use Rattle.scan.specs.Byte.{digitOf}
 use Rattle.decimal.specs.Value.{valueFrom}
 
 module _ (radix : ℕ) (h : 0 < radix) where

@@ -9,16 +9,16 @@ use mathlib.Core.List.{List, [], _∷_, _++_, map}
 use mathlib.Core.Logic.{_↔_, _⊎_, inl, inr}
 use mathlib.Core.Path.{_≡_, ap, _∙_}
 use lib.ListN.{length, drop, length-drop}
-use Rattle.byte.specs.Ascii.{ascii}
-use Rattle.byte.specs.declared.Class.the-variants.{Digit}
-use Rattle.byte.specs.Byte.{peekAt, isIn, lowered}
-use Rattle.byte.proofs.Classes.{below-not, end-in-none}
+use Rattle.scan.specs.Ascii.{ascii}
+use Rattle.scan.specs.declared.byte.Class.the-variants.{Digit}
+use Rattle.scan.specs.Byte.{peekAt, isIn, lowered}
+use Rattle.scan.proofs.byte.Classes.{below-not, end-in-none}
 use Rattle.scan.proofs.Runs.{run-stopped}
 use Rattle.scan.proofs.Same.{same-is-equal}
-use Rattle.scan.proofs.Tests.{Tests, affirmed, tests-or, tests-and, itself, tests-eq, tests-lt}
-use Rattle.sign.specs.Sign.{isMinus}
+use Rattle.proving.proofs.Tests.{Tests, affirmed, tests-or, tests-and, itself, tests-eq, tests-lt}
+use Rattle.scan.specs.Sign.{isMinus}
 use Rattle.decimal.specs.Grammar.{wholeFrom, wholeTo, fractionFrom, fractionTo, exponentTo, partsOf, hasDigits, exponentHasDigits, isNumeral, isNamed, isInfinite, isNan, between, fractionOf, exponentOf, isNegativeExponent}
-use Rattle.decimal.specs.Spelling.{Mantissa, NumeralOf, NameOf, InfinityOf, NumeralSpelled, NamesSpelled, SpelledOnce, PartsSpelled, SignSpelled}
+use Rattle.decimal.specs.laws.Spelling.{Mantissa, NumeralOf, NameOf, InfinityOf, NumeralSpelled, NamesSpelled, SpelledOnce, PartsSpelled, SignSpelled}
 use Rattle.decimal.proofs.Places.{exponent-within}
 use Rattle.decimal.proofs.Cuts.{between-some, sign-cut, sign-told, sign-found}
 use Rattle.decimal.proofs.Pieces.{mantissa-begins, power-begins, mantissa-cut, mantissa-found, power-cut, power-found}

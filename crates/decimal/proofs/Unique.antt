@@ -1,6 +1,6 @@
 -- Any two answers that the promise of a public function allows are equal: both equal the definition.
 use mathlib.Core.Path.{sym, _∙_}
-use Rattle.byte.proofs.One.{OneAnswer}
+use Rattle.proving.proofs.One.{OneAnswer}
 use Rattle.decimal.proofs.bits_of.Kinds as bits-of
 use Rattle.decimal.proofs.bits_of.Reads as bits-of-reads
 use Rattle.decimal.proofs.radix.Kinds as radix

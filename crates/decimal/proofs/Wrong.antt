@@ -9,12 +9,12 @@ use lib.IntN.{pos, negsuc}
 use lib.Ieee as Ieee
 use lib.Ieee.{Float, nan, inf, fin, round, size, span, climb, units, odd, toBits}
 use denote.Ref.{now}
-use Rattle.byte.specs.Ascii.{ascii}
-use Rattle.byte.specs.Byte.{isWithin, digitOf, lowered, isIn}
-use Rattle.byte.proofs.One.{Answers}
+use Rattle.scan.specs.Ascii.{ascii}
+use Rattle.scan.specs.Byte.{isWithin, digitOf, lowered, isIn}
+use Rattle.proving.proofs.One.{Answers}
 use Rattle.scan.specs.Run.{runLength}
 use Rattle.scan.specs.Text.{sameText}
-use Rattle.sign.specs.Sign.{isSign}
+use Rattle.scan.specs.Sign.{isSign}
 use Rattle.utf8.specs.Table.{fits, sizeIn, charLength}
 use Rattle.utf8.specs.Text.{charsPast, sizeOf}
 use Rattle.utf8.specs.Code.{codeOf}

@@ -7,9 +7,9 @@ use mathlib.Core.Path.{_≡_, refl, _∙_}
 use lib.Dec.{eqb}
 use lib.ListN.{length, getD, take, drop, length-append, length-drop}
 use lib.Seq.{take-suc, getD-drop, take-append-le, take-append-add, take-take, length-take-le}
-use Rattle.byte.proofs.Choice.{either}
+use Rattle.proving.proofs.Choice.{either}
 use borrow.Author.Tests.{ne-eqb}
-use Rattle.byte.specs.Byte.{digitOf}
+use Rattle.scan.specs.Byte.{digitOf}
 use Rattle.decimal.specs.Grammar.{between}
 use Rattle.decimal.specs.Value.{isZeros, trailing, trimmed}
 

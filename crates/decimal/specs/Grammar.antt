@@ -6,12 +6,12 @@ use mathlib.Core.Bool.{Bool, cond, _&&_, _||_, not}
 use mathlib.Core.List.{List, _++_, map}
 use lib.Dec.{eqb, ltb}
 use lib.ListN.{length, take, drop}
-use Rattle.byte.specs.Ascii.{ascii}
-use Rattle.byte.specs.declared.Class.the-variants.{Digit}
-use Rattle.byte.specs.Byte.{peekAt, lowered, isIn}
+use Rattle.scan.specs.Ascii.{ascii}
+use Rattle.scan.specs.declared.byte.Class.the-variants.{Digit}
+use Rattle.scan.specs.Byte.{peekAt, lowered, isIn}
 use Rattle.scan.specs.Run.{runEnd}
 use Rattle.scan.specs.Text.{sameText}
-use Rattle.sign.specs.Sign.{pastSign, isMinus}
+use Rattle.scan.specs.Sign.{pastSign, isMinus}
 use Rattle.decimal.specs.declared.Parts.{Parts}
 
 -- past a point, where one stands

@@ -1,4 +1,3 @@
 pub mod Grammar
-pub mod Spelling
 pub mod Value
-pub mod Laws
+pub mod laws

@@ -8,14 +8,14 @@ use lib.IntN.{pos}
 use lib.Ieee as Ieee
 use lib.Ieee.{Float, nan, inf, fin, binary64, round, toBits}
 use lib.ListN.{length, take}
-use Rattle.byte.specs.Byte.{digitOf}
+use Rattle.scan.specs.Byte.{digitOf}
 use Rattle.utf8.specs.Text.{codesOf, isWellFormed}
 use Rattle.decimal.specs.declared.Notation.{Notation}
 use Rattle.decimal.specs.declared.Notation.the-variants as notation
 use Rattle.decimal.specs.declared.Number.{Number}
 use Rattle.decimal.specs.declared.Decimal.{Decimal}
 use Rattle.decimal.specs.declared.Decimal.the-variants.{NotDecimal, Named, Exact, Outside}
-use Rattle.sign.specs.Sign.{isMinus}
+use Rattle.scan.specs.Sign.{isMinus}
 use Rattle.decimal.specs.Grammar.{isNumeral, isInfinite, isNan, fractionOf, digitsOf, exponentOf, isNegativeExponent}
 
 -- the bits of a value: "every NaN has bits 7FF8000000000000"

@@ -1,7 +1,9 @@
 // Decimal texts, by the grammar of Rust's f64, and their values where these are exact; the number that every reader of numbers answers with.
 mod tens;
 
-use byte::Class;
+use scan::byte;
+use scan::byte::Class;
+use scan::sign;
 use tens::POWERS;
 ghost use mathlib.Core.Bool.{false, _&&_, _||_};
 ghost use mathlib.Core.Path.{_≡_};
@@ -10,10 +12,10 @@ ghost use mathlib.Core.List.{map};
 ghost use lib.IntN.{pos};
 ghost use lib.Ieee.{fin, inf, nan};
 ghost use lib.ListN.{length};
-ghost use Rattle.byte.specs.Ascii.{ascii};
-ghost use Rattle.byte.specs.Byte.{lowered};
+ghost use Rattle.scan.specs.Ascii.{ascii};
+ghost use Rattle.scan.specs.Byte.{lowered};
 ghost use Rattle.scan.specs.Text.{sameText};
-ghost use Rattle.sign.specs.Sign.{isMinus};
+ghost use Rattle.scan.specs.Sign.{isMinus};
 ghost use Rattle.decimal.specs.Grammar.{pastPoint, isExponent, pastExponent, between, partsOf, hasDigits, exponentHasDigits, isNumeral, digitsOf, exponentOf};
 ghost use Rattle.decimal.specs.Value.{bitsOf, radixOf, valueFrom, valueOf, mostTold, trailing, significand, mostExact, mostExponent, longest, isExact, nearest, plain, scaledBy, numeralRead, decimalOf};
 ghost use Rattle.decimal.specs.Value.{tenTo};

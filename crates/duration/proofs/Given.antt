@@ -12,30 +12,30 @@ use lib.IntN.{pos}
 use lib.Ieee.{nan, inf, fin, lt, le}
 use lib.ListN.{length}
 use borrow.Author.Tests.{eq-eqb, ne-eqb}
-use Rattle.byte.specs.Ascii.{ascii}
+use Rattle.scan.specs.Ascii.{ascii}
 use Rattle.scan.specs.Text.{sameText}
-use Rattle.byte.proofs.Choice.{exactly}
+use Rattle.proving.proofs.Choice.{exactly}
 use Rattle.scan.proofs.Same.{same-is-equal}
-use Rattle.scan.proofs.Tests.{Tests, affirmed, decided, itself, tests-and}
+use Rattle.proving.proofs.Tests.{Tests, affirmed, decided, itself, tests-and}
 use Rattle.utf8.specs.Text.{prefixEnd, WellFormed}
 use Rattle.utf8.specs.Answers.{placeAt, tooLong, notUtf8}
-use Rattle.utf8.specs.Refusals.{TooLong, NotUtf8, Taken}
+use Rattle.utf8.specs.laws.Refusals.{TooLong, NotUtf8, Taken}
 use Rattle.utf8.proofs.Given.{given-exactly}
-use Rattle.sign.specs.Sign.{isMinus}
+use Rattle.scan.specs.Sign.{isMinus}
 use Rattle.decimal.specs.declared.Decimal.{Decimal}
 use Rattle.decimal.specs.declared.Decimal.the-variants.{NotDecimal, Named, Exact, Outside}
 use Rattle.decimal.specs.Grammar.{isNumeral, isInfinite, isNan}
 use Rattle.decimal.specs.Value.{plain, longest, decimalOf}
-use Rattle.decimal.specs.Laws.{nearestOf, Infinite, Nan, Numeral, Spelled, InExact}
+use Rattle.decimal.specs.laws.Decimal.{nearestOf, Infinite, Nan, Numeral, Spelled, InExact}
 use Rattle.decimal.proofs.Given.{decimal-given, decided-exact}
-use Rattle.span.specs.declared.Duration.{Duration}
-use Rattle.span.specs.Unit.{second, nanosAMilli}
-use Rattle.span.specs.Spans.{isZero, twoTo64, nanosOf, durationAt}
-use Rattle.units.specs.Units.{isUnitText, unitSum, lasting, unitsOf}
+use Rattle.duration.specs.declared.span.Duration.{Duration}
+use Rattle.duration.specs.Unit.{second, nanosAMilli}
+use Rattle.duration.specs.Spans.{isZero, twoTo64, nanosOf, durationAt}
+use Rattle.duration.specs.Units.{isUnitText, unitSum, lasting, unitsOf}
 use Rattle.duration.specs.declared.Timing.{Timing}
 use Rattle.duration.specs.declared.Timing.the-variants.{Lasts, Refused}
 use Rattle.duration.specs.Duration.{emptyText, zeroDuration, notDuration, outsideExact, outOfRange, secondsRead, unitsRead, decimalRead, durationRead, timingOf}
-use Rattle.duration.specs.Refusals.{Empty, ZeroText, Read, secondsOf, InTime, Nothing, ZeroDuration, NotDuration, OutsideExact, OutOfRange, SecondsAre, UnitsAre, TimingGiven}
+use Rattle.duration.specs.laws.Refusals.{Empty, ZeroText, Read, secondsOf, InTime, Nothing, ZeroDuration, NotDuration, OutsideExact, OutOfRange, SecondsAre, UnitsAre, TimingGiven}
 
 -- the seconds of a decimal
 module _ (xs : List ℕ) where

@@ -1,6 +1,6 @@
 -- Any two answers that the promise of the public function allows are equal: both equal the definition.
 use mathlib.Core.Path.{sym, _∙_}
-use Rattle.byte.proofs.One.{OneAnswer}
+use Rattle.proving.proofs.One.{OneAnswer}
 use Rattle.duration.proofs.parse_duration.Kinds as parse-duration
 use Rattle.duration.proofs.parse_duration.Reads as parse-duration-reads
 use Rattle.duration.proofs.refused_by.Kinds as refused-by

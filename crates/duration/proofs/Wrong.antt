@@ -6,20 +6,20 @@ use mathlib.Core.Path.{_≡_, ap, _∙_}
 use lib.Count.{trailingZeros}
 use lib.Ieee.{round, size, span, climb, units as floatUnits, odd, lt, le}
 use denote.Ref.{now}
-use Rattle.byte.specs.Ascii.{ascii}
-use Rattle.byte.specs.Byte.{isWithin, digitOf, lowered, isIn, isAlpha}
-use Rattle.byte.proofs.One.{Answers}
+use Rattle.scan.specs.Ascii.{ascii}
+use Rattle.scan.specs.Byte.{isWithin, digitOf, lowered, isIn, isAlpha}
+use Rattle.proving.proofs.One.{Answers}
 use Rattle.scan.specs.Run.{runLength}
 use Rattle.scan.specs.Text.{sameText}
-use Rattle.sign.specs.Sign.{isSign}
+use Rattle.scan.specs.Sign.{isSign}
 use Rattle.utf8.specs.Table.{fits, sizeIn, charLength}
 use Rattle.utf8.specs.Text.{charsPast, sizeOf}
 use Rattle.utf8.specs.Answers.{validityOf, admitted, atStart, place, notUtf8}
 use Rattle.utf8.specs.Code.{codeOf}
 use Rattle.decimal.specs.Grammar.{hasDigits, exponentHasDigits, isNumeral, isInfinite, isNan}
 use Rattle.decimal.specs.Value.{valueFrom, isZeros, trailing, isExact, nearest, scaledBy, decimalIn, decimalOf}
-use Rattle.span.specs.declared.Duration.{Duration}
-use Rattle.units.specs.Units.{isPart, behind, sumBy, counted, isUnitText, unitsOf}
+use Rattle.duration.specs.declared.span.Duration.{Duration}
+use Rattle.duration.specs.Units.{isPart, behind, sumBy, counted, isUnitText, unitsOf}
 use Rattle.duration.specs.declared.Timing.{Timing}
 use Rattle.duration.specs.declared.Timing.the-variants.{Lasts, Refused}
 use Rattle.duration.specs.Duration.{durationRead, timingOf, refusedBy}

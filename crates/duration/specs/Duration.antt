@@ -4,7 +4,7 @@ use mathlib.Core.Bool.{cond}
 use mathlib.Core.List.{List}
 use lib.Dec.{eqb}
 use lib.ListN.{length}
-use Rattle.byte.specs.Ascii.{ascii}
+use Rattle.scan.specs.Ascii.{ascii}
 use Rattle.scan.specs.Text.{sameText}
 use Rattle.utf8.specs.declared.Refusal.{Refusal}
 use Rattle.utf8.specs.declared.Admission.{Admission}
@@ -14,12 +14,12 @@ use Rattle.decimal.specs.declared.Number.{Number}
 use Rattle.decimal.specs.declared.Decimal.{Decimal}
 use Rattle.decimal.specs.declared.Decimal.the-variants.{NotDecimal, Named, Exact, Outside}
 use Rattle.decimal.specs.Value.{longest, decimalOf}
-use Rattle.span.specs.declared.Timed.{Timed}
-use Rattle.span.specs.declared.Timed.the-variants as timed
-use Rattle.span.specs.Spans.{isZero, fromSecs}
-use Rattle.units.specs.declared.Units.{Units}
-use Rattle.units.specs.declared.Units.the-variants.{Sum, NotUnits}
-use Rattle.units.specs.Units.{unitsOf}
+use Rattle.duration.specs.declared.span.Timed.{Timed}
+use Rattle.duration.specs.declared.span.Timed.the-variants as timed
+use Rattle.duration.specs.Spans.{isZero, fromSecs}
+use Rattle.duration.specs.declared.units.Units.{Units}
+use Rattle.duration.specs.declared.units.Units.the-variants.{Sum, NotUnits}
+use Rattle.duration.specs.Units.{unitsOf}
 use Rattle.duration.specs.declared.Timing.{Timing}
 use Rattle.duration.specs.declared.Timing.the-variants.{Lasts, Refused}
 

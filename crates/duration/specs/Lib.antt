@@ -1,2 +1,7 @@
+pub mod Display
 pub mod Duration
-pub mod Refusals
+pub mod Spans
+pub mod Unit
+pub mod Units
+pub mod laws
+pub mod steps

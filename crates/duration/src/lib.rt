@@ -1,9 +1,13 @@
 // Durations: a number of seconds, or parts with units, in a text of at most 256 bytes.
+pub mod display;
+pub mod span;
+pub mod units;
+
+use crate::span::Duration;
+use crate::span::Timed;
+use crate::units::Units;
 use decimal::Decimal;
 use decimal::Number;
-use span::Duration;
-use span::Timed;
-use units::Units;
 use utf8::Admission;
 use utf8::Refusal;
 ghost use mathlib.Core.Path.{_≡_};
@@ -11,7 +15,7 @@ ghost use Rattle.utf8.specs.Answers.{atStart};
 ghost use Rattle.decimal.specs.declared.Number.{Number};
 ghost use Rattle.decimal.specs.declared.Decimal.the-variants.{Exact};
 ghost use Rattle.decimal.specs.Value.{decimalOf};
-ghost use Rattle.units.specs.Units.{unitsOf};
+ghost use Rattle.duration.specs.Units.{unitsOf};
 ghost use Rattle.duration.specs.declared.Timing.the-variants.{Refused};
 ghost use Rattle.duration.specs.Duration.{secondsRead, unitsRead, refusalNumber, decimalRead, timingOf, refusedBy};
 

@@ -1,10 +1,10 @@
 -- What the C functions over `duration` and `display` answer, and what they leave in what was lent, by cases over the answers.
 use Prim.Native.Nat.{ℕ}
-use Rattle.span.specs.declared.Duration.{Duration}
+use Rattle.duration.specs.declared.span.Duration.{Duration}
 use Rattle.duration.specs.declared.Timing.{Timing}
 use Rattle.duration.specs.declared.Timing.the-variants.{Lasts, Refused}
-use Rattle.display.specs.declared.Displaying.{Displaying}
-use Rattle.display.specs.declared.Displaying.the-variants as displaying
+use Rattle.duration.specs.declared.display.Displaying.{Displaying}
+use Rattle.duration.specs.declared.display.Displaying.the-variants as displaying
 use Rattle.exports.specs.Packed.{packedOf}
 
 -- 0, or the refusal

@@ -1,8 +1,8 @@
-pub mod Packed
-pub mod Utf8
-pub mod Token
-pub mod String
-pub mod Number
 pub mod Duration
 pub mod Lexer
-pub mod Laws
+pub mod Number
+pub mod Packed
+pub mod String
+pub mod Token
+pub mod Utf8
+pub mod laws

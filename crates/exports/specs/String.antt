@@ -4,8 +4,8 @@ use mathlib.Core.Bool.{cond}
 use lib.Dec.{eqb}
 use Rattle.utf8.specs.declared.Reading.{Reading}
 use Rattle.utf8.specs.declared.Reading.the-variants.{Crate, Documented}
-use Rattle.escape.specs.declared.Escaping.{Escaping}
-use Rattle.escape.specs.declared.Escaping.the-variants.{Written, Refused}
+use Rattle.string.specs.declared.escape.Escaping.{Escaping}
+use Rattle.string.specs.declared.escape.Escaping.the-variants.{Written, Refused}
 use Rattle.string.specs.declared.Unquoting.{Unquoting}
 use Rattle.string.specs.declared.Unquoting.the-variants as unquoting
 use Rattle.exports.specs.Packed.{packedOf}

@@ -8,8 +8,8 @@ use Rattle.utf8.specs.declared.Admission.{Admission}
 use Rattle.utf8.specs.declared.Admission.the-variants.{Admitted, Refused}
 use Rattle.utf8.specs.declared.Character.{Character}
 use Rattle.utf8.specs.declared.Character.the-variants.{Scalar, Nothing, IllFormed}
-use Rattle.encode.specs.declared.Encoding.{Encoding}
-use Rattle.encode.specs.declared.Encoding.the-variants.{Written, NotScalar, NoRoom}
+use Rattle.utf8.specs.declared.encode.Encoding.{Encoding}
+use Rattle.utf8.specs.declared.encode.Encoding.the-variants.{Written, NotScalar, NoRoom}
 use Rattle.utf8.specs.Answers.{placeAt, textLimit, tooLong, noRoom, notUtf8, characterAt}
 use Rattle.string.specs.Literal.{badLiteral}
 use Rattle.exports.specs.Packed.{packedOf}

@@ -1,13 +1,14 @@
 // The C functions over `duration` and `display`: each answers with one number, and writes what else it gives to what is lent.
 // A refusal is answered as `packing` makes it one number.
 use crate::packing;
-use display::Displaying;
 use duration::Timing;
-use span::Duration;
+use duration::display;
+use duration::display::Displaying;
+use duration::span::Duration;
 ghost use mathlib.Core.Path.{_≡_};
 ghost use lib.ListN.{length};
 ghost use Rattle.duration.specs.Duration.{timingOf};
-ghost use Rattle.display.specs.Display.{textOf, displayingOf, leftBy};
+ghost use Rattle.duration.specs.Display.{textOf, displayingOf, leftBy};
 ghost use Rattle.exports.specs.Duration.{durationCode, secsLeft, nanosLeft, durationOf, displayingCode};
 
 // 0 for a duration, whose seconds and nanoseconds it writes; or refusal 1, 2 or 50 to 54.

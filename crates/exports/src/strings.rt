@@ -1,13 +1,14 @@
 // The C functions over `escape` and `string`: each answers with one number, and writes its text to the buffer that is lent.
 // A refusal is answered as `packing` makes it one number.
 use crate::packing;
-use escape::Escaping;
 use string::Unquoting;
+use string::escape;
+use string::escape::Escaping;
 use utf8::Reading;
 ghost use mathlib.Core.Path.{_≡_};
 ghost use Prim.Native.Nat.{ℕ, _<_};
 ghost use lib.ListN.{length};
-ghost use Rattle.escape.specs.Escape.{escaped, escapingOf, leftBy};
+ghost use Rattle.string.specs.Escape.{escaped, escapingOf, leftBy};
 ghost use Rattle.string.specs.declared.Unquoting.the-variants.{Inner, Written};
 ghost use Rattle.string.specs.Literal.{unquoted, unquotingOf, textBy};
 ghost use Rattle.exports.specs.String.{escapeCode, readingOf, innerFrom, unquoteCode};

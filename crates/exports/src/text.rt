@@ -1,20 +1,21 @@
 // The C functions over `utf8` and `encode`: each answers with one number, and writes what else it gives to what is lent.
 // A refusal is answered as `packing` makes it one number.
 use crate::packing;
-use encode::Encoding;
 use utf8::Admission;
 use utf8::ByteOffset;
 use utf8::Character;
 use utf8::Place;
 use utf8::Refusal;
+use utf8::encode;
+use utf8::encode::Encoding;
 ghost use mathlib.Core.Path.{_≡_};
 ghost use Prim.Native.Nat.{ℕ};
 ghost use lib.ListN.{length};
 ghost use Rattle.utf8.specs.Text.{charNumber};
 ghost use Rattle.utf8.specs.Answers.{textLimit, admitted};
 ghost use Rattle.utf8.specs.declared.Character.the-variants.{Scalar};
-ghost use Rattle.encode.specs.declared.Encoding.the-variants.{Written};
-ghost use Rattle.encode.specs.Answers.{encodingOf, leftBy};
+ghost use Rattle.utf8.specs.declared.encode.Encoding.the-variants.{Written};
+ghost use Rattle.utf8.specs.Encode.{encodingOf, leftBy};
 ghost use Rattle.exports.specs.Utf8.{validateCode, characterCode, charAtCode, charAtLeft, encodeCode};
 
 // The number of characters of a text, or refusal 1 or 2.

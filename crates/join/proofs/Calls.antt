@@ -22,7 +22,7 @@ use Rattle.lex.specs.Lex.{entriesOf, measured, roomed, lexed, listed, leftBy, k
 use Rattle.lex.proofs.Measures.{measured-count, fits}
 use Rattle.lex.proofs.lexer.Kinds as lexer
 use Rattle.lex.proofs.lexer.Reads as lexer-reads
-use Rattle.join.specs.Join.{joined, front, LastNoFill, movedEntry, movedRefusal, movedBehind}
+use Rattle.join.specs.laws.Join.{joined, front, LastNoFill, movedEntry, movedRefusal, movedBehind}
 use Rattle.join.proofs.Join.{join-answer, join-entries}
 
 -- a call of `lexer` that keeps its promise, on a query

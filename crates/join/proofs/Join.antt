@@ -23,7 +23,7 @@ use Rattle.lex.specs.declared.Lexing.the-variants.{Count, Refused}
 use Rattle.lex.specs.Steps.{Entry, Reading, reads, ends, refuses, readingOf}
 use Rattle.lex.specs.Lex.{eof, entries, entriesOf, tallied, tallyOf, counted, readAs, measured, lexed, roomed}
 use Rattle.lex.proofs.Steps.{counts}
-use Rattle.join.specs.Join.{joined, front, Joins, movedEntry, movedBehind, JoinAnswer, JoinEntries, JoinRoomed}
+use Rattle.join.specs.laws.Join.{joined, front, Joins, movedEntry, movedBehind, JoinAnswer, JoinEntries, JoinRoomed}
 use Rattle.utf8.proofs.Bytes.{text-bytes}
 use Rattle.join.proofs.Steps.{Accepts, lexemes}
 use Rattle.join.proofs.Readings.{graft, shifted, read-joined}

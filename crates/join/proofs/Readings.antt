@@ -12,23 +12,23 @@ use mathlib.Core.List.{List, [], _∷_}
 use mathlib.Core.Path.{_≡_, refl, sym, ap, _∙_}
 use lib.ListN.{length, take, drop, length-drop}
 use lib.Seq.{drop-length, drop-append-seam, drop-append-le, drop-append-add, drop-drop, getD-drop}
-use Rattle.byte.specs.declared.Class.the-variants as class
-use Rattle.byte.specs.Byte.{end, peekAt, isIn}
+use Rattle.scan.specs.declared.byte.Class.the-variants as class
+use Rattle.scan.specs.Byte.{end, peekAt, isIn}
 use Rattle.scan.specs.Run.{runLength, runEnd}
 use Rattle.token.specs.Words.{keywordOf}
 use Rattle.token.specs.declared.Keyword.the-variants.{Kind}
 use Rattle.token.specs.Kinds.{identifier}
-use Rattle.word.specs.Word.{isFill}
+use Rattle.munch.specs.Word.{isFill}
 use Rattle.munch.specs.declared.Mode.{Mode}
 use Rattle.munch.specs.declared.Step.{Step}
 use Rattle.munch.specs.declared.Step.the-variants.{Lexeme, Space, Comment, Refused, Finished}
 use Rattle.munch.specs.Munch.{outside, munched}
-use Rattle.scan.specs.Edge.{Bytes}
-use Rattle.munch.specs.Laws.{Seam, same, grown, called, refused}
+use Rattle.scan.specs.laws.Edge.{Bytes}
+use Rattle.munch.specs.laws.Step.{Seam, same, grown, called, refused}
 use Rattle.munch.proofs.Seam.{step-seam}
 use Rattle.lex.specs.Steps.{stepsPast, stepsOf, Entry, entry, Reading, reads, ends, refuses, readFrom, readingOf}
 use Rattle.lex.proofs.Steps.{steps-at, goes-at}
-use Rattle.join.specs.Join.{joined, LastNoFill, movedEntry}
+use Rattle.join.specs.laws.Join.{joined, LastNoFill, movedEntry}
 use Rattle.join.proofs.Steps.{Accepts, lexemes, line-step, ended, blank}
 
 -- a reading that goes on in another where it ends

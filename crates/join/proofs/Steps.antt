@@ -7,20 +7,20 @@ use mathlib.Core.Bool.{Bool, true, false, cond, _||_, not}
 use mathlib.Core.List.{List, [], _∷_}
 use mathlib.Core.Path.{_≡_, refl}
 use lib.ListN.{length}
-use Rattle.byte.specs.declared.Class.the-variants as class
-use Rattle.byte.specs.Byte.{isWithin, isSpace, isAlpha, isDigit, isIn}
+use Rattle.scan.specs.declared.byte.Class.the-variants as class
+use Rattle.scan.specs.Byte.{isWithin, isSpace, isAlpha, isDigit, isIn}
 use Rattle.scan.specs.Run.{runLength}
-use Rattle.byte.proofs.Below.{below}
+use Rattle.proving.proofs.Below.{below}
 use Rattle.scan.proofs.Edges.{space-ascii}
 use Rattle.token.specs.Words.{keywordOf}
-use Rattle.lead.specs.Lead.{leadOf, braceLeadOf, bracketLeadOf}
+use Rattle.munch.specs.Lead.{leadOf, braceLeadOf, bracketLeadOf}
 use Rattle.munch.specs.declared.Inside.{Inside}
 use Rattle.munch.specs.declared.Inside.the-variants.{Nothing, Braces, Brackets}
 use Rattle.munch.specs.declared.Mode.{Mode}
 use Rattle.munch.specs.declared.Step.{Step}
 use Rattle.munch.specs.declared.Step.the-variants.{Lexeme, Space, Comment, Refused, Finished}
 use Rattle.munch.specs.Munch.{mode, outside, outsideStep, braceStep, bracketStep, stepIn, munchedBy, munched}
-use Rattle.munch.specs.Laws.{Goes}
+use Rattle.munch.specs.laws.Step.{Goes}
 use Rattle.munch.proofs.Goes.{step-goes}
 use Rattle.lex.specs.Steps.{stepsPast, Entry, Reading, reads, ends, refuses, readFrom}
 use Rattle.lex.proofs.Steps.{steps-at}

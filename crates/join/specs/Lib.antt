@@ -1,1 +1,1 @@
-pub mod Join
+pub mod laws

@@ -8,7 +8,7 @@ use borrow.Author.Tests.{le-leb, lt-leb}
 use Rattle.utf8.specs.declared.Admission.{Admission}
 use Rattle.utf8.specs.declared.Admission.the-variants as admission
 use Rattle.utf8.specs.Answers.{textLimit, noRoom, admitted}
-use Rattle.utf8.specs.Refusals.{Taken}
+use Rattle.utf8.specs.laws.Refusals.{Taken}
 use Rattle.utf8.proofs.Given.{admitted-text}
 use Rattle.lex.specs.declared.Tally.{Tally}
 use Rattle.lex.specs.declared.Tally.the-variants as tallying

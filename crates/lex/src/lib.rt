@@ -11,7 +11,7 @@ ghost use mathlib.Core.Path.{_≡_};
 ghost use Prim.Native.Nat.{_<_, _≤_};
 ghost use lib.ListN.{length, set};
 ghost use Rattle.utf8.specs.Answers.{textLimit};
-ghost use Rattle.token.specs.WordRows.{wordTable};
+ghost use Rattle.token.specs.steps.WordRows.{wordTable};
 ghost use Rattle.lex.specs.Lex.{entriesOf, tallyOf, refusedAt, refusedIn, measured, refusedBy, lexed, listed, leftBy, kindOf, startOf, lengthOf, shortest};
 
 // How many lexemes a query has, or why it has none.

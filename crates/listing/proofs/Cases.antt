@@ -2,23 +2,23 @@
 use mathlib.Core.Path.{refl}
 use Rattle.scan.specs.Run.{runLength}
 use Rattle.scan.specs.Text.{has, sameText}
-use Rattle.byte.specs.Byte.{isWithin, lowered, isIn, isAlpha, isSpace, isAlphaNumeric, isWord, isLine}
+use Rattle.scan.specs.Byte.{isWithin, lowered, isIn, isAlpha, isSpace, isAlphaNumeric, isWord, isLine}
 use Rattle.utf8.specs.Table.{fits, sizeIn, charLength}
 use Rattle.utf8.specs.Text.{charsPast, sizeOf, begunIn, charNumber}
 use Rattle.utf8.specs.Answers.{validityOf, admitted}
 use Rattle.utf8.specs.Code.{codeOf}
-use Rattle.sign.specs.Sign.{isSign}
+use Rattle.scan.specs.Sign.{isSign}
 use Rattle.writing.specs.Decimal.{signOf, digitsOf, decimalText}
 use Rattle.token.specs.Words.{words, kindIn, keywordOf}
 use Rattle.numeral.specs.Numeral.{isHex, fractionEnd, exponentEnd, numberEnd, isUnit, stopOf, turnOf, durationFrom, numeralOf}
 use Rattle.quoted.specs.Quoted.{quotedFrom}
-use Rattle.lead.specs.Lead.{symbolOf, leadOf, bracketSymbolOf, bracketLeadOf}
-use Rattle.word.specs.Word.{isFill, ruleBy, kindBy}
+use Rattle.munch.specs.Lead.{symbolOf, leadOf, bracketSymbolOf, bracketLeadOf}
+use Rattle.munch.specs.Word.{isFill, ruleBy, kindBy}
 use Rattle.munch.specs.Munch.{numberStep, quotedStep, wordStep, leftBracketStep, endStep, outsideStep, bracketStep, munchedBy}
 use Rattle.lex.specs.Steps.{stepsPast, readFrom}
 use Rattle.lex.specs.Lex.{tallied, measured, lexed}
 use Rattle.listing.specs.Listing.{refusal, lexemesText, printedBy, printed}
-use Rattle.listing.specs.Cases.{AllPrinted}
+use Rattle.listing.specs.laws.Cases.{AllPrinted}
 
 pub all-printed : AllPrinted
 unfolding printed printedBy lexemesText refusal lexed measured tallied stepsPast readFrom munchedBy outsideStep bracketStep leadOf symbolOf bracketLeadOf bracketSymbolOf wordStep numberStep quotedStep leftBracketStep endStep ruleBy kindBy isFill keywordOf words kindIn numeralOf numberEnd exponentEnd fractionEnd isHex isUnit durationFrom turnOf stopOf quotedFrom isSign admitted validityOf charsPast sizeOf charNumber begunIn charLength sizeIn fits codeOf isWithin isIn isSpace isAlpha isAlphaNumeric isWord isLine lowered runLength sameText has decimalText digitsOf signOf

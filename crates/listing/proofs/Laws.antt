@@ -7,7 +7,7 @@ use mathlib.Core.Path.{_≡_, refl, sym, _∙_}
 use lib.Dec.{ltb}
 use lib.ListN.{length, length-append}
 use borrow.Author.Tests.{ltb-false}
-use Rattle.byte.proofs.Choice.{either}
+use Rattle.proving.proofs.Choice.{either}
 use Rattle.utf8.specs.Answers.{tooLong}
 use Rattle.lex.specs.declared.Lexing.{Lexing}
 use Rattle.lex.specs.declared.Lexing.the-variants.{Count, Refused}
@@ -17,7 +17,7 @@ use Rattle.lex.proofs.Few.{entries-few}
 use Rattle.lex.proofs.Entries.{AllWithin, entries-within}
 use Rattle.lex.proofs.Measures.{measured-count, fits}
 use Rattle.listing.specs.Listing.{inputLimit, mostLexemes, longestLexeme, mostText, refusal, lexemeText, lexemesText, printedBy, printed}
-use Rattle.listing.specs.Laws.{RoomEnough, TextFits}
+use Rattle.listing.specs.laws.Listing.{RoomEnough, TextFits}
 use Rattle.listing.proofs.Few.{lexeme-few, refusal-few, refused-few}
 
 pub room-enough : RoomEnough

@@ -9,7 +9,7 @@ use lib.Seq.{drop-at, drop-drop, length-take-le}
 use borrow.Author.Tests.{le-leb}
 use Rattle.writing.specs.Put.{putAt, pastAt}
 use Rattle.writing.proofs.Writes.{past-in, put-stands}
-use Rattle.listing.specs.Puts.{Puts}
+use Rattle.listing.specs.steps.Puts.{Puts}
 
 -- what the writers promise is that a text is put, where it fits
 pub puts : (d : List ℕ) (at : ℕ) (xs : List ℕ) {r : ℕ} {e : List ℕ} → (r ≡ pastAt d at xs) × (e ≡ putAt d at xs) → at + length xs ≤ length d → Puts xs d at r e

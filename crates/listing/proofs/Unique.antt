@@ -2,7 +2,7 @@
 -- list: each equals the same definition of what was lent.
 use mathlib.Core.Path.{sym, _∙_}
 use denote.Ref.{now}
-use Rattle.byte.proofs.One.{OneAnswer, OneContent}
+use Rattle.proving.proofs.One.{OneAnswer, OneContent}
 use Rattle.listing.proofs.list_lexemes.Kinds as list-lexemes
 use Rattle.listing.proofs.list_lexemes.Reads as list-lexemes-reads
 

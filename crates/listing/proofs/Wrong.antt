@@ -8,9 +8,9 @@ use mathlib.Core.Path.{_≡_, ap, _∙_}
 use lib.ListN.{length, replicate, length-replicate}
 use denote.Ref.{now}
 use borrow.Author.Tests.{le-ltb, lt-ltb}
-use Rattle.byte.specs.Ascii.{ascii}
-use Rattle.byte.specs.Byte.{isWithin, lowered, isIn, isAlpha, isSpace, isAlphaNumeric, isWord}
-use Rattle.byte.proofs.One.{Answers, Leaves}
+use Rattle.scan.specs.Ascii.{ascii}
+use Rattle.scan.specs.Byte.{isWithin, lowered, isIn, isAlpha, isSpace, isAlphaNumeric, isWord}
+use Rattle.proving.proofs.One.{Answers, Leaves}
 use Rattle.scan.specs.Run.{runLength}
 use Rattle.scan.specs.Text.{has, sameText}
 use Rattle.utf8.specs.Table.{fits, sizeIn, charLength}
@@ -21,8 +21,8 @@ use Rattle.utf8.proofs.Given.{given-exactly}
 use Rattle.writing.specs.Put.{putAt, pastAt}
 use Rattle.writing.specs.Decimal.{signOf, digitsOf, decimalText}
 use Rattle.token.specs.Words.{words, kindIn, keywordOf}
-use Rattle.lead.specs.Lead.{symbolOf, leadOf}
-use Rattle.word.specs.Word.{ruleBy, kindBy}
+use Rattle.munch.specs.Lead.{symbolOf, leadOf}
+use Rattle.munch.specs.Word.{ruleBy, kindBy}
 use Rattle.munch.specs.Munch.{wordStep, endStep, outsideStep, munchedBy}
 use Rattle.lex.specs.Steps.{stepsPast, readFrom}
 use Rattle.lex.specs.Lex.{tallied, measured, lexed}

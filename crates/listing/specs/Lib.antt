@@ -1,4 +1,3 @@
 pub mod Listing
-pub mod Puts
-pub mod Laws
-pub mod Cases
+pub mod laws
+pub mod steps

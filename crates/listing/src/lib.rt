@@ -10,7 +10,7 @@ ghost use Rattle.writing.specs.Decimal.{mostDigits};
 ghost use Rattle.lex.specs.Steps.{entry};
 ghost use Rattle.lex.specs.Lex.{lexed};
 ghost use Rattle.listing.specs.Listing.{mostLexemes, mostText, mostNumbers, numbered, numbers, refusal, lexemeText, lexemesText, zipped, printedBy, printed};
-ghost use Rattle.listing.specs.Puts.{Puts};
+ghost use Rattle.listing.specs.steps.Puts.{Puts};
 
 // A longer input is refused.
 pub const INPUT_LIMIT: usize = 4_096;

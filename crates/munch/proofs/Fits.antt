@@ -7,10 +7,10 @@ use mathlib.Core.Bool.{Bool}
 use mathlib.Core.List.{List}
 use lib.Dec.{eqb}
 use lib.ListN.{take, drop}
-use Rattle.byte.specs.declared.Class.the-variants.{AlphaNumeric, Word}
-use Rattle.byte.specs.Byte.{end, peekAt, isDigit, isIn}
+use Rattle.scan.specs.declared.byte.Class.the-variants.{AlphaNumeric, Word}
+use Rattle.scan.specs.Byte.{end, peekAt, isDigit, isIn}
 use Rattle.scan.specs.Run.{runEnd}
-use Rattle.byte.proofs.Choice.{either}
+use Rattle.proving.proofs.Choice.{either}
 use Rattle.token.specs.Words.{keywordOf}
 use Rattle.token.specs.Kinds.{lte, lss, gte, gtr}
 use Rattle.token.proofs.Fits.{keyword-fits}
@@ -20,16 +20,16 @@ use Rattle.numeral.specs.Numeral.{numeralOf}
 use Rattle.quoted.specs.declared.Quoted.{Quoted}
 use Rattle.quoted.specs.declared.Quoted.the-variants as quoting
 use Rattle.quoted.specs.Quoted.{quotedOf}
-use Rattle.lead.specs.declared.Lead.{Lead}
-use Rattle.lead.specs.declared.Lead.the-variants as lead
-use Rattle.lead.specs.declared.BraceLead.{BraceLead}
-use Rattle.lead.specs.declared.BraceLead.the-variants as brace
-use Rattle.lead.specs.declared.BracketLead.{BracketLead}
-use Rattle.lead.specs.declared.BracketLead.the-variants as bracket
-use Rattle.lead.specs.Lead.{leadOf, braceLeadOf, bracketLeadOf}
-use Rattle.lead.specs.Laws.{Begun}
-use Rattle.lead.proofs.Leads.{lead-begun}
-use Rattle.word.proofs.Fits.{word-fits, brace-word-fits}
+use Rattle.munch.specs.declared.lead.Lead.{Lead}
+use Rattle.munch.specs.declared.lead.Lead.the-variants as lead
+use Rattle.munch.specs.declared.lead.BraceLead.{BraceLead}
+use Rattle.munch.specs.declared.lead.BraceLead.the-variants as brace
+use Rattle.munch.specs.declared.lead.BracketLead.{BracketLead}
+use Rattle.munch.specs.declared.lead.BracketLead.the-variants as bracket
+use Rattle.munch.specs.Lead.{leadOf, braceLeadOf, bracketLeadOf}
+use Rattle.munch.specs.laws.Lead.{Begun}
+use Rattle.munch.proofs.lead.Leads.{lead-begun}
+use Rattle.munch.proofs.word.Fits.{word-fits, brace-word-fits}
 use Rattle.munch.specs.declared.Inside.{Inside}
 use Rattle.munch.specs.declared.Inside.the-variants.{Nothing, Braces, Brackets}
 use Rattle.munch.specs.declared.Mode.{Mode}

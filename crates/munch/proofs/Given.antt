@@ -10,8 +10,8 @@ use mathlib.Core.Path.{_≡_, refl, ap, subst, _∙_}
 use lib.Dec.{eqb}
 use lib.ListN.{drop}
 use borrow.Author.Tests.{eqb-true, eqb-false, ne-eqb}
-use Rattle.byte.specs.Byte.{end, peekAt, isWithin, isSpace, isAlpha, isDigit}
-use Rattle.byte.proofs.Choice.{either}
+use Rattle.scan.specs.Byte.{end, peekAt, isWithin, isSpace, isAlpha, isDigit}
+use Rattle.proving.proofs.Choice.{either}
 use Rattle.token.specs.declared.Keyword.{Keyword}
 use Rattle.token.specs.declared.Keyword.the-variants as keyword
 use Rattle.numeral.specs.declared.Numeral.{Numeral}
@@ -20,24 +20,24 @@ use Rattle.numeral.specs.Numeral.{numeralOf}
 use Rattle.quoted.specs.declared.Quoted.{Quoted}
 use Rattle.quoted.specs.declared.Quoted.the-variants as quoting
 use Rattle.quoted.specs.Quoted.{unknownEscape, endInEscape, endInString, quotedOf}
-use Rattle.quoted.specs.Laws.{Numbered}
+use Rattle.quoted.specs.laws.Quoted.{Numbered}
 use Rattle.quoted.proofs.Strings.{string-numbered}
-use Rattle.lead.specs.declared.Lead.{Lead}
-use Rattle.lead.specs.declared.Lead.the-variants as lead
-use Rattle.lead.specs.declared.BraceLead.{BraceLead}
-use Rattle.lead.specs.declared.BraceLead.the-variants as brace
-use Rattle.lead.specs.declared.BracketLead.{BracketLead}
-use Rattle.lead.specs.declared.BracketLead.the-variants as bracket
-use Rattle.lead.specs.Lead.{symbolOf, leadOf, braceSymbolOf, braceLeadOf, bracketSymbolOf, bracketLeadOf}
-use Rattle.lead.specs.Laws.{Begun, BraceBegun, BracketBegun}
-use Rattle.lead.proofs.Leads.{lead-begun, brace-lead-begun, bracket-lead-begun, digit-lead, quote-lead, quote-brace-lead}
+use Rattle.munch.specs.declared.lead.Lead.{Lead}
+use Rattle.munch.specs.declared.lead.Lead.the-variants as lead
+use Rattle.munch.specs.declared.lead.BraceLead.{BraceLead}
+use Rattle.munch.specs.declared.lead.BraceLead.the-variants as brace
+use Rattle.munch.specs.declared.lead.BracketLead.{BracketLead}
+use Rattle.munch.specs.declared.lead.BracketLead.the-variants as bracket
+use Rattle.munch.specs.Lead.{symbolOf, leadOf, braceSymbolOf, braceLeadOf, bracketSymbolOf, bracketLeadOf}
+use Rattle.munch.specs.laws.Lead.{Begun, BraceBegun, BracketBegun}
+use Rattle.munch.proofs.lead.Leads.{lead-begun, brace-lead-begun, bracket-lead-begun, digit-lead, quote-lead, quote-brace-lead}
 use Rattle.munch.specs.declared.Inside.{Inside}
 use Rattle.munch.specs.declared.Inside.the-variants.{Nothing, Braces, Brackets}
 use Rattle.munch.specs.declared.Mode.{Mode}
 use Rattle.munch.specs.declared.Step.{Step}
 use Rattle.munch.specs.declared.Step.the-variants.{Lexeme, Space, Comment, Refused, Finished}
 use Rattle.munch.specs.Munch.{ifNext, numberBy, numberStep, dotStep, quotedBy, quotedStep, commentStep, wordStep, equalsStep, bangStep, compareStep, rightParenStep, leftBracketStep, endStep, outsideStep, braceWord, braceEquals, braceBang, braceStep, colonStep, bracketStep, stepIn, munchedBy}
-use Rattle.munch.specs.Rows.{Outside, InBraces, InBrackets, Follows, NumberBegins, StringBegins, StringFails, Row, row10, row11, row12, row13, row14, row15, row16, row17, row18, row19, row20, row21, row22, row23, row24, row25, row26, row27, row28, row29, row30, row31, row32, RowsGiven, OneRow}
+use Rattle.munch.specs.laws.Rows.{Outside, InBraces, InBrackets, Follows, NumberBegins, StringBegins, StringFails, Row, row10, row11, row12, row13, row14, row15, row16, row17, row18, row19, row20, row21, row22, row23, row24, row25, row26, row27, row28, row29, row30, row31, row32, RowsGiven, OneRow}
 
 -- what a step tells: of a refusal, its row
 abbrev Told : Mode → List ℕ → Step → Type 0

@@ -11,12 +11,12 @@ use mathlib.Core.Path.{_≡_, ap}
 use lib.Dec.{eqb}
 use lib.ListN.{drop, length-drop}
 use borrow.Author.Tests.{eqb-true}
-use Rattle.byte.specs.declared.Class.{Class}
-use Rattle.byte.specs.declared.Class.the-variants.{AlphaNumeric, Word}
-use Rattle.byte.specs.Byte.{end, peekAt, isWithin, isDigit, isIn}
-use Rattle.scan.specs.Edge.{Bytes, Edge, first, last, behind, AsciiAlone}
+use Rattle.scan.specs.declared.byte.Class.{Class}
+use Rattle.scan.specs.declared.byte.Class.the-variants.{AlphaNumeric, Word}
+use Rattle.scan.specs.Byte.{end, peekAt, isWithin, isDigit, isIn}
+use Rattle.scan.specs.laws.Edge.{Bytes, Edge, first, last, behind, AsciiAlone}
 use Rattle.scan.specs.Run.{runEnd}
-use Rattle.byte.proofs.Choice.{either}
+use Rattle.proving.proofs.Choice.{either}
 use Rattle.scan.proofs.Edges.{ascii-inside, edge-within, edge-past, edge-run, one-ascii, alpha-ascii, space-ascii, alpha-numeric-ascii, word-ascii}
 use Rattle.token.specs.declared.Keyword.{Keyword}
 use Rattle.token.specs.Kinds.{eqlc, neq, lte, lss, gte, gtr, eqlRegex, neqRegex}
@@ -28,25 +28,25 @@ use Rattle.numeral.proofs.Within.{numeral-within}
 use Rattle.quoted.specs.declared.Quoted.{Quoted}
 use Rattle.quoted.specs.declared.Quoted.the-variants as quoting
 use Rattle.quoted.specs.Quoted.{quotedOf, commentEnd}
-use Rattle.quoted.specs.Laws.{Lies}
+use Rattle.quoted.specs.laws.Quoted.{Lies}
 use Rattle.quoted.proofs.Strings.{string-within}
 use Rattle.quoted.proofs.Comments.{comment-few, comment-within}
-use Rattle.lead.specs.declared.Lead.{Lead}
-use Rattle.lead.specs.declared.Lead.the-variants as lead
-use Rattle.lead.specs.declared.BraceLead.{BraceLead}
-use Rattle.lead.specs.declared.BraceLead.the-variants as brace
-use Rattle.lead.specs.declared.BracketLead.{BracketLead}
-use Rattle.lead.specs.declared.BracketLead.the-variants as bracket
-use Rattle.lead.specs.Lead.{leadOf, braceLeadOf, bracketLeadOf}
-use Rattle.lead.specs.Laws.{Begun, BraceBegun, BracketBegun}
-use Rattle.lead.proofs.Leads.{start-ascii, quote-ascii, lead-begun, brace-lead-begun, bracket-lead-begun}
+use Rattle.munch.specs.declared.lead.Lead.{Lead}
+use Rattle.munch.specs.declared.lead.Lead.the-variants as lead
+use Rattle.munch.specs.declared.lead.BraceLead.{BraceLead}
+use Rattle.munch.specs.declared.lead.BraceLead.the-variants as brace
+use Rattle.munch.specs.declared.lead.BracketLead.{BracketLead}
+use Rattle.munch.specs.declared.lead.BracketLead.the-variants as bracket
+use Rattle.munch.specs.Lead.{leadOf, braceLeadOf, bracketLeadOf}
+use Rattle.munch.specs.laws.Lead.{Begun, BraceBegun, BracketBegun}
+use Rattle.munch.proofs.lead.Leads.{start-ascii, quote-ascii, lead-begun, brace-lead-begun, bracket-lead-begun}
 use Rattle.munch.specs.declared.Inside.{Inside}
 use Rattle.munch.specs.declared.Inside.the-variants.{Nothing, Braces, Brackets}
 use Rattle.munch.specs.declared.Mode.{Mode}
 use Rattle.munch.specs.declared.Step.{Step}
 use Rattle.munch.specs.declared.Step.the-variants.{Lexeme, Refused}
 use Rattle.munch.specs.Munch.{mode, ifNext, numberBy, numberStep, dotStep, quotedBy, quotedStep, commentStep, wordStep, equalsStep, bangStep, compareStep, rightParenStep, leftBracketStep, endStep, outsideStep, braceWord, braceEquals, braceBang, braceStep, colonStep, bracketStep, stepIn, munchedBy}
-use Rattle.munch.specs.Laws.{Past, Goes, StepGoes}
+use Rattle.munch.specs.laws.Step.{Past, Goes, StepGoes}
 
 -- the bytes that a word goes on with are ASCII
 in-word-ascii : AsciiAlone (isIn Word)

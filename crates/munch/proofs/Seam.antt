@@ -13,11 +13,11 @@ use mathlib.Core.Path.{_≡_, refl, sym}
 use lib.Dec.{eqb}
 use lib.ListN.{length, take, List·getD-append, List·getD-eq-default}
 use lib.Seq.{take-append-le}
-use Rattle.byte.specs.declared.Class.{Class}
-use Rattle.byte.specs.declared.Class.the-variants as class
-use Rattle.byte.specs.Byte.{end, peekAt, isWithin, isAlpha, isDigit, isAlphaNumeric, isWord, isIn}
+use Rattle.scan.specs.declared.byte.Class.{Class}
+use Rattle.scan.specs.declared.byte.Class.the-variants as class
+use Rattle.scan.specs.Byte.{end, peekAt, isWithin, isAlpha, isDigit, isAlphaNumeric, isWord, isIn}
 use Rattle.scan.specs.Run.{runEnd}
-use Rattle.byte.proofs.Choice.{either}
+use Rattle.proving.proofs.Choice.{either}
 use Rattle.scan.proofs.Runs.{run-within, run-append, run-inside, peek-append}
 use Rattle.token.specs.declared.Keyword.{Keyword}
 use Rattle.token.specs.declared.Keyword.the-variants as keyword
@@ -28,21 +28,21 @@ use Rattle.quoted.specs.declared.Quoted.the-variants as quoting
 use Rattle.quoted.specs.Quoted.{quotedOf, commentEnd}
 use Rattle.quoted.proofs.Strings.{string-seam}
 use Rattle.quoted.proofs.Comments.{comment-seam}
-use Rattle.lead.specs.declared.Lead.{Lead}
-use Rattle.lead.specs.declared.Lead.the-variants as lead
-use Rattle.lead.specs.declared.BraceLead.{BraceLead}
-use Rattle.lead.specs.declared.BraceLead.the-variants as brace
-use Rattle.lead.specs.declared.BracketLead.{BracketLead}
-use Rattle.lead.specs.declared.BracketLead.the-variants as bracket
-use Rattle.lead.specs.Lead.{leadOf, braceLeadOf, bracketLeadOf}
-use Rattle.word.specs.Word.{isFill, isCalled, ruleBy, isOr, braceRule, kindBy}
+use Rattle.munch.specs.declared.lead.Lead.{Lead}
+use Rattle.munch.specs.declared.lead.Lead.the-variants as lead
+use Rattle.munch.specs.declared.lead.BraceLead.{BraceLead}
+use Rattle.munch.specs.declared.lead.BraceLead.the-variants as brace
+use Rattle.munch.specs.declared.lead.BracketLead.{BracketLead}
+use Rattle.munch.specs.declared.lead.BracketLead.the-variants as bracket
+use Rattle.munch.specs.Lead.{leadOf, braceLeadOf, bracketLeadOf}
+use Rattle.munch.specs.Word.{isFill, isCalled, ruleBy, isOr, braceRule, kindBy}
 use Rattle.munch.specs.declared.Inside.{Inside}
 use Rattle.munch.specs.declared.Inside.the-variants.{Nothing, Braces, Brackets}
 use Rattle.munch.specs.declared.Mode.{Mode}
 use Rattle.munch.specs.declared.Step.{Step}
 use Rattle.munch.specs.declared.Step.the-variants.{Lexeme, Comment, Refused}
 use Rattle.munch.specs.Munch.{mode, numberStep, dotStep, quotedBy, quotedStep, commentStep, wordStep, equalsStep, bangStep, compareStep, outsideStep, braceWord, braceEquals, braceBang, braceStep, bracketStep, stepIn, munchedBy}
-use Rattle.munch.specs.Laws.{Seam, same, grown, called, refused, StepSeam}
+use Rattle.munch.specs.laws.Step.{Seam, same, grown, called, refused, StepSeam}
 
 -- no word goes on with a newline, and it is no digit, as the end is none
 word-line : isIn class.Word (code "\n") ≡ false

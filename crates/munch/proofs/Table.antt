@@ -3,15 +3,15 @@ use Prim.Native.Nat.{ℕ}
 use mathlib.Core.List.{List}
 use mathlib.Core.Path.{_≡_, refl}
 use lib.ListN.{take}
-use Rattle.byte.specs.declared.Class.the-variants as class
-use Rattle.byte.specs.Byte.{peekAt, isIn}
+use Rattle.scan.specs.declared.byte.Class.the-variants as class
+use Rattle.scan.specs.Byte.{peekAt, isIn}
 use Rattle.scan.specs.Run.{runEnd}
 use Rattle.token.specs.Words.{keywordOf}
-use Rattle.token.specs.WordRows.{wordTable, keywordIn}
+use Rattle.token.specs.steps.WordRows.{wordTable, keywordIn}
 use Rattle.token.proofs.Lookup.{table-finds}
-use Rattle.lead.specs.declared.Lead.{Lead}
-use Rattle.lead.specs.declared.Lead.the-variants as lead
-use Rattle.lead.specs.Lead.{leadOf}
+use Rattle.munch.specs.declared.lead.Lead.{Lead}
+use Rattle.munch.specs.declared.lead.Lead.the-variants as lead
+use Rattle.munch.specs.Lead.{leadOf}
 use Rattle.munch.specs.declared.Inside.{Inside}
 use Rattle.munch.specs.declared.Inside.the-variants.{Nothing, Braces, Brackets}
 use Rattle.munch.specs.declared.Mode.{Mode}

@@ -1,6 +1,6 @@
 -- Any two answers that the promise of a public function allows are equal: both equal the definition.
 use mathlib.Core.Path.{sym, _∙_}
-use Rattle.byte.proofs.One.{OneAnswer}
+use Rattle.proving.proofs.One.{OneAnswer}
 use Rattle.munch.proofs.munch_in.Kinds as munch-in
 use Rattle.munch.proofs.munch_in.Reads as munch-in-reads
 use Rattle.munch.proofs.munch.Kinds as munch

@@ -5,9 +5,9 @@ use mathlib.Core.Bool.{true, false}
 use mathlib.Core.List.{List, [], _∷_}
 use mathlib.Core.Path.{_≡_}
 use denote.Ref.{now}
-use Rattle.byte.specs.Ascii.{ascii}
-use Rattle.byte.specs.Byte.{isWithin, isIn, isSpace, isAlpha, isAlphaNumeric, isWord, isLine, lowered}
-use Rattle.byte.proofs.One.{Answers}
+use Rattle.scan.specs.Ascii.{ascii}
+use Rattle.scan.specs.Byte.{isWithin, isIn, isSpace, isAlpha, isAlphaNumeric, isWord, isLine, lowered}
+use Rattle.proving.proofs.One.{Answers}
 use Rattle.scan.specs.Run.{runLength}
 use Rattle.scan.specs.Text.{has, sameText}
 use Rattle.utf8.specs.Table.{fits, sizeIn, charLength}
@@ -15,11 +15,11 @@ use Rattle.utf8.specs.Code.{codeOf}
 use Rattle.utf8.specs.Text.{charsPast, sizeOf}
 use Rattle.token.specs.Kinds.{identifier, string, rightParen, leftBracket, comma, lor}
 use Rattle.token.specs.Words.{word, words, kindIn, keywordOf}
-use Rattle.token.specs.Padded.{padded}
-use Rattle.token.specs.WordRows.{tableOf, isRow, foundIn, keywordIn}
+use Rattle.token.specs.steps.Padded.{padded}
+use Rattle.token.specs.steps.WordRows.{tableOf, isRow, foundIn, keywordIn}
 use Rattle.quoted.specs.Quoted.{quotedFrom, commentEnd}
-use Rattle.lead.specs.Lead.{symbolOf, leadOf, braceSymbolOf, braceLeadOf, bracketSymbolOf, bracketLeadOf}
-use Rattle.word.specs.Word.{isFill, ruleBy, isOr, braceRule, kindBy}
+use Rattle.munch.specs.Lead.{symbolOf, leadOf, braceSymbolOf, braceLeadOf, bracketSymbolOf, bracketLeadOf}
+use Rattle.munch.specs.Word.{isFill, ruleBy, isOr, braceRule, kindBy}
 use Rattle.munch.specs.declared.Inside.the-variants.{Nothing, Braces, Brackets}
 use Rattle.munch.specs.declared.Mode.{Mode}
 use Rattle.munch.specs.declared.Step.{Step}

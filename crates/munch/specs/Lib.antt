@@ -1,3 +1,4 @@
+pub mod Lead
 pub mod Munch
-pub mod Laws
-pub mod Rows
+pub mod Word
+pub mod laws

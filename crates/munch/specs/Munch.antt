@@ -7,8 +7,8 @@ use mathlib.Core.Bool.{Bool, true, false, cond}
 use mathlib.Core.List.{List}
 use lib.Dec.{eqb, ltb}
 use lib.ListN.{take, drop}
-use Rattle.byte.specs.declared.Class.the-variants.{AlphaNumeric, Word}
-use Rattle.byte.specs.Byte.{end, peekAt, isDigit, isIn}
+use Rattle.scan.specs.declared.byte.Class.the-variants.{AlphaNumeric, Word}
+use Rattle.scan.specs.Byte.{end, peekAt, isDigit, isIn}
 use Rattle.scan.specs.Run.{runEnd}
 use Rattle.token.specs.declared.Keyword.{Keyword}
 use Rattle.token.specs.Words.{keywordOf}
@@ -19,14 +19,14 @@ use Rattle.numeral.specs.Numeral.{numeralOf}
 use Rattle.quoted.specs.declared.Quoted.{Quoted}
 use Rattle.quoted.specs.declared.Quoted.the-variants as quoting
 use Rattle.quoted.specs.Quoted.{quotedOf, commentEnd}
-use Rattle.lead.specs.declared.Lead.{Lead}
-use Rattle.lead.specs.declared.Lead.the-variants as lead
-use Rattle.lead.specs.declared.BraceLead.{BraceLead}
-use Rattle.lead.specs.declared.BraceLead.the-variants as brace
-use Rattle.lead.specs.declared.BracketLead.{BracketLead}
-use Rattle.lead.specs.declared.BracketLead.the-variants as bracket
-use Rattle.lead.specs.Lead.{leadOf, braceLeadOf, bracketLeadOf}
-use Rattle.word.specs.Word.{ruleBy, braceRule, kindBy}
+use Rattle.munch.specs.declared.lead.Lead.{Lead}
+use Rattle.munch.specs.declared.lead.Lead.the-variants as lead
+use Rattle.munch.specs.declared.lead.BraceLead.{BraceLead}
+use Rattle.munch.specs.declared.lead.BraceLead.the-variants as brace
+use Rattle.munch.specs.declared.lead.BracketLead.{BracketLead}
+use Rattle.munch.specs.declared.lead.BracketLead.the-variants as bracket
+use Rattle.munch.specs.Lead.{leadOf, braceLeadOf, bracketLeadOf}
+use Rattle.munch.specs.Word.{ruleBy, braceRule, kindBy}
 use Rattle.munch.specs.declared.Inside.{Inside}
 use Rattle.munch.specs.declared.Inside.the-variants.{Nothing, Braces, Brackets}
 use Rattle.munch.specs.declared.Mode.{Mode}

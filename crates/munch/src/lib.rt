@@ -1,21 +1,24 @@
 // One step of reading a query: what the bytes that are left begin with, by the mode that those before have led to.
 // Document 01's rows that refuse it are numbered in `refusals`.
+pub mod lead;
 mod refusals;
+pub mod word;
 
-use byte::Class;
-use lead::BraceLead;
-use lead::BracketLead;
-use lead::Lead;
+use crate::lead::BraceLead;
+use crate::lead::BracketLead;
+use crate::lead::Lead;
 use numeral::Numeral;
 use quoted::Quoted;
+use scan::byte;
+use scan::byte::Class;
 use token::kinds;
 ghost use mathlib.Core.Path.{_≡_};
 ghost use mathlib.Core.Bool.{true};
 ghost use Prim.Native.Nat.{ℕ, suc, _^_, _<_};
 ghost use lib.ListN.{length};
-ghost use Rattle.byte.specs.Byte.{peekAt};
-ghost use Rattle.token.specs.WordRows.{keywordIn};
-ghost use Rattle.lead.specs.Lead.{isQuote, leadOf, braceLeadOf, bracketLeadOf};
+ghost use Rattle.scan.specs.Byte.{peekAt};
+ghost use Rattle.token.specs.steps.WordRows.{keywordIn};
+ghost use Rattle.munch.specs.Lead.{isQuote, leadOf, braceLeadOf, bracketLeadOf};
 ghost use Rattle.numeral.specs.declared.Numeral.the-variants.{Number};
 ghost use Rattle.quoted.specs.declared.Quoted.the-variants as quoting;
 ghost use Rattle.munch.specs.Munch.{mode, deeper, ifNext, numberBy, numberStep, dotStep, stringRefused, quotedStep, commentStep, wordStep, equalsStep, bangStep, compareStep, leftBracketStep, rightParenStep, endStep, outsideStep, braceWord, braceEquals, braceBang, braceStep, colonStep, bracketStep, munchedBy, munched};

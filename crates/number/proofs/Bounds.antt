@@ -4,12 +4,12 @@ use native.Mathlib.Omega.{arith}
 use mathlib.Core.Bool.{Bool, _&&_}
 use mathlib.Core.List.{List}
 use lib.Ieee.{unlike}
-use Rattle.byte.proofs.Choice.{either}
+use Rattle.proving.proofs.Choice.{either}
 use Rattle.utf8.specs.declared.Admission.{Admission}
 use Rattle.utf8.specs.declared.Admission.the-variants as admission
 use Rattle.utf8.specs.Answers.{admitted}
 use Rattle.utf8.proofs.Bounds as within
-use Rattle.sign.specs.Sign.{isMinus}
+use Rattle.scan.specs.Sign.{isMinus}
 use Rattle.decimal.specs.declared.Notation.{Notation}
 use Rattle.decimal.specs.declared.Decimal.{Decimal}
 use Rattle.decimal.specs.declared.Decimal.the-variants.{NotDecimal, Named, Exact, Outside}

@@ -11,20 +11,21 @@ use mathlib.Core.Path.{_≡_, refl, sym, ap, _∙_}
 use lib.Dec.{eqb}
 use lib.Ieee.{nan, inf}
 use lib.ListN.{length}
-use Rattle.byte.specs.Byte.{peekAt, isDigitIn}
-use Rattle.byte.proofs.Choice.{and-left, and-right, exactly}
-use Rattle.scan.proofs.Tests.{Tests, affirmed, decided, itself, tests-or, tests-and, tests-not, tests-eq, tests-lt, tests-le, tests-has}
+use Rattle.scan.specs.Byte.{peekAt, isDigitIn}
+use Rattle.proving.proofs.Choice.{and-left, and-right, exactly}
+use Rattle.proving.proofs.Tests.{Tests, affirmed, decided, itself, tests-or, tests-and, tests-not, tests-eq, tests-lt, tests-le}
+use Rattle.scan.proofs.Stands.{tests-has}
 use Rattle.utf8.specs.Text.{prefixEnd, WellFormed}
 use Rattle.utf8.specs.Answers.{placeAt, tooLong, notUtf8}
-use Rattle.utf8.specs.Refusals.{TooLong, NotUtf8, Taken}
+use Rattle.utf8.specs.laws.Refusals.{TooLong, NotUtf8, Taken}
 use Rattle.utf8.proofs.Given.{given-exactly}
 use Rattle.decimal.specs.declared.Number.{Number}
 use Rattle.decimal.specs.declared.Decimal.{Decimal}
 use Rattle.decimal.specs.declared.Decimal.the-variants.{NotDecimal, Named, Exact, Outside}
-use Rattle.sign.specs.Sign.{pastSign, isMinus}
+use Rattle.scan.specs.Sign.{pastSign, isMinus}
 use Rattle.decimal.specs.Grammar.{isNumeral, isInfinite, isNan}
 use Rattle.decimal.specs.Value.{radixOf, plain, longest, decimalOf}
-use Rattle.decimal.specs.Laws.{nearestOf, Infinite, Nan, Numeral, InExact}
+use Rattle.decimal.specs.laws.Decimal.{nearestOf, Infinite, Nan, Numeral, InExact}
 use Rattle.decimal.proofs.Given.{decimal-given, decided-exact}
 use Rattle.number.specs.declared.Integer.the-variants as integer
 use Rattle.number.specs.declared.Parsing.{Parsing}
@@ -33,7 +34,7 @@ use Rattle.number.specs.White.{plainText}
 use Rattle.number.specs.Signed.{mostOf, isI64}
 use Rattle.number.specs.Integer.{isDigits, unsignedOf, isWhole, integerOf}
 use Rattle.number.specs.Number.{outsideExact, notNumber, outsideI64, leadsZero, behindZero, hasDecimalMark, isZeroLed, isMarked, notationOf, followsMark, integerNumber, integerBy, markedRead, decimalRead, numberOf, parsingOf}
-use Rattle.number.specs.Refusals.{ZeroLed, Marked, AllDigits, Whole, magnitude, own, negative, InI64, OutsideExact, NotNumber, OutsideI64, IntegerIs, DecimalIs, ParsingGiven}
+use Rattle.number.specs.laws.Refusals.{ZeroLed, Marked, AllDigits, Whole, magnitude, own, negative, InI64, OutsideExact, NotNumber, OutsideI64, IntegerIs, DecimalIs, ParsingGiven}
 use Rattle.number.proofs.Kept.{plain-few}
 
 -- the conditions and their tests

@@ -7,11 +7,11 @@ use mathlib.Core.List.{List, [], _∷_, _++_, append-nil}
 use mathlib.Core.Logic.{_⊎_, inl, inr, ⊎-elim}
 use mathlib.Core.Path.{_≡_, refl, ap, _∙_}
 use lib.ListN.{length, drop, length-append, drop-of-length-le}
-use Rattle.byte.specs.Byte.{lowered}
-use Rattle.byte.proofs.Classes.{lowered-above, lowered-ascii}
+use Rattle.scan.specs.Byte.{lowered}
+use Rattle.scan.proofs.byte.Classes.{lowered-above, lowered-ascii}
 use Rattle.utf8.specs.Code.{isScalar, encoded}
 use Rattle.utf8.specs.Text.{codesOf, WellFormed}
-use Rattle.utf8.specs.Laws.{textOf, Standing}
+use Rattle.utf8.specs.laws.Characters.{textOf, Standing}
 use Rattle.utf8.proofs.Ascii.{ascii-bytes, ascii-text}
 use Rattle.utf8.proofs.Bounds.{byte-scalar}
 use Rattle.utf8.proofs.Inverse.{codes-text}

@@ -6,7 +6,7 @@ use mathlib.Core.List.{List}
 use mathlib.Core.Path.{_≡_}
 use lib.ListN.{length}
 use borrow.Author.Tests.{eqb-true}
-use Rattle.byte.specs.Byte.{peekAt}
+use Rattle.scan.specs.Byte.{peekAt}
 use Rattle.scan.proofs.Runs.{peek-inside}
 use Rattle.number.specs.Number.{isZeroAt}
 

@@ -10,19 +10,19 @@ use mathlib.Core.Path.{_≡_, refl, ap, _∙_}
 use lib.Dec.{eqb}
 use lib.ListN.{length, drop}
 use borrow.Author.Tests.{eq-eqb, ne-eqb, eqb-true}
-use Rattle.byte.specs.Ascii.{ascii}
-use Rattle.byte.specs.Byte.{end, peekAt}
-use Rattle.byte.proofs.Classes.{digit-bounds}
-use Rattle.sign.specs.Sign.{pastSign, isMinus}
+use Rattle.scan.specs.Ascii.{ascii}
+use Rattle.scan.specs.Byte.{end, peekAt}
+use Rattle.scan.proofs.byte.Classes.{digit-bounds}
+use Rattle.scan.specs.Sign.{pastSign, isMinus}
 use Rattle.decimal.specs.declared.Notation.{Notation}
 use Rattle.decimal.specs.declared.Notation.the-variants.{Decimal, Hex, Octal}
 use Rattle.decimal.specs.Value.{radixOf}
-use Rattle.decimal.specs.Spelling.{Sign}
+use Rattle.decimal.specs.laws.Spelling.{Sign}
 use Rattle.decimal.proofs.Cuts.{there, found, next, sign-cut, sign-told, sign-found}
 use Rattle.number.specs.Integer.{unsignedOf}
 use Rattle.number.specs.Number.{behindZero, isHexMark, notationOf, followsMark}
-use Rattle.number.specs.Refusals.{LeadsZero, AllDigits, Whole, own}
-use Rattle.number.specs.Spelling.{mark, IntegerOf, WholeSpelled, PartsSpelled}
+use Rattle.number.specs.laws.Refusals.{LeadsZero, AllDigits, Whole, own}
+use Rattle.number.specs.laws.Spelling.{mark, IntegerOf, WholeSpelled, PartsSpelled}
 
 digits-begin : (radix : ℕ) (ds : List ℕ) → AllDigits radix ds → 0 < length ds → (code "0" ≤ peekAt ds 0) × (peekAt ds 0 ≤ code "f")
 digits-begin radix [] d l = let f : ⊥ = omega arith in absurd f

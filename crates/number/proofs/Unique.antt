@@ -1,6 +1,6 @@
 -- Any two answers that the promise of the public function allows are equal: both equal the definition.
 use mathlib.Core.Path.{sym, _∙_}
-use Rattle.byte.proofs.One.{OneAnswer}
+use Rattle.proving.proofs.One.{OneAnswer}
 use Rattle.number.proofs.parse_str_radix.Kinds as parse-str-radix
 use Rattle.number.proofs.parse_str_radix.Reads as parse-str-radix-reads
 use Rattle.number.proofs.refused_by.Kinds as refused-by

@@ -4,9 +4,9 @@ use mathlib.Core.Bool.{Bool, true, cond, _&&_}
 use mathlib.Core.List.{List, [], _∷_}
 use lib.Dec.{ltb}
 use lib.ListN.{length, drop}
-use Rattle.byte.specs.Byte.{isDigitIn}
+use Rattle.scan.specs.Byte.{isDigitIn}
 use Rattle.decimal.specs.declared.Notation.{Notation}
-use Rattle.sign.specs.Sign.{pastSign, isMinus}
+use Rattle.scan.specs.Sign.{pastSign, isMinus}
 use Rattle.decimal.specs.Value.{radixOf, valueIn, mostTold}
 use Rattle.number.specs.declared.Integer.{Integer}
 use Rattle.number.specs.declared.Integer.the-variants.{Whole, NotInteger}

@@ -1,6 +1,5 @@
-pub mod White
-pub mod Signed
 pub mod Integer
 pub mod Number
-pub mod Refusals
-pub mod Spelling
+pub mod Signed
+pub mod White
+pub mod laws

@@ -6,7 +6,7 @@ use mathlib.Core.List.{List}
 use lib.Dec.{eqb}
 use lib.Ieee.{unlike, binary64, ofInt}
 use lib.ListN.{length, drop}
-use Rattle.byte.specs.Byte.{peekAt}
+use Rattle.scan.specs.Byte.{peekAt}
 use Rattle.scan.specs.Text.{has}
 use Rattle.utf8.specs.declared.Refusal.{Refusal}
 use Rattle.utf8.specs.declared.Admission.{Admission}
@@ -17,7 +17,7 @@ use Rattle.decimal.specs.declared.Notation.the-variants.{Hex, Octal}
 use Rattle.decimal.specs.declared.Number.{Number}
 use Rattle.decimal.specs.declared.Decimal.{Decimal}
 use Rattle.decimal.specs.declared.Decimal.the-variants.{NotDecimal, Named, Exact, Outside}
-use Rattle.sign.specs.Sign.{pastSign, isMinus}
+use Rattle.scan.specs.Sign.{pastSign, isMinus}
 use Rattle.decimal.specs.Value.{longest, decimalOf}
 use Rattle.number.specs.declared.Parsing.{Parsing}
 use Rattle.number.specs.declared.Parsing.the-variants.{Value, Refused}

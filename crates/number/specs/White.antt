@@ -3,9 +3,9 @@ use Prim.Native.Nat.{ℕ}
 use mathlib.Core.Bool.{Bool, cond, _||_}
 use mathlib.Core.List.{List, [], _∷_}
 use lib.Dec.{eqb}
-use Rattle.byte.specs.Byte.{isWithin, lowered}
+use Rattle.scan.specs.Byte.{isWithin, lowered}
 use Rattle.utf8.specs.Text.{codesOf}
-use Rattle.utf8.specs.Laws.{textOf}
+use Rattle.utf8.specs.laws.Characters.{textOf}
 
 -- "Unicode White_Space"
 unfoldable pub isWhite : ℕ → Bool

@@ -8,18 +8,18 @@ use mathlib.Core.Path.{_≡_, refl, ap, _∙_}
 use lib.Dec.{eqb}
 use lib.ListN.{length, drop}
 use lib.Seq.{drop-append-le}
-use Rattle.byte.specs.declared.Class.{Class}
-use Rattle.byte.specs.declared.Class.the-variants.{Digit, HexDigit}
-use Rattle.byte.specs.Byte.{end, peekAt, lowered, isWithin, isAlpha, isHexDigit, isIn}
+use Rattle.scan.specs.declared.byte.Class.{Class}
+use Rattle.scan.specs.declared.byte.Class.the-variants.{Digit, HexDigit}
+use Rattle.scan.specs.Byte.{end, peekAt, lowered, isWithin, isAlpha, isHexDigit, isIn}
 use Rattle.scan.specs.Run.{runEnd}
-use Rattle.byte.proofs.Choice.{either-same}
+use Rattle.proving.proofs.Choice.{either-same}
 use Rattle.scan.proofs.Edges.{edge-within, alpha-ascii}
 use Rattle.scan.proofs.Runs.{run-within, run-append, peek-append}
-use Rattle.sign.specs.Sign.{isSign, pastSign}
+use Rattle.scan.specs.Sign.{isSign, pastSign}
 use Rattle.numeral.specs.declared.Part.{Part}
 use Rattle.numeral.specs.declared.Part.the-variants.{Unit, UnitS, Digits}
 use Rattle.numeral.specs.Numeral.{isHex, fractionEnd, mantissaEnd, exponentEnd, numberEnd, isUnit, isFirstUnit, stopOf, turnOf, turned, partOf, durationFrom, numeralOf}
-use Rattle.numeral.specs.Laws.{NumeralSeam}
+use Rattle.numeral.specs.laws.Numeral.{NumeralSeam}
 use Rattle.numeral.proofs.Within.{point-ascii, letter-ascii, past, sign-edge, hex-edge, digitsEnd, digits-edge, number-edge}
 
 -- a test that takes a newline as it takes the end

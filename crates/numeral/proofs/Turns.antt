@@ -9,9 +9,9 @@ use mathlib.Core.Path.{_≡_, refl}
 use mathlib.Core.List.{List, [], _∷_}
 use lib.Dec.{eqb}
 use lib.ListN.{length, drop}
-use Rattle.byte.specs.Byte.{end, peekAt, isWithin, isAlpha, isDigit}
-use Rattle.scan.specs.Edge.{AsciiAlone}
-use Rattle.byte.proofs.Choice.{either}
+use Rattle.scan.specs.Byte.{end, peekAt, isWithin, isAlpha, isDigit}
+use Rattle.scan.specs.laws.Edge.{AsciiAlone}
+use Rattle.proving.proofs.Choice.{either}
 use Rattle.scan.proofs.Edges.{ascii-inside, one-ascii, or-ascii, digit-ascii}
 use Rattle.numeral.specs.declared.Part.{Part}
 use Rattle.numeral.specs.declared.Part.the-variants.{Unit, UnitS, Digits}

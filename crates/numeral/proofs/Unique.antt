@@ -1,6 +1,6 @@
 -- Any two answers that the promise of the public function allows are equal: both equal the definition.
 use mathlib.Core.Path.{sym, _∙_}
-use Rattle.byte.proofs.One.{OneAnswer}
+use Rattle.proving.proofs.One.{OneAnswer}
 use Rattle.numeral.proofs.scan_number.Kinds as scan-number
 use Rattle.numeral.proofs.scan_number.Reads as scan-number-reads
 use Rattle.numeral.proofs.taken.Kinds as taken

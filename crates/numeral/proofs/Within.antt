@@ -9,24 +9,24 @@ use mathlib.Core.List.{List}
 use mathlib.Core.Path.{_≡_, refl}
 use lib.Dec.{eqb}
 use lib.ListN.{length, drop}
-use Rattle.byte.specs.declared.Class.{Class}
-use Rattle.byte.specs.declared.Class.the-variants.{Digit, HexDigit}
-use Rattle.byte.specs.Byte.{peekAt, lowered, isWithin, isAlpha, isDigit, isIn}
-use Rattle.scan.specs.Edge.{Edge, first, behind, AsciiAlone}
+use Rattle.scan.specs.declared.byte.Class.{Class}
+use Rattle.scan.specs.declared.byte.Class.the-variants.{Digit, HexDigit}
+use Rattle.scan.specs.Byte.{peekAt, lowered, isWithin, isAlpha, isDigit, isIn}
+use Rattle.scan.specs.laws.Edge.{Edge, first, behind, AsciiAlone}
 use Rattle.scan.specs.Run.{runEnd}
-use Rattle.byte.proofs.Choice.{either, and-right}
-use Rattle.byte.proofs.Classes.{end-in-none}
+use Rattle.proving.proofs.Choice.{either, and-right}
+use Rattle.scan.proofs.byte.Classes.{end-in-none}
 use Rattle.scan.proofs.Edges.{edge-past, edge-run, one-ascii, within-ascii, or-ascii, digit-ascii, hex-ascii, alpha-ascii}
 use Rattle.scan.proofs.Runs.{goes-on, run-stops}
-use Rattle.sign.specs.Sign.{isSign, pastSign}
-use Rattle.sign.proofs.Places.{sign-ascii}
+use Rattle.scan.specs.Sign.{isSign, pastSign}
+use Rattle.scan.proofs.sign.Places.{sign-ascii}
 use Rattle.numeral.specs.declared.Part.{Part}
 use Rattle.numeral.specs.declared.Part.the-variants.{Unit}
 use Rattle.numeral.specs.declared.Turn.{Turn}
 use Rattle.numeral.specs.declared.Turn.the-variants.{On, Ends, Fails}
 use Rattle.numeral.specs.declared.Numeral.{Numeral}
 use Rattle.numeral.specs.Numeral.{isHex, fractionEnd, mantissaEnd, exponentEnd, numberEnd, isFirstUnit, turnOf, turned, partOf, durationFrom, taken, numeralOf}
-use Rattle.numeral.specs.Laws.{NumeralWithin}
+use Rattle.numeral.specs.laws.Numeral.{NumeralWithin}
 use Rattle.numeral.proofs.Turns.{on-ascii, on-inside, duration-at}
 
 -- the bytes that a number is told by are ASCII: its digits, its point, the letter of its exponent

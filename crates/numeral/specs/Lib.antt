@@ -1,2 +1,2 @@
 pub mod Numeral
-pub mod Laws
+pub mod laws

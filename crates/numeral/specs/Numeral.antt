@@ -6,11 +6,11 @@ use mathlib.Core.Bool.{Bool, cond, _&&_, _||_}
 use mathlib.Core.List.{List, [], _∷_}
 use lib.Dec.{eqb}
 use lib.ListN.{drop}
-use Rattle.byte.specs.declared.Class.{Class}
-use Rattle.byte.specs.declared.Class.the-variants.{Digit, HexDigit}
-use Rattle.byte.specs.Byte.{end, peekAt, lowered, isAlpha, isDigit, isIn}
+use Rattle.scan.specs.declared.byte.Class.{Class}
+use Rattle.scan.specs.declared.byte.Class.the-variants.{Digit, HexDigit}
+use Rattle.scan.specs.Byte.{end, peekAt, lowered, isAlpha, isDigit, isIn}
 use Rattle.scan.specs.Run.{runEnd}
-use Rattle.sign.specs.Sign.{pastSign}
+use Rattle.scan.specs.Sign.{pastSign}
 use Rattle.numeral.specs.declared.Part.{Part}
 use Rattle.numeral.specs.declared.Part.the-variants.{Unit, UnitS, Digits}
 use Rattle.numeral.specs.declared.Turn.{Turn}

@@ -1,6 +1,8 @@
 // Numbers and durations in a query: where the one or the other ends that bytes begin with. What it says is read by `number`, and by
 // `duration`.
-use byte::Class;
+use scan::byte;
+use scan::byte::Class;
+use scan::sign;
 ghost use mathlib.Core.Path.{_≡_};
 ghost use lib.ListN.{drop};
 ghost use Rattle.numeral.specs.Numeral.{isHex, fractionEnd, exponentEnd, mantissaEnd, numberEnd, isUnit, stopOf, turnOf, durationFrom, taken, numeralOf};

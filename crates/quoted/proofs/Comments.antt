@@ -10,16 +10,16 @@ use mathlib.Core.Path.{_≡_, refl, sym, ap, subst}
 use lib.Dec.{ltb}
 use lib.ListN.{length, length-append}
 use borrow.Author.Tests.{lt-ltb, ltb-true, ltb-false}
-use Rattle.byte.specs.declared.Class.the-variants.{Line}
-use Rattle.byte.specs.Byte.{end, isIn, isLine, peekAt}
-use Rattle.scan.specs.Edge.{Edge, last, behind}
+use Rattle.scan.specs.declared.byte.Class.the-variants.{Line}
+use Rattle.scan.specs.Byte.{end, isIn, isLine, peekAt}
+use Rattle.scan.specs.laws.Edge.{Edge, last, behind}
 use Rattle.scan.specs.Run.{runEnd}
-use Rattle.byte.proofs.Below.{below}
-use Rattle.byte.proofs.Choice.{either}
-use Rattle.byte.proofs.Classes.{end-in-none}
+use Rattle.proving.proofs.Below.{below}
+use Rattle.proving.proofs.Choice.{either}
+use Rattle.scan.proofs.byte.Classes.{end-in-none}
 use Rattle.scan.proofs.Runs.{run-within, run-stopped, run-append}
 use Rattle.quoted.specs.Quoted.{commentEnd}
-use Rattle.quoted.specs.Laws.{CommentWithin, CommentSeam}
+use Rattle.quoted.specs.laws.Quoted.{CommentWithin, CommentSeam}
 
 -- a byte outside the class, by one test of them all
 line-end : (c : ℕ) → c < end → isIn Line c ≡ false → c < 0x80

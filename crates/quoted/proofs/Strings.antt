@@ -9,14 +9,14 @@ use mathlib.Core.Logic.{inl, inr}
 use mathlib.Core.Path.{_≡_, refl, sym, subst}
 use lib.Dec.{eqb}
 use lib.ListN.{length, drop}
-use Rattle.byte.specs.Byte.{end, peekAt, backslash}
-use Rattle.scan.specs.Edge.{Edge, first, last}
-use Rattle.byte.proofs.Choice.{either}
+use Rattle.scan.specs.Byte.{end, peekAt, backslash}
+use Rattle.scan.specs.laws.Edge.{Edge, first, last}
+use Rattle.proving.proofs.Choice.{either}
 use Rattle.scan.proofs.Edges.{edge-past, one-ascii}
 use Rattle.quoted.specs.declared.Quoted.{Quoted}
 use Rattle.quoted.specs.declared.Quoted.the-variants.{Closed}
 use Rattle.quoted.specs.Quoted.{isEscape, quotedFrom}
-use Rattle.quoted.specs.Laws.{Lies, StringWithin, Numbered, StringNumbered, StringSeam}
+use Rattle.quoted.specs.laws.Quoted.{Lies, StringWithin, Numbered, StringNumbered, StringSeam}
 use Rattle.quoted.proofs.Turns.{past-end, escaped-turn, plain-turn}
 
 -- behind an ASCII byte is an edge

@@ -8,7 +8,7 @@ use mathlib.Core.Path.{_≡_}
 use lib.Dec.{eqb}
 use lib.ListN.{length, getD, drop, drop-of-length-le}
 use lib.Seq.{drop-cons}
-use Rattle.byte.specs.Byte.{backslash}
+use Rattle.scan.specs.Byte.{backslash}
 use Rattle.quoted.specs.declared.Quoted.the-variants.{Closed, Refused}
 use Rattle.quoted.specs.Quoted.{unknownEscape, endInEscape, endInString, isEscape, quotedFrom}
 

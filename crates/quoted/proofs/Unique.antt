@@ -1,6 +1,6 @@
 -- Any two answers that the promise of a public function allows are equal: both equal the definition.
 use mathlib.Core.Path.{sym, _∙_}
-use Rattle.byte.proofs.One.{OneAnswer}
+use Rattle.proving.proofs.One.{OneAnswer}
 use Rattle.quoted.proofs.accept_string.Kinds as accept-string
 use Rattle.quoted.proofs.accept_string.Reads as accept-string-reads
 use Rattle.quoted.proofs.comment_end.Kinds as comment-end

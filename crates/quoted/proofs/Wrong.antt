@@ -5,9 +5,9 @@ use Prim.Native.Char.{code}
 use mathlib.Core.List.{List, []}
 use mathlib.Core.Path.{_≡_, ap, ap₂, _∙_}
 use denote.Ref.{now}
-use Rattle.byte.specs.Ascii.{ascii}
-use Rattle.byte.specs.Byte.{isLine, isIn}
-use Rattle.byte.proofs.One.{Answers}
+use Rattle.scan.specs.Ascii.{ascii}
+use Rattle.scan.specs.Byte.{isLine, isIn}
+use Rattle.proving.proofs.One.{Answers}
 use Rattle.scan.specs.Run.{runLength}
 use Rattle.scan.specs.Text.{has}
 use Rattle.quoted.specs.declared.Quoted.{Quoted}

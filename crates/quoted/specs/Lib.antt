@@ -1,2 +1,2 @@
 pub mod Quoted
-pub mod Laws
+pub mod laws

@@ -4,9 +4,9 @@ use mathlib.Core.Bool.{Bool, true, false, cond, _||_}
 use mathlib.Core.List.{List, [], _∷_}
 use lib.Dec.{eqb, ltb}
 use lib.ListN.{length}
-use Rattle.byte.specs.declared.Class.the-variants.{Line}
-use Rattle.byte.specs.Ascii.{ascii}
-use Rattle.byte.specs.Byte.{backslash, isIn}
+use Rattle.scan.specs.declared.byte.Class.the-variants.{Line}
+use Rattle.scan.specs.Ascii.{ascii}
+use Rattle.scan.specs.Byte.{backslash, isIn}
 use Rattle.scan.specs.Run.{runEnd}
 use Rattle.scan.specs.Text.{has}
 use Rattle.quoted.specs.declared.Quoted.{Quoted}

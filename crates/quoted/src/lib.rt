@@ -1,6 +1,6 @@
 // Strings and comments in a query: where the one or the other ends, by the bytes behind the sign that opens it. What a string says is read
 // by `string`.
-use byte::Class;
+use scan::byte::Class;
 ghost use mathlib.Core.Path.{_≡_};
 ghost use Rattle.quoted.specs.Quoted.{isEscape, quotedOf, commentEnd};
 

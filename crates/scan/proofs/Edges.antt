@@ -9,10 +9,10 @@ use mathlib.Core.Path.{_≡_, refl, sym, subst}
 use lib.Dec.{eqb, ltb}
 use lib.ListN.{length, drop}
 use borrow.Author.Tests.{eqb-true, lt-ltb}
-use Rattle.byte.specs.Byte.{peekAt, isWithin, isSpace, isAlpha, isDigit, isHexDigit, isAlphaNumeric, isWord}
-use Rattle.scan.specs.Edge.{Edge, first, last, behind, AsciiAlone}
+use Rattle.scan.specs.Byte.{peekAt, isWithin, isSpace, isAlpha, isDigit, isHexDigit, isAlphaNumeric, isWord}
+use Rattle.scan.specs.laws.Edge.{Edge, first, last, behind, AsciiAlone}
 use Rattle.scan.specs.Run.{runLength, runEnd}
-use Rattle.byte.proofs.Classes.{within-bounds}
+use Rattle.scan.proofs.byte.Classes.{within-bounds}
 use Rattle.scan.proofs.Runs.{inside, run-passes}
 
 -- an ASCII byte stands within the text

@@ -1,7 +1,6 @@
-pub mod Tests
 pub mod Runs
 pub mod Edges
 pub mod Same
-pub mod Stores
+pub mod Stands
 pub mod Unique
 pub mod Wrong

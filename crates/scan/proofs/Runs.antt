@@ -9,9 +9,9 @@ use mathlib.Core.List.{List, [], _∷_, _++_}
 use lib.Dec.{eqb}
 use lib.Seq.{drop-append-le, getD-drop}
 use lib.ListN.{length, take, drop, length-drop}
-use Rattle.byte.specs.Byte.{end, peekAt}
+use Rattle.scan.specs.Byte.{end, peekAt}
 use Rattle.scan.specs.Run.{runLength, runEnd}
-use Rattle.scan.specs.Laws.{RunWithin, RunPasses, RunStopped, RunStops, RunAppend, RunInside}
+use Rattle.scan.specs.laws.Runs.{RunWithin, RunPasses, RunStopped, RunStops, RunAppend, RunInside}
 
 module _ (p : ℕ → Bool) where
   -- the test decides at the head

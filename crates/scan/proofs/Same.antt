@@ -10,9 +10,9 @@ use lib.ListN.{length, getD, drop, drop-of-length-le}
 use lib.Seq.{drop-cons}
 use lib.Dec.{eqb}
 use borrow.Author.Tests.{eq-eqb, eqb-true}
-use Rattle.byte.proofs.Choice.{and-left, and-right}
+use Rattle.proving.proofs.Choice.{and-left, and-right}
 use Rattle.scan.specs.Text.{sameText}
-use Rattle.scan.specs.Laws.{SameIsEqual}
+use Rattle.scan.specs.laws.Runs.{SameIsEqual}
 
 pub same-turn : (xs ys : List ℕ) (i : ℕ) → i < length xs → i < length ys
     → sameText (drop i xs) (drop i ys) ≡ eqb (getD xs i 0) (getD ys i 0) && sameText (drop (i + 1) xs) (drop (i + 1) ys)

@@ -1,6 +1,6 @@
 -- Any two answers that the promise of a public function allows are equal: both equal the definition.
 use mathlib.Core.Path.{sym, _∙_}
-use Rattle.byte.proofs.One.{OneAnswer}
+use Rattle.proving.proofs.One.{OneAnswer}
 use Rattle.scan.proofs.run_end.Kinds as run-end
 use Rattle.scan.proofs.run_end.Reads as run-end-reads
 use Rattle.scan.proofs.is_text.Kinds as is-text

@@ -6,11 +6,11 @@ use mathlib.Core.Bool.{Bool, true, false}
 use mathlib.Core.List.{List}
 use mathlib.Core.Path.{_≡_, ap₂, _∙_}
 use denote.Ref.{now}
-use Rattle.byte.specs.declared.Class.{Class}
-use Rattle.byte.specs.declared.Class.the-variants.{Digit}
-use Rattle.byte.specs.Ascii.{ascii}
-use Rattle.byte.specs.Byte.{isWithin, isIn}
-use Rattle.byte.proofs.One.{Answers}
+use Rattle.scan.specs.declared.byte.Class.{Class}
+use Rattle.scan.specs.declared.byte.Class.the-variants.{Digit}
+use Rattle.scan.specs.Ascii.{ascii}
+use Rattle.scan.specs.Byte.{isWithin, isIn}
+use Rattle.proving.proofs.One.{Answers}
 use Rattle.scan.specs.Run.{runLength, runEnd}
 use Rattle.scan.specs.Text.{sameText, has}
 use Rattle.scan.proofs.run_end.Kinds as run-end

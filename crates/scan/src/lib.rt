@@ -1,7 +1,10 @@
 // Texts of bytes: where a run of a class ends, whether two texts are one, and whether a byte stands in a text.
-use byte::Class;
+pub mod byte;
+pub mod sign;
+
+use crate::byte::Class;
 ghost use mathlib.Core.Path.{_≡_};
-ghost use Rattle.byte.specs.Byte.{isIn};
+ghost use Rattle.scan.specs.Byte.{isIn};
 ghost use Rattle.scan.specs.Run.{runEnd};
 ghost use Rattle.scan.specs.Text.{sameText, has};
 

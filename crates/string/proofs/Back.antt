@@ -11,24 +11,24 @@ use lib.ListN.{length, length-append}
 use lib.Seq.{take-append-seam, getD-append-seam}
 use borrow.Author.Tests.{ne-eqb, eqb-true, eqb-false, le-leb, not-true}
 use Rattle.scan.specs.Text.{has}
-use Rattle.byte.specs.Byte.{end, peekAt, backslash}
-use Rattle.byte.proofs.Below.{below}
-use Rattle.byte.proofs.Choice.{and-left, and-right}
+use Rattle.scan.specs.Byte.{end, peekAt, backslash}
+use Rattle.proving.proofs.Below.{below}
+use Rattle.proving.proofs.Choice.{and-left, and-right}
 use Rattle.utf8.specs.declared.Reading.{Reading}
 use Rattle.utf8.specs.declared.Reading.the-variants.{Crate, Documented}
 use Rattle.utf8.specs.Text.{WellFormed}
 use Rattle.utf8.proofs.Texts.{One, by-characters}
 use Rattle.utf8.proofs.Laws.{none-empty, rest-well, none-ascii, text-join}
 use Rattle.utf8.proofs.Ascii.{ascii-bytes, ascii-text, one-ascii}
-use Rattle.tile.specs.declared.Form.the-variants.{Letter}
-use Rattle.tile.specs.declared.Tile.the-variants.{Piece}
-use Rattle.tile.specs.Tile.{letterValue, beginsEscape, escapeOf, tileOf}
-use Rattle.escape.specs.Escape.{noLetter, letterOf, escaped}
-use Rattle.escape.specs.Bytes.{escapedBytes}
+use Rattle.string.specs.declared.tile.Form.the-variants.{Letter}
+use Rattle.string.specs.declared.tile.Tile.the-variants.{Piece}
+use Rattle.string.specs.Tile.{letterValue, beginsEscape, escapeOf, tileOf}
+use Rattle.string.specs.Escape.{noLetter, letterOf, escaped}
+use Rattle.string.specs.steps.Bytes.{escapedBytes}
 use Rattle.string.specs.Tiles.{tilesOf, hasBad, pieceBytes, bytesOf}
 use Rattle.string.specs.Literal.{doubleQuote, lineFeed, isQuote, innerOf, isEnclosed, hasNewline}
-use Rattle.string.specs.Laws.{quoted, ReadBack, ReadBackJoin, ReadBackPart}
-use Rattle.escape.proofs.Escapes.{copied, lettered, high-copied, none, bytes-join, by-characters-escaped, escape-join, escaped-text}
+use Rattle.string.specs.laws.ReadBack.{quoted, ReadBack, ReadBackJoin, ReadBackPart}
+use Rattle.string.proofs.escape.Escapes.{copied, lettered, high-copied, none, bytes-join, by-characters-escaped, escape-join, escaped-text}
 use Rattle.string.proofs.Readings.{part-is-text, reads}
 use Rattle.string.proofs.Contents.{tiles-none, first-piece}
 use Rattle.string.proofs.Plain.{plain-bad, plain-bytes, has-join, has-not}

@@ -14,20 +14,20 @@ use lib.Seq.{take-append-seam}
 use Rattle.utf8.specs.declared.Reading.{Reading}
 use Rattle.utf8.specs.Text.{WellFormed}
 use Rattle.utf8.specs.Answers.{textLimit}
-use Rattle.utf8.specs.Refusals.{Taken}
+use Rattle.utf8.specs.laws.Refusals.{Taken}
 use Rattle.utf8.proofs.Laws.{text-join}
-use Rattle.escape.specs.declared.Escaping.{Escaping}
-use Rattle.escape.specs.declared.Escaping.the-variants.{Written}
+use Rattle.string.specs.declared.escape.Escaping.{Escaping}
+use Rattle.string.specs.declared.escape.Escaping.the-variants.{Written}
 use Rattle.string.specs.declared.Unquoting.{Unquoting}
-use Rattle.escape.specs.Escape.{escaped, escapingOf, leftBy}
+use Rattle.string.specs.Escape.{escaped, escapingOf, leftBy}
 use Rattle.string.specs.Literal.{isBadLiteral, unquoted, unquotingOf, textBy, partOf}
-use Rattle.string.specs.Laws.{quoted, isRead}
-use Rattle.escape.proofs.Escapes.{escape-join, escaped-text, written-told}
+use Rattle.string.specs.laws.ReadBack.{quoted, isRead}
+use Rattle.string.proofs.escape.Escapes.{escape-join, escaped-text, written-told}
 use Rattle.string.proofs.Readings.{part-is-text, reads}
 use Rattle.string.proofs.Back.{quoted-text, read-back, read-back-join}
-use Rattle.escape.proofs.Given.{escaping-given}
-use Rattle.escape.proofs.escape_string.Kinds as escape
-use Rattle.escape.proofs.escape_string.Reads as escape-reads
+use Rattle.string.proofs.escape.Given.{escaping-given}
+use Rattle.string.proofs.escape.escape_string.Kinds as escape
+use Rattle.string.proofs.escape.escape_string.Reads as escape-reads
 use Rattle.string.proofs.unquote_string.Kinds as unquote
 use Rattle.string.proofs.unquote_string.Reads as unquote-reads
 use Rattle.string.proofs.part.Kinds as part

@@ -9,19 +9,19 @@ use lib.ListN.{length, drop, length-drop, length-append, drop-of-length-le}
 use lib.Seq.{drop-drop}
 use lib.Dec.{leb}
 use borrow.Author.Tests.{leb-true}
-use Rattle.byte.proofs.Choice.{either}
+use Rattle.proving.proofs.Choice.{either}
 use Rattle.utf8.specs.declared.Reading.{Reading}
 use Rattle.utf8.specs.Code.{encoded}
 use Rattle.utf8.proofs.Ascii.{ascii-bytes}
-use Rattle.tile.specs.declared.Form.{Form}
-use Rattle.tile.specs.declared.Tile.{Tile}
-use Rattle.tile.specs.declared.Tile.the-variants.{Piece, Bad}
-use Rattle.tile.specs.Tile.{tileOf}
-use Rattle.tile.specs.Laws.{Fair, FairTile}
-use Rattle.tile.proofs.Tiles.{each-fair}
+use Rattle.string.specs.declared.tile.Form.{Form}
+use Rattle.string.specs.declared.tile.Tile.{Tile}
+use Rattle.string.specs.declared.tile.Tile.the-variants.{Piece, Bad}
+use Rattle.string.specs.Tile.{tileOf}
+use Rattle.string.specs.laws.Tile.{Fair, FairTile}
+use Rattle.string.proofs.tile.Tiles.{each-fair}
 use Rattle.string.specs.declared.Extent.the-variants as extent
 use Rattle.string.specs.Tiles.{sizeOf, tilesPast, tilesOf, hasBad, givesByte, pieceBytes, tileBytes, bytesOf}
-use Rattle.string.specs.Measure.{isSingle, measured}
+use Rattle.string.specs.steps.Measure.{isSingle, measured}
 
 piece-few : (r : Reading) {room : ℕ} {f : Form} {v n : ℕ} → Fair room f v n → length (pieceBytes r f v) ≤ n
 unfolding pieceBytes

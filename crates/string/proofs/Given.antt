@@ -10,22 +10,23 @@ use mathlib.Core.Path.{_≡_, refl, sym, ap, subst}
 use lib.Dec.{eqb, leb}
 use lib.ListN.{length}
 use borrow.Author.Tests.{le-leb, lt-leb, leb-false, not-true}
-use Rattle.byte.specs.Byte.{peekAt, backslash}
-use Rattle.byte.proofs.Choice.{exactly}
-use Rattle.scan.proofs.Tests.{Tests, affirmed, decided, tests-or, tests-and, tests-not, tests-eq, tests-has}
+use Rattle.scan.specs.Byte.{peekAt, backslash}
+use Rattle.proving.proofs.Choice.{exactly}
+use Rattle.proving.proofs.Tests.{Tests, affirmed, decided, tests-or, tests-and, tests-not, tests-eq}
+use Rattle.scan.proofs.Stands.{tests-has}
 use Rattle.utf8.specs.declared.Reading.{Reading}
 use Rattle.utf8.specs.Text.{prefixEnd, WellFormed}
 use Rattle.utf8.specs.Answers.{textLimit, placeAt, tooLong, notUtf8, noRoom}
-use Rattle.utf8.specs.Refusals.{TooLong, NotUtf8, Taken}
+use Rattle.utf8.specs.laws.Refusals.{TooLong, NotUtf8, Taken}
 use Rattle.utf8.proofs.Given.{given-exactly}
-use Rattle.tile.specs.declared.Tile.{Tile}
-use Rattle.tile.specs.declared.Tile.the-variants.{Piece, Bad}
-use Rattle.tile.specs.Tile.{backquote}
+use Rattle.string.specs.declared.tile.Tile.{Tile}
+use Rattle.string.specs.declared.tile.Tile.the-variants.{Piece, Bad}
+use Rattle.string.specs.Tile.{backquote}
 use Rattle.string.specs.declared.Unquoting.{Unquoting}
 use Rattle.string.specs.declared.Unquoting.the-variants.{Inner, Written, Refused}
 use Rattle.string.specs.Tiles.{tilesOf, isBad, hasBad}
 use Rattle.string.specs.Literal.{doubleQuote, singleQuote, lineFeed, isQuote, signOf, innerOf, isEnclosed, hasNewline, isBadLiteral, hasEscape, unquoted, extentOf, badLiteral, unquotingOf}
-use Rattle.string.specs.Refusals.{TooShort, SignsDiffer, NoQuoteSign, Newline, BadAmong, BadLiteral, WithEscape, NoRoom, UnquotingGiven}
+use Rattle.string.specs.laws.Refusals.{TooShort, SignsDiffer, NoQuoteSign, Newline, BadAmong, BadLiteral, WithEscape, NoRoom, UnquotingGiven}
 
 tests-bad : (ts : List Tile) → Tests (hasBad ts) (BadAmong ts)
 unfolding hasBad

@@ -9,9 +9,9 @@ use lib.Dec.{eqb, leb}
 use lib.ListN.{length, take, drop, getD}
 use borrow.Author.Tests.{eqb-true, leb-true, le-leb, lt-leb, not-false}
 use Rattle.scan.specs.Text.{has}
-use Rattle.byte.specs.Byte.{end, peekAt}
-use Rattle.byte.proofs.Choice.{and-left, and-right, told}
-use Rattle.byte.proofs.Classes.{getD-any, below-not}
+use Rattle.scan.specs.Byte.{end, peekAt}
+use Rattle.proving.proofs.Choice.{and-left, and-right, told}
+use Rattle.scan.proofs.byte.Classes.{getD-any, below-not}
 use Rattle.utf8.specs.declared.CharNumber.{CharNumber}
 use Rattle.utf8.specs.declared.Reading.{Reading}
 use Rattle.utf8.specs.declared.Refusal.{Refusal}
@@ -20,13 +20,13 @@ use Rattle.utf8.specs.Text.{WellFormed, charNumber}
 use Rattle.utf8.specs.Answers.{textLimit, noRoom, admitted}
 use Rattle.utf8.proofs.Laws.{ascii-head}
 use Rattle.utf8.proofs.Cuts.{text-cut, boundary}
-use Rattle.tile.specs.Tile.{backquote}
+use Rattle.string.specs.Tile.{backquote}
 use Rattle.string.specs.declared.Extent.{Extent}
 use Rattle.string.specs.declared.Extent.the-variants as extent
 use Rattle.string.specs.declared.Unquoting.the-variants.{Written, Refused}
 use Rattle.string.specs.Tiles.{tilesOf, hasBad}
 use Rattle.string.specs.Literal.{doubleQuote, singleQuote, isQuote, signOf, innerOf, isEnclosed, hasNewline, isBadLiteral, hasEscape, unquoted, extentOf, unquotingBy, unquotingOf}
-use Rattle.string.specs.Measure.{measured}
+use Rattle.string.specs.steps.Measure.{measured}
 use Rattle.string.proofs.Plain.{neither, unescaped}
 
 pub quote-ascii : (c : ℕ) → isQuote c ≡ true → c < 0x80

@@ -15,20 +15,20 @@ use Rattle.utf8.specs.declared.Reading.{Reading}
 use Rattle.utf8.specs.declared.Reading.the-variants.{Crate, Documented}
 use Rattle.utf8.specs.Text.{WellFormed}
 use Rattle.utf8.specs.Code.{encoded}
-use Rattle.utf8.specs.Refusals.{Taken}
+use Rattle.utf8.specs.laws.Refusals.{Taken}
 use Rattle.utf8.specs.Answers.{textLimit, noRoom, admitted}
 use Rattle.utf8.proofs.Ascii.{ascii-bytes}
 use Rattle.utf8.proofs.Given.{given-exactly, admitted-text}
-use Rattle.tile.specs.declared.Form.{Form}
-use Rattle.tile.specs.declared.Tile.{Tile}
-use Rattle.tile.specs.declared.Tile.the-variants.{Piece, Bad}
-use Rattle.tile.specs.Tile.{isByte}
+use Rattle.string.specs.declared.tile.Form.{Form}
+use Rattle.string.specs.declared.tile.Tile.{Tile}
+use Rattle.string.specs.declared.tile.Tile.the-variants.{Piece, Bad}
+use Rattle.string.specs.Tile.{isByte}
 use Rattle.string.specs.declared.Extent.{Extent}
 use Rattle.string.specs.declared.Extent.the-variants as extent
 use Rattle.string.specs.declared.Unquoting.the-variants.{Written, Refused}
 use Rattle.string.specs.Tiles.{tilesOf, pieceBytes, bytesOf}
 use Rattle.string.specs.Literal.{signOf, innerOf, isBadLiteral, hasEscape, unquoted, extentOf, unquotingBy, unquotingAs, unquotingOf, textBy, partOf}
-use Rattle.string.specs.Laws.{isRead, PartIsText, hasHighByte, ReadingsAgree}
+use Rattle.string.specs.laws.ReadBack.{isRead, PartIsText, hasHighByte, ReadingsAgree}
 use Rattle.string.proofs.Plain.{neither, unescaped}
 use Rattle.string.proofs.Literals.{Sound, sound, two, sign-ascii, inner-well}
 

@@ -7,20 +7,20 @@ use mathlib.Core.Logic.{_⊎_, inl, inr}
 use mathlib.Core.Path.{_≡_, refl, sym, ap, subst, _∙_}
 use lib.ListN.{length, take, drop, length-drop}
 use lib.Seq.{drop-drop}
-use Rattle.byte.proofs.Choice.{told}
-use Rattle.byte.specs.Byte.{peekAt}
+use Rattle.proving.proofs.Choice.{told}
+use Rattle.scan.specs.Byte.{peekAt}
 use Rattle.utf8.specs.Table.{charLength}
 use Rattle.utf8.specs.Text.{WellFormed}
 use Rattle.utf8.proofs.Laws.{none-empty}
-use Rattle.tile.specs.declared.Tile.{Tile}
-use Rattle.tile.specs.declared.Tile.the-variants.{Piece, Bad}
-use Rattle.tile.specs.Tile.{tileOf}
-use Rattle.tile.specs.Laws.{FairTile, TextAfter, IsEscape, Begun}
-use Rattle.tile.proofs.Tiles.{each-fair}
-use Rattle.tile.proofs.Behind.{text-behind}
-use Rattle.tile.proofs.Bad.{bad-when}
+use Rattle.string.specs.declared.tile.Tile.{Tile}
+use Rattle.string.specs.declared.tile.Tile.the-variants.{Piece, Bad}
+use Rattle.string.specs.Tile.{tileOf}
+use Rattle.string.specs.laws.Tile.{FairTile, TextAfter, IsEscape, Begun}
+use Rattle.string.proofs.tile.Tiles.{each-fair}
+use Rattle.string.proofs.tile.Behind.{text-behind}
+use Rattle.string.proofs.tile.Bad.{bad-when}
 use Rattle.string.specs.Tiles.{sizeOf, tilesOf}
-use Rattle.string.specs.Refusals.{BadAmong, sizesOf, Starts, BadAt, BadThere}
+use Rattle.string.specs.laws.Refusals.{BadAmong, sizesOf, Starts, BadAt, BadThere}
 use Rattle.string.proofs.Contents.{tiles-none, tiles-some}
 
 abbrev tag : Tile → ℕ

@@ -2,7 +2,7 @@
 -- the bytes of a part that is handed back.
 use mathlib.Core.Path.{_≡_, sym, _∙_}
 use denote.Ref.{now}
-use Rattle.byte.proofs.One.{OneAnswer, OneContent, OnePart}
+use Rattle.proving.proofs.One.{OneAnswer, OneContent, OnePart}
 use Rattle.string.proofs.unquote_string.Kinds as unquote-string
 use Rattle.string.proofs.unquote_string.Reads as unquote-string-reads
 use Rattle.string.proofs.part.Kinds as part

@@ -1,5 +1,6 @@
-pub mod Tiles
-pub mod Measure
+pub mod Escape
 pub mod Literal
-pub mod Refusals
-pub mod Laws
+pub mod Tile
+pub mod Tiles
+pub mod laws
+pub mod steps

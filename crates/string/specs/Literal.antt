@@ -5,14 +5,14 @@ use mathlib.Core.Bool.{Bool, true, false, cond, _&&_, _||_, not}
 use mathlib.Core.List.{List, [], _++_}
 use lib.Dec.{eqb, leb, ltb}
 use lib.ListN.{length, take, drop}
-use Rattle.byte.specs.Byte.{peekAt, backslash}
+use Rattle.scan.specs.Byte.{peekAt, backslash}
 use Rattle.scan.specs.Text.{has}
 use Rattle.utf8.specs.declared.Admission.{Admission}
 use Rattle.utf8.specs.declared.Admission.the-variants as admission
 use Rattle.utf8.specs.declared.Reading.{Reading}
 use Rattle.utf8.specs.declared.Refusal.{Refusal}
 use Rattle.utf8.specs.Answers.{textLimit, atStart, noRoom, admitted, noRefusal}
-use Rattle.tile.specs.Tile.{backquote}
+use Rattle.string.specs.Tile.{backquote}
 use Rattle.string.specs.declared.Extent.{Extent}
 use Rattle.string.specs.declared.Extent.the-variants as extent
 use Rattle.string.specs.declared.Unquoting.{Unquoting}

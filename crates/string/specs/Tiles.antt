@@ -7,10 +7,10 @@ use mathlib.Core.List.{List, [], _∷_, _++_}
 use Rattle.utf8.specs.declared.Reading.{Reading}
 use Rattle.utf8.specs.declared.Reading.the-variants.{Crate, Documented}
 use Rattle.utf8.specs.Code.{encoded}
-use Rattle.tile.specs.declared.Form.{Form}
-use Rattle.tile.specs.declared.Tile.{Tile}
-use Rattle.tile.specs.declared.Tile.the-variants.{Piece, Bad}
-use Rattle.tile.specs.Tile.{isByte, tileOf}
+use Rattle.string.specs.declared.tile.Form.{Form}
+use Rattle.string.specs.declared.tile.Tile.{Tile}
+use Rattle.string.specs.declared.tile.Tile.the-variants.{Piece, Bad}
+use Rattle.string.specs.Tile.{isByte, tileOf}
 
 -- how many bytes a tile has; of a bad one the first is passed
 abbrev pub sizeOf : Tile → ℕ

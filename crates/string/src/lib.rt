@@ -1,12 +1,16 @@
 // String literals: where the text of one stands, and that text. What is to be written is measured first, so that a refused call writes
 // nothing.
-use encode::Encoding;
-use tile::Form;
-use tile::Tile;
+pub mod escape;
+pub mod tile;
+
+use crate::tile::Form;
+use crate::tile::Tile;
 use utf8::Admission;
 use utf8::ByteOffset;
 use utf8::Reading;
 use utf8::Refusal;
+use utf8::encode;
+use utf8::encode::Encoding;
 ghost use mathlib.Core.Bool.{true, false};
 ghost use mathlib.Core.List.{[]};
 ghost use mathlib.Core.Path.{_≡_};
@@ -14,11 +18,11 @@ ghost use Prim.Native.Nat.{_+_, _<_, _≤_};
 ghost use lib.ListN.{length};
 ghost use lib.Seq.{sets};
 ghost use Rattle.utf8.specs.Text.{WellFormed};
-ghost use Rattle.tile.specs.Tile.{isAllowed};
+ghost use Rattle.string.specs.Tile.{isAllowed};
 ghost use Rattle.string.specs.Tiles.{tilesOf, hasBad, givesByte, pieceBytes, bytesOf};
 ghost use Rattle.string.specs.Literal.{isQuote, isEnclosed, hasNewline, hasEscape, unquoted, extentOf, unquotingOf, textBy, partOf, refusedBy};
 ghost use Rattle.string.specs.declared.Unquoting.the-variants.{Inner, Written};
-ghost use Rattle.string.specs.Measure.{isSingle, measured};
+ghost use Rattle.string.specs.steps.Measure.{isSingle, measured};
 
 // Document 01's "bad literal".
 pub const BAD_LITERAL: usize = 40;

@@ -9,8 +9,8 @@ use lib.Dec.{lit<}
 use lib.ListN.{length, getD, take, drop, length-append}
 use lib.Seq.{take-at, take-append-le, take-take, drop-append-add, getD-at, getD-drop, getD-take}
 use Rattle.token.specs.Display.{displayOf}
-use Rattle.token.specs.DisplayRows.{pastKinds, textSize, rowSize, rowOf, rowsFrom, table}
-use Rattle.token.specs.Padded.{padded}
+use Rattle.token.specs.steps.DisplayRows.{pastKinds, textSize, rowSize, rowOf, rowsFrom, table}
+use Rattle.token.specs.steps.Padded.{padded}
 use Rattle.token.proofs.Padding.{padded-length, padded-take}
 use Rattle.token.proofs.Displays.{short}
 

@@ -8,9 +8,9 @@ use mathlib.Core.List.{List}
 use lib.Dec.{leb, ltb, eqb, lit≤}
 use lib.ListN.{length}
 use borrow.Author.Tests.{leb-true, ltb-true, eq-eqb, eqb-true, eqb-false, not-true}
-use Rattle.byte.proofs.Choice.{and-left, and-right}
+use Rattle.proving.proofs.Choice.{and-left, and-right}
 use Rattle.token.specs.Display.{Shown, displays, textIn, displayOf, unknown, noEntry, entry, KindsDistinct, KindShown, OtherUnknown}
-use Rattle.token.specs.DisplayRows.{pastKinds, textSize}
+use Rattle.token.specs.steps.DisplayRows.{pastKinds, textSize}
 use Rattle.token.proofs.Every.{every, distinct, Search, each-found, none-hit, one-hit, hit-found}
 
 abbrev isShown : Shown → Bool

@@ -7,7 +7,7 @@ use mathlib.Core.Bool.{Bool, true, cond, _&&_}
 use mathlib.Core.List.{List, [], _∷_}
 use mathlib.Core.Path.{_≡_, refl, ap}
 use lib.ListN.{length, getD}
-use Rattle.byte.proofs.Choice.{either, and-left, and-right}
+use Rattle.proving.proofs.Choice.{either, and-left, and-right}
 
 module _ {A : Type 0} where
   abbrev pub every : (A → Bool) → List A → Bool

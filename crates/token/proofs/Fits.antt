@@ -1,8 +1,8 @@
 -- The kind of a word has 16 bits, since each entry's has.
 use Prim.Native.Nat.{ℕ, _^_, _<_}
 use mathlib.Core.List.{List, map}
-use Rattle.byte.specs.Byte.{lowered}
-use Rattle.byte.proofs.Choice.{either}
+use Rattle.scan.specs.Byte.{lowered}
+use Rattle.proving.proofs.Choice.{either}
 use Rattle.utf8.specs.Text.{codesOf, isWellFormed}
 use Rattle.token.specs.declared.Keyword.{Keyword}
 use Rattle.token.specs.declared.Keyword.the-variants.{Kind, Nothing}

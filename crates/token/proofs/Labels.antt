@@ -11,11 +11,11 @@ use Prim.Native.Char.{code}
 use lib.Dec.{eqb, eqb·zero-suc, eqb·suc-suc}
 use lib.ListN.{length}
 use borrow.Author.Tests.{ne-eqb, lt-ltb}
-use Rattle.byte.specs.declared.Class.the-variants.{AlphaNumeric}
-use Rattle.byte.specs.Byte.{peekAt, isWithin, isAlpha, isAlphaNumeric, isIn}
+use Rattle.scan.specs.declared.byte.Class.the-variants.{AlphaNumeric}
+use Rattle.scan.specs.Byte.{peekAt, isWithin, isAlpha, isAlphaNumeric, isIn}
 use Rattle.scan.specs.Run.{runLength, runEnd}
-use Rattle.byte.proofs.Classes.{above-not}
-use Rattle.utf8.specs.Laws.{isAscii}
+use Rattle.scan.proofs.byte.Classes.{above-not}
+use Rattle.utf8.specs.laws.Characters.{isAscii}
 use Rattle.utf8.proofs.Ascii.{by-bytes}
 use Rattle.token.specs.Label.{every, named, isLabel}
 

@@ -10,19 +10,19 @@ use lib.Dec.{eqb, ltb}
 use lib.ListN.{length, getD, take, length-append, length-map, List·getD-append}
 use lib.Seq.{take-at, drop-at, getD-at, getD-append-add, take-append-le}
 use borrow.Author.Tests.{eq-eqb, ne-eqb, le-ltb, ltb-true}
-use Rattle.byte.specs.Byte.{lowered}
+use Rattle.scan.specs.Byte.{lowered}
 use Rattle.scan.specs.Text.{sameText}
-use Rattle.byte.proofs.Choice.{either, and-left, and-right}
+use Rattle.proving.proofs.Choice.{either, and-left, and-right}
 use Rattle.scan.proofs.Same.{same-not, same-is-equal}
-use Rattle.utf8.specs.Laws.{isAscii}
+use Rattle.utf8.specs.laws.Characters.{isAscii}
 use Rattle.utf8.proofs.Ascii.{by-bytes, lowered-other}
 use Rattle.token.specs.declared.Keyword.{Keyword}
 use Rattle.token.specs.declared.Keyword.the-variants.{Kind, Nothing}
-use Rattle.token.specs.Padded.{padded}
+use Rattle.token.specs.steps.Padded.{padded}
 use Rattle.token.proofs.Padding.{padded-length, padded-take}
 use Rattle.token.specs.Words.{Entry, words, kindIn, keywordOf}
-use Rattle.token.specs.Laws.{TableFinds}
-use Rattle.token.specs.WordRows.{wordCount, widestWord, wordRow, rowOf, tableOf, wordTable, isRow, foundIn, keywordIn}
+use Rattle.token.specs.laws.Words.{TableFinds}
+use Rattle.token.specs.steps.WordRows.{wordCount, widestWord, wordRow, rowOf, tableOf, wordTable, isRow, foundIn, keywordIn}
 use Rattle.token.proofs.Every.{every}
 use Rattle.token.proofs.Table.{isEntry, short, plain, counted, entries, word-found}
 

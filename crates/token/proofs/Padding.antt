@@ -6,7 +6,7 @@ use mathlib.Core.List.{List}
 use mathlib.Core.Path.{_≡_}
 use lib.ListN.{length, take, replicate, length-append, length-replicate}
 use lib.Seq.{take-append-seam}
-use Rattle.token.specs.Padded.{padded}
+use Rattle.token.specs.steps.Padded.{padded}
 
 module _ (n : ℕ) (xs : List ℕ) where
   pub padded-length : length xs ≤ n → length (padded n xs) ≡ n

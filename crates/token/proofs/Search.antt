@@ -9,7 +9,7 @@ use lib.Seq.{drop-drop, getD-drop}
 use borrow.Author.Tests.{lt-ltb, le-ltb}
 use Rattle.token.specs.declared.Keyword.{Keyword}
 use Rattle.token.specs.declared.Keyword.the-variants.{Kind, Nothing}
-use Rattle.token.specs.WordRows.{wordCount, widestWord, wordRow, isRow, foundIn}
+use Rattle.token.specs.steps.WordRows.{wordCount, widestWord, wordRow, isRow, foundIn}
 
 module _ (t w : List ℕ) (i : ℕ) (h : i < wordCount) where
   -- the rows from i on

@@ -5,13 +5,13 @@ use mathlib.Core.Path.{_≡_, refl}
 use lib.Dec.{eqb}
 use borrow.Author.Tests.{eqb-true}
 use Rattle.scan.specs.Text.{sameText}
-use Rattle.byte.proofs.Below.{below}
+use Rattle.proving.proofs.Below.{below}
 use Rattle.scan.proofs.Same.{same-is-equal}
 use Rattle.token.specs.Display.{displays, textIn, displayOf}
 use Rattle.token.specs.Words.{words}
-use Rattle.token.specs.WordRows.{wordCount}
+use Rattle.token.specs.steps.WordRows.{wordCount}
 use Rattle.token.specs.Kinds.{number}
-use Rattle.token.specs.Laws.{entryAt, WordShown}
+use Rattle.token.specs.laws.Words.{entryAt, WordShown}
 
 abbrev isShown : ℕ → Bool
 isShown i = eqb (entryAt i .kind) number || sameText (displayOf (entryAt i .kind)) (entryAt i .text)

@@ -10,13 +10,13 @@ use lib.ListN.{length}
 use borrow.Author.Tests.{leb-true, ltb-true, eqb-true, not-true}
 use Rattle.scan.specs.Text.{sameText}
 use Rattle.scan.proofs.Same.{same-is-equal}
-use Rattle.byte.proofs.Choice.{and-left, and-right}
-use Rattle.utf8.specs.Laws.{isAscii}
+use Rattle.proving.proofs.Choice.{and-left, and-right}
+use Rattle.utf8.specs.laws.Characters.{isAscii}
 use Rattle.token.specs.declared.Keyword.{Keyword}
 use Rattle.token.specs.declared.Keyword.the-variants.{Kind, Nothing}
 use Rattle.token.specs.Words.{Entry, word, words, kindIn}
-use Rattle.token.specs.WordRows.{wordCount, widestWord}
-use Rattle.token.specs.Laws.{OneEntry, EntryFound, NoneFound}
+use Rattle.token.specs.steps.WordRows.{wordCount, widestWord}
+use Rattle.token.specs.laws.Words.{OneEntry, EntryFound, NoneFound}
 use Rattle.token.proofs.Every.{every, distinct, Search, each-found, none-hit, one-hit, hit-found}
 
 abbrev pub isEntry : Entry → Bool

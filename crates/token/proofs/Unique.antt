@@ -1,7 +1,7 @@
 -- Any two answers that the promise of a public function allows are equal, and so are the contents that they leave in what was lent.
 use mathlib.Core.Path.{_≡_, sym, _∙_}
 use denote.Ref.{now}
-use Rattle.byte.proofs.One.{OneAnswer, OneContent}
+use Rattle.proving.proofs.One.{OneAnswer, OneContent}
 use Rattle.token.proofs.is_operator.Kinds as is-operator
 use Rattle.token.proofs.is_operator.Reads as is-operator-reads
 use Rattle.token.proofs.is_comparison_operator.Kinds as is-comparison-operator

@@ -6,9 +6,9 @@ use mathlib.Core.List.{List, [], _∷_, _++_}
 use mathlib.Core.Path.{_≡_, ap, ap₂, _∙_}
 use lib.ListN.{length, take, drop}
 use denote.Ref.{now}
-use Rattle.byte.specs.Ascii.{ascii}
-use Rattle.byte.specs.Byte.{isWithin, isAlpha, isAlphaNumeric, lowered}
-use Rattle.byte.proofs.One.{Answers, Leaves, Shows}
+use Rattle.scan.specs.Ascii.{ascii}
+use Rattle.scan.specs.Byte.{isWithin, isAlpha, isAlphaNumeric, lowered}
+use Rattle.proving.proofs.One.{Answers, Leaves, Shows}
 use Rattle.scan.specs.Text.{sameText}
 use Rattle.utf8.specs.Table.{fits, sizeIn, charLength}
 use Rattle.utf8.specs.Code.{codeOf}
@@ -20,8 +20,8 @@ use Rattle.token.specs.declared.Keyword.the-variants.{Kind, Nothing}
 use Rattle.token.specs.Classes.{isOperator, isComparisonOperator, isSetOperator, isAggregator, isAggregatorWithParam}
 use Rattle.token.specs.Display.{displays, textIn, displayOf, fitted, displayed, leftBy}
 use Rattle.token.specs.Words.{words, kindIn, keywordOf}
-use Rattle.token.specs.Padded.{padded}
-use Rattle.token.specs.WordRows.{wordRow, tableOf, wordTable, isRow, foundIn, keywordIn}
+use Rattle.token.specs.steps.Padded.{padded}
+use Rattle.token.specs.steps.WordRows.{wordRow, tableOf, wordTable, isRow, foundIn, keywordIn}
 use Rattle.token.specs.Label.{isLabel}
 use Rattle.token.proofs.is_operator.Kinds as is-operator
 use Rattle.token.proofs.is_operator.Reads as is-operator-reads

@@ -2,7 +2,7 @@
 -- within them. A number that is no kind is in none.
 use Prim.Native.Nat.{ℕ}
 use mathlib.Core.Bool.{Bool}
-use Rattle.byte.specs.Byte.{isWithin}
+use Rattle.scan.specs.Byte.{isWithin}
 use Rattle.token.specs.Kinds.{add, eqlc, gtr, land, lunless, atan2, sum, topk, limitRatio}
 
 -- `+` to atan2

@@ -6,7 +6,7 @@ use mathlib.Core.List.{List, [], _∷_, _++_}
 use mathlib.Core.Path.{_≡_}
 use lib.Dec.{leb, eqb}
 use lib.ListN.{length, getD, drop}
-use Rattle.byte.specs.Ascii.{ascii}
+use Rattle.scan.specs.Ascii.{ascii}
 use Rattle.token.specs.declared.Display.{Display}
 use Rattle.token.specs.declared.Display.the-variants.{Length, NoRoom}
 

@@ -2,7 +2,7 @@
 use Prim.Native.Nat.{ℕ}
 use mathlib.Core.Bool.{Bool, true, false, cond, _&&_}
 use mathlib.Core.List.{List, [], _∷_}
-use Rattle.byte.specs.Byte.{isAlpha, isAlphaNumeric}
+use Rattle.scan.specs.Byte.{isAlpha, isAlphaNumeric}
 use Rattle.utf8.specs.Text.{codesOf, isWellFormed}
 
 abbrev pub every : (ℕ → Bool) → List ℕ → Bool

@@ -1,9 +1,7 @@
-pub mod Kinds
 pub mod Classes
 pub mod Display
-pub mod Words
+pub mod Kinds
 pub mod Label
-pub mod Padded
-pub mod DisplayRows
-pub mod WordRows
-pub mod Laws
+pub mod Words
+pub mod laws
+pub mod steps

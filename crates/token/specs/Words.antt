@@ -3,8 +3,8 @@ use Prim.Native.Nat.{ℕ}
 use Prim.Native.String.{String}
 use mathlib.Core.Bool.{cond}
 use mathlib.Core.List.{List, [], _∷_, map}
-use Rattle.byte.specs.Ascii.{ascii}
-use Rattle.byte.specs.Byte.{lowered}
+use Rattle.scan.specs.Ascii.{ascii}
+use Rattle.scan.specs.Byte.{lowered}
 use Rattle.scan.specs.Text.{sameText}
 use Rattle.utf8.specs.Text.{codesOf, isWellFormed}
 use Rattle.token.specs.declared.Keyword.{Keyword}

@@ -2,18 +2,19 @@
 // their own, and labels. A kind is a number of document 01; every other number has no class and is shown as an unknown token.
 pub mod kinds;
 
-use byte::Class;
+use scan::byte;
+use scan::byte::Class;
 ghost use mathlib.Core.Path.{_≡_};
 ghost use mathlib.Core.List.{map};
 ghost use Prim.Native.Nat.{_≤_};
 ghost use lib.ListN.{length};
 ghost use lib.Seq.{sets};
-ghost use Rattle.byte.specs.Byte.{isWithin, lowered};
+ghost use Rattle.scan.specs.Byte.{isWithin, lowered};
 ghost use Rattle.token.specs.Classes.{isOperator, isComparisonOperator, isSetOperator, isAggregator, isAggregatorWithParam};
 ghost use Rattle.token.specs.Display.{displayOf, fitted, displayed, leftBy};
-ghost use Rattle.token.specs.DisplayRows.{pastKinds, table};
+ghost use Rattle.token.specs.steps.DisplayRows.{pastKinds, table};
 ghost use Rattle.token.specs.Words.{keywordOf};
-ghost use Rattle.token.specs.WordRows.{wordCount, widestWord, wordRow, wordTable, isRow, foundIn, keywordIn};
+ghost use Rattle.token.specs.steps.WordRows.{wordCount, widestWord, wordRow, wordTable, isRow, foundIn, keywordIn};
 ghost use Rattle.token.specs.Label.{isLabel};
 
 // How many bytes of a display text were written, or that it has no room.

@@ -9,15 +9,15 @@ use mathlib.Core.Path.{_≡_, refl, sym, ap, _∙_}
 use lib.Dec.{eqb, ltb}
 use lib.ListN.{length, replicate}
 use borrow.Author.Tests.{ltb-true, lt-ltb, le-ltb, eq-eqb, ne-eqb}
-use Rattle.byte.specs.Byte.{lowered}
+use Rattle.scan.specs.Byte.{lowered}
 use Rattle.scan.specs.Text.{sameText}
-use Rattle.byte.proofs.Choice.{either, and-left, and-right}
-use Rattle.byte.proofs.Classes.{lowered-above}
+use Rattle.proving.proofs.Choice.{either, and-left, and-right}
+use Rattle.scan.proofs.byte.Classes.{lowered-above}
 use Rattle.utf8.specs.Table.{tail, fits, charLength}
-use Rattle.utf8.specs.Lead.{sizeBy}
+use Rattle.utf8.specs.steps.Lead.{sizeBy}
 use Rattle.utf8.specs.Code.{codeOf}
 use Rattle.utf8.specs.Text.{charsPast, codesOf, sizeOf, prefixEnd, WellFormed, isWellFormed}
-use Rattle.utf8.specs.Laws.{AsciiBytes, isAscii, AsciiText, AsciiCodes, ByBytes, LoweredOther}
+use Rattle.utf8.specs.laws.Characters.{AsciiBytes, isAscii, AsciiText, AsciiCodes, ByBytes, LoweredOther}
 use Rattle.utf8.proofs.Lead.{second, sized, char-by}
 use Rattle.utf8.proofs.Chars.{chars-none, chars-some}
 use Rattle.utf8.proofs.Codes.{one-byte}

@@ -6,13 +6,13 @@ use mathlib.Core.List.{List, [], _∷_, _++_}
 use mathlib.Core.Path.{_≡_}
 use lib.ListN.{length, length-append, List·getD-append}
 use lib.Seq.{getD-append-add}
-use Rattle.byte.specs.Byte.{end, peekAt}
-use Rattle.scan.specs.Edge.{Bytes}
-use Rattle.byte.proofs.Classes.{within-bounds}
+use Rattle.scan.specs.Byte.{end, peekAt}
+use Rattle.scan.specs.laws.Edge.{Bytes}
+use Rattle.scan.proofs.byte.Classes.{within-bounds}
 use Rattle.utf8.specs.Table.{charLength}
-use Rattle.utf8.specs.Lead.{sizeBy}
+use Rattle.utf8.specs.steps.Lead.{sizeBy}
 use Rattle.utf8.specs.Text.{WellFormed}
-use Rattle.utf8.specs.Laws.{TextBytes}
+use Rattle.utf8.specs.laws.Characters.{TextBytes}
 use Rattle.utf8.proofs.Lead.{second, sized, char-by}
 use Rattle.utf8.proofs.Texts.{One, by-characters}
 use Rattle.utf8.proofs.Laws.{none-empty, rest-well, tail-inside}

@@ -9,12 +9,12 @@ use lib.Dec.{eqb}
 use lib.ListN.{length, take, drop, length-drop}
 use lib.Seq.{take-all}
 use borrow.Author.Tests.{eq-eqb, ne-eqb}
-use Rattle.byte.specs.Byte.{isWithin}
+use Rattle.scan.specs.Byte.{isWithin}
 use Rattle.utf8.specs.declared.Place.{Place}
 use Rattle.utf8.specs.Table.{Bounds, rows, fits, sizeIn, charLength}
 use Rattle.utf8.specs.Text.{Char, charOf, charsPast, charsOf, sizeOf, begunIn, charNumber}
 use Rattle.utf8.specs.Answers.{place, nextStart}
-use Rattle.byte.proofs.Choice.{either, and-right}
+use Rattle.proving.proofs.Choice.{either, and-right}
 
 -- what holds of 0 and of the length of each row that the bytes fit holds of the size that a table gives
 module _ (xs : List ℕ) (P : ℕ → Type 0) where

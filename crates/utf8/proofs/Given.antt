@@ -7,12 +7,12 @@ use mathlib.Core.List.{List}
 use mathlib.Core.Path.{_≡_}
 use lib.ListN.{length}
 use borrow.Author.Tests.{eq-eqb, ne-eqb, lt-ltb, le-ltb}
-use Rattle.byte.proofs.Choice.{told}
+use Rattle.proving.proofs.Choice.{told}
 use Rattle.utf8.specs.declared.Admission.{Admission}
 use Rattle.utf8.specs.declared.Admission.the-variants.{Admitted, Refused}
 use Rattle.utf8.specs.Text.{charsOf, prefixEnd, WellFormed}
 use Rattle.utf8.specs.Answers.{count, placeAt, tooLong, notUtf8, validityOf, admitted}
-use Rattle.utf8.specs.Refusals.{TooLong, NotUtf8, GivenExactly, AdmittedText}
+use Rattle.utf8.specs.laws.Refusals.{TooLong, NotUtf8, GivenExactly, AdmittedText}
 
 -- the number that an answer has, 0 where it is no refusal
 abbrev numberOf : Admission → ℕ

@@ -11,16 +11,16 @@ use lib.Dec.{leb, ltb, eqb}
 use lib.ListN.{length, take, length-append}
 use lib.Seq.{length-take-le, take-length}
 use borrow.Author.Tests.{le-leb, lt-leb, lt-ltb, le-ltb, eqb-true, leb-true, leb-false, ltb-true}
-use Rattle.byte.specs.Byte.{isWithin}
-use Rattle.byte.proofs.Classes.{within-yes, within-bounds}
-use Rattle.byte.proofs.Choice.{either, and-left, and-right}
+use Rattle.scan.specs.Byte.{isWithin}
+use Rattle.scan.proofs.byte.Classes.{within-yes, within-bounds}
+use Rattle.proving.proofs.Choice.{either, and-left, and-right}
 use Rattle.utf8.specs.declared.Character.the-variants.{Scalar, IllFormed}
 use Rattle.utf8.specs.Table.{tail, isTail, fits, charLength}
-use Rattle.utf8.specs.Lead.{sizeBy, lowSecond, highSecond, withTails}
+use Rattle.utf8.specs.steps.Lead.{sizeBy, lowSecond, highSecond, withTails}
 use Rattle.utf8.specs.Code.{codeOf, isScalar, sixBits, encoded}
 use Rattle.utf8.specs.Text.{charsPast, codesOf, sizeOf, WellFormed}
 use Rattle.utf8.specs.Answers.{characterOf}
-use Rattle.utf8.specs.Laws.{EncodeDecode, DecodeEncode, LongCode, textOf, AllScalar, TextIs, CodesText}
+use Rattle.utf8.specs.laws.Characters.{EncodeDecode, DecodeEncode, LongCode, textOf, AllScalar, TextIs, CodesText}
 use Rattle.utf8.proofs.Lead.{second, sized, char-by, char-tests}
 use Rattle.utf8.proofs.Chars.{char-bound}
 use Rattle.utf8.proofs.Codes.{one-byte, two-bytes, three-bytes, four-bytes}

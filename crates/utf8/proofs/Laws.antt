@@ -9,13 +9,13 @@ use mathlib.Core.Path.{_≡_, refl, sym, ap, _∙_}
 use lib.Dec.{eqb, leb}
 use lib.ListN.{length, drop, length-drop, length-append}
 use borrow.Author.Tests.{leb-true, ne-eqb}
-use Rattle.byte.specs.Byte.{peekAt, isWithin}
-use Rattle.byte.proofs.Classes.{within-yes, within-bounds}
-use Rattle.byte.proofs.Choice.{and-left, and-right}
+use Rattle.scan.specs.Byte.{peekAt, isWithin}
+use Rattle.scan.proofs.byte.Classes.{within-yes, within-bounds}
+use Rattle.proving.proofs.Choice.{and-left, and-right}
 use Rattle.utf8.specs.Table.{Bounds, isTail, rows, fits, sizeIn, charLength}
 use Rattle.utf8.specs.Code.{codeOf}
 use Rattle.utf8.specs.Text.{Char, charOf, charsPast, charsOf, sizeOf, prefixEnd, WellFormed, begunIn, charNumber}
-use Rattle.utf8.specs.Laws.{Steps, AsciiAlone, AsciiHead, NoneAscii, CharsJoin, PrefixJoin, NumberJoin, TextJoin}
+use Rattle.utf8.specs.laws.Characters.{Steps, AsciiAlone, AsciiHead, NoneAscii, CharsJoin, PrefixJoin, NumberJoin, TextJoin}
 use Rattle.utf8.proofs.Chars.{EachRow, of-size, char-bound, chars-none, chars-some}
 use Rattle.utf8.proofs.Texts.{One, chars-one, by-characters, Filled, filled}
 

@@ -10,12 +10,12 @@ use lib.Dec.{eqb, leb, ltb}
 use lib.ListN.{length, drop, replicate, length-replicate}
 use lib.Seq.{getD-drop, drop-drop}
 use borrow.Author.Tests.{eqb-true, ltb-true, lt-leb}
-use Rattle.byte.specs.Byte.{end, peekAt, isWithin}
+use Rattle.scan.specs.Byte.{end, peekAt, isWithin}
 use Rattle.utf8.specs.Table.{Bounds, _to_, tail, rows, fits, sizeIn, charLength}
-use Rattle.utf8.specs.Lead.{sizeBy, lowSecond, highSecond, withTails}
-use Rattle.byte.proofs.Classes.{above-not}
-use Rattle.byte.proofs.Choice.{either, and-left, and-right, cond-and}
-use Rattle.byte.proofs.Below.{below}
+use Rattle.utf8.specs.steps.Lead.{sizeBy, lowSecond, highSecond, withTails}
+use Rattle.scan.proofs.byte.Classes.{above-not}
+use Rattle.proving.proofs.Choice.{either, and-left, and-right, cond-and}
+use Rattle.proving.proofs.Below.{below}
 
 -- what the rows that have x as a first byte ask of the bytes after it
 abbrev rowsAt : ℕ → List (List Bounds) → List (List Bounds)

@@ -9,14 +9,14 @@ use lib.Dec.{leb}
 use lib.ListN.{length, take, drop, replicate, length-replicate, length-append, length-drop, take-append-drop, List·getD-append}
 use lib.Seq.{length-take-le, take-length, drop-append-seam}
 use borrow.Author.Tests.{leb-false, lt-leb, ne-eqb}
-use Rattle.byte.specs.Byte.{end, peekAt, isWithin}
+use Rattle.scan.specs.Byte.{end, peekAt, isWithin}
 use Rattle.utf8.specs.Table.{Bounds, tail, fits, charLength}
-use Rattle.utf8.specs.Lead.{sizeBy}
+use Rattle.utf8.specs.steps.Lead.{sizeBy}
 use Rattle.utf8.specs.Code.{codeOf}
 use Rattle.utf8.specs.Text.{Char, charOf, charsOf, sizeOf, prefixEnd, begunIn, charNumber}
 use Rattle.utf8.specs.declared.Character.the-variants.{Scalar}
 use Rattle.utf8.specs.Answers.{place, nextStart, characterAt}
-use Rattle.byte.proofs.Choice.{either-same, and-left, and-right}
+use Rattle.proving.proofs.Choice.{either-same, and-left, and-right}
 use Rattle.utf8.proofs.Lead.{second, sized, char-by}
 use Rattle.utf8.proofs.Chars.{char-bound, chars-none, chars-some}
 

@@ -5,9 +5,9 @@ use Prim.Native.Char.{code}
 use mathlib.Core.List.{List, [], _∷_}
 use mathlib.Core.Path.{_≡_, ap, ap₂, _∙_}
 use denote.Ref.{now}
-use Rattle.byte.specs.Ascii.{ascii}
-use Rattle.byte.specs.Byte.{isWithin}
-use Rattle.byte.proofs.One.{Answers}
+use Rattle.scan.specs.Ascii.{ascii}
+use Rattle.scan.specs.Byte.{isWithin}
+use Rattle.proving.proofs.One.{Answers}
 use Rattle.utf8.specs.declared.CharNumber.{CharNumber}
 use Rattle.utf8.specs.declared.Refusal.{Refusal}
 use Rattle.utf8.specs.declared.Validity.{Validity}
@@ -19,7 +19,10 @@ use Rattle.utf8.specs.declared.Character.the-variants.{Scalar, Nothing, 
 use Rattle.utf8.specs.Table.{fits, sizeIn, charLength}
 use Rattle.utf8.specs.Code.{codeOf}
 use Rattle.utf8.specs.Text.{charsPast, sizeOf, begunIn, charNumber}
+use Rattle.utf8.specs.declared.Writing.{Writing}
+use Rattle.utf8.specs.declared.Writing.the-variants as writing
 use Rattle.utf8.specs.Answers.{count, place, validityOf, atStart, admitted, characterAt, notUtf8, refusedBy}
+use Rattle.utf8.specs.Writing.{notWritten}
 use Rattle.utf8.proofs.validate.Kinds as validate
 use Rattle.utf8.proofs.validate.Reads as validate-reads
 use Rattle.utf8.proofs.at_start.Kinds as at-start
@@ -32,6 +35,8 @@ use Rattle.utf8.proofs.char_at.Kinds as char-at
 use Rattle.utf8.proofs.char_at.Reads as char-at-reads
 use Rattle.utf8.proofs.refused_by.Kinds as refused-by
 use Rattle.utf8.proofs.refused_by.Reads as refused-by-reads
+use Rattle.utf8.proofs.not_written.Kinds as not-written
+use Rattle.utf8.proofs.not_written.Reads as not-written-reads
 
 abbrev validate-gives : List ℕ → Validity → Type 0
 validate-gives xs v = Answers validate.ps validate.r validate-reads.Post (λ κs a. now (a .0) ≡ xs) (λ κs. v)
@@ -151,3 +156,15 @@ refusal-is-told-with-its-place = refused-by-at _
 
 pub admitted-text-has-no-refusal : refused-by-gives (Admitted (count 1)) (atStart 0)
 admitted-text-has-no-refusal = refused-by-at _
+
+abbrev not-written-gives : Writing → Refusal → Type 0
+not-written-gives t v = Answers not-written.ps not-written.r not-written-reads.Post (λ κs a. a .0 ≡ t) (λ κs. v)
+
+not-written-at : (t : Writing) → not-written-gives t (notWritten t)
+not-written-at t κs a x e p h = p ∙ ap notWritten h
+
+pub text-refused-is-told-with-its-place : not-written-gives (writing.Refused (notUtf8 (place 3 2))) (notUtf8 (place 3 2))
+text-refused-is-told-with-its-place = not-written-at _
+
+pub written-text-has-no-refusal : not-written-gives (writing.Written 1) (atStart 0)
+written-text-has-no-refusal = not-written-at _

@@ -3,7 +3,7 @@ use Prim.Native.Nat.{ℕ, _+_, _*_, _/_, _%_, _^_}
 use mathlib.Core.Bool.{Bool, cond, _&&_, _||_}
 use mathlib.Core.List.{List, [], _∷_}
 use lib.Dec.{leb, ltb}
-use Rattle.byte.specs.Byte.{peekAt}
+use Rattle.scan.specs.Byte.{peekAt}
 
 -- a code point is a character's where it is at most 10FFFF and no surrogate, D800 to DFFF
 unfoldable pub isScalar : ℕ → Bool

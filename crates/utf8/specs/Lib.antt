@@ -1,7 +1,8 @@
-pub mod Table
-pub mod Code
-pub mod Text
 pub mod Answers
-pub mod Lead
-pub mod Refusals
-pub mod Laws
+pub mod Code
+pub mod Encode
+pub mod Table
+pub mod Text
+pub mod Writing
+pub mod laws
+pub mod steps

@@ -3,7 +3,7 @@ use Prim.Native.Nat.{ℕ}
 use mathlib.Core.Bool.{Bool, true, false, cond, _&&_}
 use mathlib.Core.List.{List, [], _∷_}
 use lib.ListN.{length}
-use Rattle.byte.specs.Byte.{isWithin}
+use Rattle.scan.specs.Byte.{isWithin}
 
 -- the least and the greatest byte that may stand at a place
 pub record Bounds : Type 0 where

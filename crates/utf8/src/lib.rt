@@ -1,11 +1,15 @@
 // UTF-8 text (RFC 3629): whether bytes are text, the character at an offset, and the number of characters before one; and the places
 // and refusals that every reader answers with. The bytes of a code point are written by `encode`.
+pub mod encode;
+
+use scan::byte;
 ghost use mathlib.Core.Path.{_≡_};
 ghost use Rattle.utf8.specs.Table.{isTail, charLength};
-ghost use Rattle.utf8.specs.Lead.{sizeBy, lowSecond, highSecond, withTails};
+ghost use Rattle.utf8.specs.steps.Lead.{sizeBy, lowSecond, highSecond, withTails};
 ghost use Rattle.utf8.specs.Text.{charNumber};
 ghost use Rattle.utf8.specs.Code.{codeOf};
 ghost use Rattle.utf8.specs.Answers.{count, nextStart, validityOf, atStart, notUtf8By, admitted, refusedBy, characterAt};
+ghost use Rattle.utf8.specs.Writing.{notWritten};
 
 // How many bytes come before a place.
 pub struct ByteOffset(pub usize);
@@ -47,6 +51,12 @@ pub enum Validity {
 // A text that a reader takes up, or its refusal.
 pub enum Admission {
     Admitted(CharNumber),
+    Refused(Refusal),
+}
+
+// How many bytes of a text were written at the front of a lent buffer, or why none were.
+pub enum Writing {
+    Written(usize),
     Refused(Refusal),
 }
 
@@ -218,6 +228,16 @@ pub fn refused_by(a: Admission) -> Refusal
     ensures { λ r. ⌜ r ≡ refusedBy a ⌝ }
 {
     let Admission::Refused(r) = a else {
+        return at_start(NO_REFUSAL);
+    };
+    r
+}
+
+// Why a text is not written; where it is, a refusal of no number.
+pub fn not_written(answer: Writing) -> Refusal
+    ensures { λ r. ⌜ r ≡ notWritten answer ⌝ }
+{
+    let Writing::Refused(r) = answer else {
         return at_start(NO_REFUSAL);
     };
     r

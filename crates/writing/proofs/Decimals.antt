@@ -12,7 +12,7 @@ use lib.Seq.{drop-cons, drop-set-lt, getD-set-same, lt-length-set}
 use lib.Dec.{ltb}
 use borrow.Author.Tests.{lt-ltb, le-ltb, ltb-false}
 use Rattle.writing.specs.Decimal.{signOf, mostDigits, digitsBy, digitsOf, decimalText}
-use Rattle.writing.specs.Laws.{DigitsOf, DigitsFew}
+use Rattle.writing.specs.laws.Writing.{DigitsOf, DigitsFew}
 
 -- by whether a number has one digit
 pub digits-case {ℓ} : (P : List ℕ → Type ℓ) (b : Bool) (f : ℕ → List ℕ) (n : ℕ)

@@ -5,9 +5,9 @@ use mathlib.Core.Bool.{true}
 use mathlib.Core.Path.{_≡_, refl}
 use lib.Dec.{eqb}
 use borrow.Author.Tests.{eqb-true}
-use Rattle.byte.specs.declared.Class.the-variants.{Digit}
-use Rattle.byte.specs.Byte.{isWithin, isIn, digitOf}
-use Rattle.byte.proofs.Below.{below}
+use Rattle.scan.specs.declared.byte.Class.the-variants.{Digit}
+use Rattle.scan.specs.Byte.{isWithin, isIn, digitOf}
+use Rattle.proving.proofs.Below.{below}
 use Rattle.writing.specs.Decimal.{decimalBase, signOf}
 
 pub digit-sign : (d : ℕ) → d < decimalBase → digitOf (signOf d) ≡ d

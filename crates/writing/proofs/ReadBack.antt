@@ -7,12 +7,12 @@ use mathlib.Core.List.{List, [], _∷_, _++_}
 use lib.ListN.{length, length-append}
 use lib.Dec.{ltb, eqb, eqb·suc-zero}
 use borrow.Author.Tests.{ltb-true, ltb-false}
-use Rattle.byte.specs.declared.Class.the-variants.{Digit}
-use Rattle.byte.specs.Byte.{isIn, digitOf}
+use Rattle.scan.specs.declared.byte.Class.the-variants.{Digit}
+use Rattle.scan.specs.Byte.{isIn, digitOf}
 use Rattle.scan.specs.Run.{runLength}
 use Rattle.scan.proofs.Runs.{run-past}
 use Rattle.writing.specs.Decimal.{signOf, valueFrom, digitsOf, decimalText}
-use Rattle.writing.specs.Laws.{DecimalValue}
+use Rattle.writing.specs.laws.Writing.{DecimalValue}
 use Rattle.writing.proofs.Digit.{digit-sign, sign-digit}
 use Rattle.writing.proofs.Decimals.{digits-case, digits-of}
 

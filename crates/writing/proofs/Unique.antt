@@ -2,7 +2,7 @@
 -- list: each equals the same definition of what was lent.
 use mathlib.Core.Path.{sym, _∙_}
 use denote.Ref.{now}
-use Rattle.byte.proofs.One.{OneAnswer, OneContent}
+use Rattle.proving.proofs.One.{OneAnswer, OneContent}
 use Rattle.writing.proofs.put_text.Kinds as put-text
 use Rattle.writing.proofs.put_text.Reads as put-text-reads
 use Rattle.writing.proofs.put_decimal.Kinds as put-decimal

@@ -8,9 +8,9 @@ use mathlib.Core.List.{List, _++_}
 use lib.ListN.{length, set, getD, take}
 use lib.Seq.{paste, paste-zero, paste-suc, length-paste, take-paste, take-length}
 use borrow.Author.Tests.{le-leb, lt-leb, leb-true}
-use Rattle.byte.proofs.Choice.{either}
+use Rattle.proving.proofs.Choice.{either}
 use Rattle.writing.specs.Put.{fits, putAt, pastAt}
-use Rattle.writing.specs.Laws.{PastInside, PutStands}
+use Rattle.writing.specs.laws.Writing.{PastInside, PutStands}
 
 module _ (d : List ℕ) (at : ℕ) (xs : List ℕ) where
   pub put-in : at + length xs ≤ length d → putAt d at xs ≡ paste d at xs (length xs)

@@ -4,8 +4,8 @@ use Prim.Native.Nat.{ℕ}
 use mathlib.Core.List.{List}
 use mathlib.Core.Path.{_≡_}
 use denote.Ref.{now}
-use Rattle.byte.specs.Ascii.{ascii}
-use Rattle.byte.proofs.One.{Answers, Leaves}
+use Rattle.scan.specs.Ascii.{ascii}
+use Rattle.proving.proofs.One.{Answers, Leaves}
 use Rattle.writing.specs.Decimal.{signOf, digitsOf, decimalText}
 use Rattle.writing.specs.Put.{putAt, pastAt}
 use Rattle.writing.proofs.put_text.Kinds as put-text

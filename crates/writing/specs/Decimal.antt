@@ -4,7 +4,7 @@ use Prim.Native.Char.{code}
 use mathlib.Core.Bool.{Bool, true, false}
 use mathlib.Core.List.{List, [], _∷_, _++_}
 use lib.Dec.{ltb}
-use Rattle.byte.specs.Byte.{digitOf}
+use Rattle.scan.specs.Byte.{digitOf}
 
 abbrev pub decimalBase : ℕ
 decimalBase = 10

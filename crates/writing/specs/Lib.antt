@@ -1,3 +1,3 @@
 pub mod Decimal
 pub mod Put
-pub mod Laws
+pub mod laws

@@ -7,8 +7,8 @@ use mathlib.Core.Path.{_≡_, refl, sym, ap, _∙_}
 use lib.ListN.{length, getD, drop}
 use denote.Ref.{now}
 use borrow.Author.Needs.{needs}
-use Rattle.byte.specs.Byte.{digitOf}
-use Rattle.byte.proofs.Classes.{digit-bound}
+use Rattle.scan.specs.Byte.{digitOf}
+use Rattle.scan.proofs.byte.Classes.{digit-bound}
 use Rattle.decimal.specs.declared.Notation.{Notation}
 use Rattle.decimal.specs.declared.Notation.the-variants.{Decimal, Hex, Octal}
 use Rattle.decimal.specs.Value.{radixOf, valueFrom, mostTold}

@@ -1,5 +1,5 @@
 -- The test is that of the definition.
-use Rattle.byte.specs.Byte.{lowered}
+use Rattle.scan.specs.Byte.{lowered}
 use borrow.Author.Needs.{needs}
 use Rattle.decimal.proofs.is_exponent.Statement.{statement}
 use Rattle.decimal.proofs.is_exponent.Tie as tie

@@ -9,9 +9,9 @@ use lib.ListN.{length, getD, drop, length-map}
 use denote.Ref.{now}
 use borrow.Author.Needs.{needs}
 use borrow.Author.Tests.{eq-eqb, ne-eqb}
-use Rattle.byte.specs.Byte.{lowered}
+use Rattle.scan.specs.Byte.{lowered}
 use Rattle.scan.specs.Text.{sameText}
-use Rattle.byte.proofs.Classes.{lowered-at}
+use Rattle.scan.proofs.byte.Classes.{lowered-at}
 use Rattle.scan.proofs.Same.{same-turn, same-out, same-not}
 use Rattle.decimal.proofs.is_named.Statement.{statement}
 use Rattle.decimal.proofs.is_named.Tie as tie

@@ -7,7 +7,7 @@ use mathlib.Core.List.{List}
 use mathlib.Core.Path.{_≡_, sym, ap, _∙_}
 use lib.ListN.{length}
 use denote.Ref.{now}
-use Rattle.sign.specs.Sign.{isMinus}
+use Rattle.scan.specs.Sign.{isMinus}
 use Rattle.decimal.specs.declared.Decimal.{Decimal}
 use Rattle.decimal.specs.declared.Parts.{Parts}
 use Rattle.decimal.specs.Grammar.{isExponent, partsOf, digitsOf, fractionOf, exponentOf, isNegativeExponent}

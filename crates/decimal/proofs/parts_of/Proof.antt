@@ -2,8 +2,8 @@
 use native.Mathlib.Omega.{arith}
 use mathlib.Core.Path.{_≡_, ap, _∙_}
 use denote.Ref.{now}
-use Rattle.byte.specs.declared.Class.the-variants.{Digit}
-use Rattle.byte.specs.Byte.{isIn}
+use Rattle.scan.specs.declared.byte.Class.the-variants.{Digit}
+use Rattle.scan.specs.Byte.{isIn}
 use Rattle.scan.specs.Run.{runEnd}
 use Rattle.decimal.specs.Grammar.{pastPoint, pastExponent, wholeTo, fractionFrom, fractionTo}
 use Rattle.decimal.proofs.Places.{whole-within, fraction-within}

@@ -8,15 +8,15 @@ use lib.Ieee.{Float, inf, nan}
 use lib.ListN.{length, take, drop}
 use denote.Ref.{now}
 use borrow.Author.Tests.{lt-ltb, not-true, not-false}
-use Rattle.byte.specs.Ascii.{ascii}
-use Rattle.byte.specs.Byte.{lowered}
+use Rattle.scan.specs.Ascii.{ascii}
+use Rattle.scan.specs.Byte.{lowered}
 use Rattle.scan.specs.Text.{sameText}
 use Rattle.utf8.proofs.Chars.{rest-of}
 use Rattle.decimal.specs.declared.Decimal.the-variants.{NotDecimal, Named}
-use Rattle.sign.specs.Sign.{isMinus}
+use Rattle.scan.specs.Sign.{isMinus}
 use Rattle.decimal.specs.Grammar.{wholeFrom, isNumeral, isInfinite, isNan}
 use Rattle.decimal.specs.Value.{longest, plain, numeralRead, decimalIn, decimalOf}
-use Rattle.sign.proofs.Places.{sign-within}
+use Rattle.scan.proofs.sign.Places.{sign-within}
 use Rattle.decimal.proofs.Characters.{by-characters}
 use borrow.Author.Needs.{needs}
 use Rattle.decimal.proofs.read_decimal.Statement.{statement}

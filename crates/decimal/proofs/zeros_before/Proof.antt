@@ -5,7 +5,7 @@ use mathlib.Core.Path.{_≡_, sym, _∙_}
 use lib.ListN.{getD}
 use denote.Ref.{now}
 use borrow.Author.Needs.{needs}
-use Rattle.byte.specs.Byte.{digitOf}
+use Rattle.scan.specs.Byte.{digitOf}
 use Rattle.decimal.specs.Grammar.{between}
 use Rattle.decimal.specs.Value.{trailing}
 use Rattle.decimal.proofs.Zeros.{zero-last, other-last, none-between}

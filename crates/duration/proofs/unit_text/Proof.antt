@@ -2,11 +2,11 @@
 use mathlib.Core.Bool.{true, false}
 use mathlib.Core.Path.{_≡_, sym, ap, _∙_}
 use denote.Ref.{now}
-use Rattle.span.specs.declared.Duration.{Duration}
-use Rattle.span.specs.Spans.{isZero}
-use Rattle.units.specs.declared.Units.{Units}
-use Rattle.units.specs.declared.Units.the-variants.{Sum, NotUnits}
-use Rattle.units.specs.Units.{unitsOf}
+use Rattle.duration.specs.declared.span.Duration.{Duration}
+use Rattle.duration.specs.Spans.{isZero}
+use Rattle.duration.specs.declared.units.Units.{Units}
+use Rattle.duration.specs.declared.units.Units.the-variants.{Sum, NotUnits}
+use Rattle.duration.specs.Units.{unitsOf}
 use Rattle.duration.specs.declared.Timing.the-variants.{Lasts, Refused}
 use Rattle.duration.specs.Duration.{zeroDuration, unitsRead}
 use borrow.Author.Needs.{needs}

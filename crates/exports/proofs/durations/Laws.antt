@@ -7,14 +7,14 @@ use Rattle.duration.specs.declared.Timing.{Timing}
 use Rattle.duration.specs.declared.Timing.the-variants.{Lasts, Refused}
 use Rattle.duration.specs.Duration.{timingOf}
 use Rattle.duration.proofs.Bounds.{Bounded, timing-bound}
-use Rattle.display.specs.declared.Displaying.{Displaying}
-use Rattle.display.specs.declared.Displaying.the-variants as displaying
-use Rattle.display.specs.Display.{displayingOf}
-use Rattle.display.proofs.Reach as displaying-bounds
-use Rattle.display.proofs.Reach.{displaying-bound}
+use Rattle.duration.specs.declared.display.Displaying.{Displaying}
+use Rattle.duration.specs.declared.display.Displaying.the-variants as displaying
+use Rattle.duration.specs.Display.{displayingOf}
+use Rattle.duration.proofs.display.Reach as displaying-bounds
+use Rattle.duration.proofs.display.Reach.{displaying-bound}
 use Rattle.exports.specs.Packed.{refusedFrom}
 use Rattle.exports.specs.Duration.{durationCode, displayingCode}
-use Rattle.exports.specs.Laws.{looksRefused, isNoDuration, DurationTold, DurationKept, isNotDisplayed, DurationDisplayTold, DurationDisplayKept}
+use Rattle.exports.specs.laws.Codes.{looksRefused, isNoDuration, DurationTold, DurationKept, isNotDisplayed, DurationDisplayTold, DurationDisplayKept}
 use Rattle.exports.proofs.packing.Laws.{packed-told, placed-kept}
 
 pub duration-told : DurationTold

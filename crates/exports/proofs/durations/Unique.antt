@@ -2,7 +2,7 @@
 -- the definition.
 use mathlib.Core.Path.{sym, _∙_}
 use denote.Ref.{now}
-use Rattle.byte.proofs.One.{OneAnswer, OneContent}
+use Rattle.proving.proofs.One.{OneAnswer, OneContent}
 use Rattle.exports.proofs.durations.simmerpath_parse_duration.Kinds as parse-duration
 use Rattle.exports.proofs.durations.simmerpath_parse_duration.Reads as parse-duration-reads
 use Rattle.exports.proofs.durations.simmerpath_display_duration.Kinds as display-duration

@@ -10,7 +10,7 @@ use Rattle.number.specs.declared.Parsing.the-variants.{Value, Refused}
 use Rattle.number.specs.Number.{parsingOf}
 use Rattle.number.proofs.Bounds.{Bounded, parsing-bound}
 use Rattle.exports.specs.Number.{notationCode, parseCode}
-use Rattle.exports.specs.Laws.{looksRefused, isNoNumber, ParseTold, ParseKept}
+use Rattle.exports.specs.laws.Codes.{looksRefused, isNoNumber, ParseTold, ParseKept}
 use Rattle.exports.proofs.packing.Laws.{packed-told, placed-kept}
 
 pub parse-told : ParseTold

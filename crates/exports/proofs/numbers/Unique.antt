@@ -2,7 +2,7 @@
 -- the definition.
 use mathlib.Core.Path.{sym, _∙_}
 use denote.Ref.{now}
-use Rattle.byte.proofs.One.{OneAnswer, OneContent}
+use Rattle.proving.proofs.One.{OneAnswer, OneContent}
 use Rattle.exports.proofs.numbers.simmerpath_parse_str_radix.Kinds as parse-str-radix
 use Rattle.exports.proofs.numbers.simmerpath_parse_str_radix.Reads as parse-str-radix-reads
 

@@ -7,16 +7,16 @@ use lib.Count.{trailingZeros}
 use lib.Ieee as Ieee
 use lib.Ieee.{size, span, climb, odd, units, round, ofInt, toBits}
 use denote.Ref.{now}
-use Rattle.byte.specs.Ascii.{ascii}
-use Rattle.byte.specs.Byte.{isWithin, isHexDigit, digitOf, isDigitIn, lowered, isIn}
-use Rattle.byte.proofs.One.{Answers, Leaves}
+use Rattle.scan.specs.Ascii.{ascii}
+use Rattle.scan.specs.Byte.{isWithin, isHexDigit, digitOf, isDigitIn, lowered, isIn}
+use Rattle.proving.proofs.One.{Answers, Leaves}
 use Rattle.scan.specs.Run.{runLength}
 use Rattle.scan.specs.Text.{has, sameText}
 use Rattle.utf8.specs.Table.{fits, sizeIn, charLength}
 use Rattle.utf8.specs.Code.{codeOf, encoded}
 use Rattle.utf8.specs.Text.{charsPast, sizeOf}
 use Rattle.utf8.specs.Answers.{validityOf, admitted}
-use Rattle.sign.specs.Sign.{isSign}
+use Rattle.scan.specs.Sign.{isSign}
 use Rattle.decimal.specs.Grammar.{hasDigits, exponentHasDigits, isNumeral, isInfinite, isNan}
 use Rattle.decimal.specs.Value.{bitsOf, valueFrom, isZeros, trailing, isExact, nearest, scaledBy, decimalIn, decimalOf}
 use Rattle.number.specs.White.{isWhite, keptOf}

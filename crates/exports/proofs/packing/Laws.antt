@@ -9,7 +9,7 @@ use Rattle.utf8.specs.declared.Refusal.{Refusal}
 use Rattle.utf8.specs.Answers.{textLimit}
 use Rattle.utf8.proofs.Bounds.{Placed}
 use Rattle.exports.specs.Packed.{refusedFrom, numberLimit, packedOf, Packable}
-use Rattle.exports.specs.Laws.{NothingLost, looksRefused, PackedTold}
+use Rattle.exports.specs.laws.Codes.{NothingLost, looksRefused, PackedTold}
 
 pub nothing-lost : NothingLost
 nothing-lost r s p q e =

@@ -1,6 +1,6 @@
 -- Any two answers that the promise of a public function allows are equal: both equal the definition.
 use mathlib.Core.Path.{sym, _∙_}
-use Rattle.byte.proofs.One.{OneAnswer}
+use Rattle.proving.proofs.One.{OneAnswer}
 use Rattle.exports.proofs.packing.packed.Kinds as packed
 use Rattle.exports.proofs.packing.packed.Reads as packed-reads
 use Rattle.exports.proofs.packing.packed_at_start.Kinds as packed-at-start

@@ -4,7 +4,7 @@ use Prim.Native.Nat.{ℕ}
 use mathlib.Core.Path.{_≡_}
 use Rattle.utf8.specs.declared.Refusal.{Refusal}
 use Rattle.utf8.specs.Answers.{place, atStart, notUtf8}
-use Rattle.byte.proofs.One.{Answers}
+use Rattle.proving.proofs.One.{Answers}
 use Rattle.exports.specs.Packed.{packedOf}
 use Rattle.exports.proofs.packing.packed.Kinds as packed
 use Rattle.exports.proofs.packing.packed.Reads as packed-reads

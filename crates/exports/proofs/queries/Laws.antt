@@ -7,7 +7,7 @@ use Rattle.lex.specs.declared.Lexing.the-variants.{Count, Refused}
 use Rattle.lex.specs.Lex.{lexed}
 use Rattle.lex.proofs.Bounds.{Bounded, lexing-bound}
 use Rattle.exports.specs.Lexer.{lexerCode}
-use Rattle.exports.specs.Laws.{looksRefused, isNotLexed, LexerTold, LexerKept}
+use Rattle.exports.specs.laws.Codes.{looksRefused, isNotLexed, LexerTold, LexerKept}
 use Rattle.exports.proofs.packing.Laws.{small, packed-told, placed-kept}
 
 pub lexer-told : LexerTold

@@ -2,7 +2,7 @@
 -- the definition.
 use mathlib.Core.Path.{sym, _∙_}
 use denote.Ref.{now}
-use Rattle.byte.proofs.One.{OneAnswer, OneContent}
+use Rattle.proving.proofs.One.{OneAnswer, OneContent}
 use Rattle.exports.proofs.queries.simmerpath_lexer.Kinds as lexer
 use Rattle.exports.proofs.queries.simmerpath_lexer.Reads as lexer-reads
 

@@ -7,9 +7,9 @@ use lib.ListN.{length}
 use contract.Lifetimes.{Lfts}
 use borrow.Fn.Kinds.{Dens}
 use denote.Ref.{now}
-use Rattle.byte.specs.Ascii.{ascii}
-use Rattle.byte.specs.Byte.{isWithin, isIn, isSpace, isAlpha, isAlphaNumeric, isWord, lowered}
-use Rattle.byte.proofs.One.{Answers, Leaves}
+use Rattle.scan.specs.Ascii.{ascii}
+use Rattle.scan.specs.Byte.{isWithin, isIn, isSpace, isAlpha, isAlphaNumeric, isWord, lowered}
+use Rattle.proving.proofs.One.{Answers, Leaves}
 use Rattle.scan.specs.Run.{runLength}
 use Rattle.scan.specs.Text.{has, sameText}
 use Rattle.utf8.specs.Table.{fits, sizeIn, charLength}
@@ -17,8 +17,8 @@ use Rattle.utf8.specs.Code.{codeOf}
 use Rattle.utf8.specs.Text.{charsPast, sizeOf, begunIn, charNumber}
 use Rattle.utf8.specs.Answers.{validityOf, admitted}
 use Rattle.token.specs.Words.{words, kindIn, keywordOf}
-use Rattle.lead.specs.Lead.{symbolOf, leadOf}
-use Rattle.word.specs.Word.{ruleBy, kindBy}
+use Rattle.munch.specs.Lead.{symbolOf, leadOf}
+use Rattle.munch.specs.Word.{ruleBy, kindBy}
 use Rattle.munch.specs.Munch.{wordStep, endStep, outsideStep, munchedBy}
 use Rattle.lex.specs.Steps.{stepsPast, readFrom}
 use Rattle.lex.specs.Lex.{tallied, measured, lexed, listed, leftBy, kindOf, startOf, lengthOf, shortest}

@@ -6,19 +6,19 @@ use mathlib.Core.Bool.{_&&_, not}
 use mathlib.Core.Path.{_≡_, refl, subst}
 use lib.Dec.{leb}
 use borrow.Author.Tests.{le-leb, lt-leb}
-use Rattle.escape.specs.declared.Escaping.{Escaping}
-use Rattle.escape.specs.declared.Escaping.the-variants.{Written, Refused}
-use Rattle.escape.specs.Escape.{escapingOf}
-use Rattle.escape.proofs.Bounds.{Bounded, escaping-bound}
+use Rattle.string.specs.declared.escape.Escaping.{Escaping}
+use Rattle.string.specs.declared.escape.Escaping.the-variants.{Written, Refused}
+use Rattle.string.specs.Escape.{escapingOf}
+use Rattle.string.proofs.escape.Bounds.{Bounded, escaping-bound}
 use Rattle.string.specs.declared.Unquoting.{Unquoting}
 use Rattle.string.specs.declared.Unquoting.the-variants as unquoting
-use Rattle.string.specs.Laws.{isRead}
+use Rattle.string.specs.laws.ReadBack.{isRead}
 use Rattle.string.specs.Literal.{unquotingOf}
 use Rattle.string.proofs.Bounds as unquoting-bounds
 use Rattle.string.proofs.Bounds.{unquoting-bound}
 use Rattle.exports.specs.Packed.{refusedFrom}
 use Rattle.exports.specs.String.{escapeCode, innerFrom, unquoteCode}
-use Rattle.exports.specs.Laws.{looksRefused, isNotEscaped, EscapeTold, EscapeKept, isInner, UnquoteTold, UnquoteKept}
+use Rattle.exports.specs.laws.Codes.{looksRefused, isNotEscaped, EscapeTold, EscapeKept, isInner, UnquoteTold, UnquoteKept}
 use Rattle.exports.proofs.packing.Laws.{small, packed-told, placed-kept}
 
 pub escape-told : EscapeTold

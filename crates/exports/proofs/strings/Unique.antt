@@ -2,7 +2,7 @@
 -- the definition.
 use mathlib.Core.Path.{sym, _∙_}
 use denote.Ref.{now}
-use Rattle.byte.proofs.One.{OneAnswer, OneContent}
+use Rattle.proving.proofs.One.{OneAnswer, OneContent}
 use Rattle.exports.proofs.strings.simmerpath_escape_string.Kinds as escape-string
 use Rattle.exports.proofs.strings.simmerpath_escape_string.Reads as escape-string-reads
 use Rattle.exports.proofs.strings.simmerpath_unquote_string.Kinds as unquote-string

@@ -8,20 +8,20 @@ use mathlib.Core.List.{List, _∷_}
 use mathlib.Core.Path.{_≡_, refl, ap, _∙_}
 use lib.ListN.{length, replicate, length-replicate}
 use denote.Ref.{now}
-use Rattle.byte.specs.Ascii.{ascii}
-use Rattle.byte.specs.Byte.{isWithin, isHexDigit, digitOf, isDigitIn}
-use Rattle.byte.proofs.One.{Answers, Leaves}
+use Rattle.scan.specs.Ascii.{ascii}
+use Rattle.scan.specs.Byte.{isWithin, isHexDigit, digitOf, isDigitIn}
+use Rattle.proving.proofs.One.{Answers, Leaves}
 use Rattle.scan.specs.Text.{has}
 use Rattle.utf8.specs.Table.{fits, sizeIn, charLength}
 use Rattle.utf8.specs.Code.{isScalar, codeOf, sixBits, encoded}
 use Rattle.utf8.specs.Text.{charsPast, sizeOf}
 use Rattle.utf8.specs.Answers.{textLimit, validityOf, admitted, characterAt}
-use Rattle.utf8.specs.Laws.{isAscii}
+use Rattle.utf8.specs.laws.Characters.{isAscii}
 use Rattle.utf8.proofs.Ascii.{ascii-text}
-use Rattle.escape.specs.declared.Escaping.the-variants.{Written}
-use Rattle.escape.specs.Escape.{letterOf, orLetter, escapedCodes, escaped, escapingOf, leftBy}
-use Rattle.escape.proofs.Given.{escaping-given}
-use Rattle.tile.specs.Tile.{letterValue, numeralFrom, isAllowed, numbered, escapeOf, beginsEscape, tileOf}
+use Rattle.string.specs.declared.escape.Escaping.the-variants.{Written}
+use Rattle.string.specs.Escape.{letterOf, orLetter, escapedCodes, escaped, escapingOf, leftBy}
+use Rattle.string.proofs.escape.Given.{escaping-given}
+use Rattle.string.specs.Tile.{letterValue, numeralFrom, isAllowed, numbered, escapeOf, beginsEscape, tileOf}
 use Rattle.string.specs.Tiles.{tilesPast, hasBad, pieceBytes, bytesOf}
 use Rattle.string.specs.Literal.{isQuote, isEnclosed, hasNewline, hasEscape, unquoted, extentOf, unquotingOf, textBy}
 use Rattle.exports.specs.Packed.{packedAs}

@@ -11,15 +11,15 @@ use Rattle.utf8.specs.declared.Admission.{Admission}
 use Rattle.utf8.specs.declared.Admission.the-variants.{Admitted, Refused}
 use Rattle.utf8.specs.declared.Character.{Character}
 use Rattle.utf8.specs.declared.Character.the-variants.{Scalar, Nothing, IllFormed}
-use Rattle.encode.specs.declared.Encoding.{Encoding}
-use Rattle.encode.specs.declared.Encoding.the-variants.{Written, NotScalar, NoRoom}
+use Rattle.utf8.specs.declared.encode.Encoding.{Encoding}
+use Rattle.utf8.specs.declared.encode.Encoding.the-variants.{Written, NotScalar, NoRoom}
 use Rattle.utf8.specs.Answers.{placeAt, textLimit, tooLong, notUtf8, admitted, characterAt}
-use Rattle.encode.specs.Answers.{encodingOf}
+use Rattle.utf8.specs.Encode.{encodingOf}
 use Rattle.utf8.proofs.Bounds.{Bounded, admitted-bound, Within, character-within, number-bound}
-use Rattle.encode.proofs.Bounds.{AtMostFour, encoding-bound}
+use Rattle.utf8.proofs.encode.Bounds.{AtMostFour, encoding-bound}
 use Rattle.exports.specs.Packed.{packedOf}
 use Rattle.exports.specs.Utf8.{validateCode, characterCode, charAtCode, encodeCode}
-use Rattle.exports.specs.Laws.{looksRefused, isNotAdmitted, ValidateTold, ValidateKept, isIllFormed, CharAtTold, CharAtKept, isUnwritten, EncodeTold, EncodeKept}
+use Rattle.exports.specs.laws.Codes.{looksRefused, isNotAdmitted, ValidateTold, ValidateKept, isIllFormed, CharAtTold, CharAtKept, isUnwritten, EncodeTold, EncodeKept}
 use Rattle.exports.proofs.packing.Laws.{small, packed-told, placed-kept}
 
 pub validate-told : ValidateTold

@@ -2,7 +2,7 @@
 -- the definition.
 use mathlib.Core.Path.{sym, _∙_}
 use denote.Ref.{now}
-use Rattle.byte.proofs.One.{OneAnswer, OneContent}
+use Rattle.proving.proofs.One.{OneAnswer, OneContent}
 use Rattle.exports.proofs.text.simmerpath_utf8_validate.Kinds as validate
 use Rattle.exports.proofs.text.simmerpath_utf8_validate.Reads as validate-reads
 use Rattle.exports.proofs.text.simmerpath_utf8_char_number.Kinds as char-number

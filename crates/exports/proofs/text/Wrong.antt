@@ -8,15 +8,15 @@ use mathlib.Core.Path.{_≡_, ap, _∙_}
 use lib.ListN.{length, replicate, length-replicate}
 use denote.Ref.{now}
 use borrow.Author.Tests.{le-ltb, lt-leb}
-use Rattle.byte.specs.Ascii.{ascii}
-use Rattle.byte.specs.Byte.{isWithin}
-use Rattle.byte.proofs.One.{Answers, Leaves}
+use Rattle.scan.specs.Ascii.{ascii}
+use Rattle.scan.specs.Byte.{isWithin}
+use Rattle.proving.proofs.One.{Answers, Leaves}
 use Rattle.utf8.specs.Table.{fits, sizeIn, charLength}
 use Rattle.utf8.specs.Code.{isScalar, codeOf, sixBits, encoded}
 use Rattle.utf8.specs.Text.{charsPast, sizeOf, begunIn, charNumber}
 use Rattle.utf8.specs.Answers.{textLimit, validityOf, admitted, characterAt}
 use Rattle.utf8.proofs.Given.{given-exactly}
-use Rattle.encode.specs.Answers.{encodingOf, leftBy}
+use Rattle.utf8.specs.Encode.{encodingOf, leftBy}
 use Rattle.exports.specs.Packed.{packedAs}
 use Rattle.exports.specs.Utf8.{validateCode, charAtCode, charAtLeft, encodeCode}
 use Rattle.exports.proofs.text.simmerpath_utf8_validate.Kinds as simmerpath-utf8-validate

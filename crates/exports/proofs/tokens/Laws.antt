@@ -4,12 +4,12 @@ use native.Mathlib.Omega.{arith}
 use mathlib.Core.Path.{_≡_, refl}
 use lib.Dec.{leb}
 use lib.ListN.{length}
-use Rattle.byte.proofs.Choice.{either}
+use Rattle.proving.proofs.Choice.{either}
 use Rattle.token.specs.declared.Display.{Display}
 use Rattle.token.specs.Display.{displayOf, fitted}
 use Rattle.token.proofs.Displays.{short}
 use Rattle.exports.specs.Token.{displayCode}
-use Rattle.exports.specs.Laws.{looksRefused, isNotShown, TokenDisplayTold, TokenDisplayKept}
+use Rattle.exports.specs.laws.Codes.{looksRefused, isNotShown, TokenDisplayTold, TokenDisplayKept}
 use Rattle.exports.proofs.packing.Laws.{small}
 
 pub token-display-told : TokenDisplayTold

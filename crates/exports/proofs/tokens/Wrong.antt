@@ -5,9 +5,9 @@ use mathlib.Core.List.{List}
 use mathlib.Core.Path.{_≡_}
 use lib.ListN.{length}
 use denote.Ref.{now}
-use Rattle.byte.specs.Ascii.{ascii}
-use Rattle.byte.specs.Byte.{isWithin, isAlpha, isAlphaNumeric, lowered}
-use Rattle.byte.proofs.One.{Answers, Leaves}
+use Rattle.scan.specs.Ascii.{ascii}
+use Rattle.scan.specs.Byte.{isWithin, isAlpha, isAlphaNumeric, lowered}
+use Rattle.proving.proofs.One.{Answers, Leaves}
 use Rattle.scan.specs.Text.{sameText}
 use Rattle.utf8.specs.Table.{fits, sizeIn, charLength}
 use Rattle.utf8.specs.Code.{codeOf}

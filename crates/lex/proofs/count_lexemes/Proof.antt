@@ -7,11 +7,11 @@ use denote.Ref.{now}
 use lib.ListN.{length, drop, length-drop}
 use Rattle.scan.proofs.Edges.{edge-within}
 use Rattle.utf8.proofs.Chars.{rest-of}
-use Rattle.token.specs.WordRows.{keywordIn}
+use Rattle.token.specs.steps.WordRows.{keywordIn}
 use Rattle.munch.specs.declared.Mode.{Mode}
 use Rattle.munch.specs.declared.Step.{Step}
 use Rattle.munch.specs.Munch.{munchedBy, munched}
-use Rattle.munch.specs.Laws.{Past, Goes}
+use Rattle.munch.specs.laws.Step.{Past, Goes}
 use Rattle.munch.proofs.Table.{by-table}
 use Rattle.lex.specs.Steps.{stepLength, stepMode, followed, stepsPast, readFrom}
 use Rattle.lex.specs.Lex.{tallied, tallyOf}

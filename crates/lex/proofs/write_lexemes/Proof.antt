@@ -11,7 +11,7 @@ use Rattle.utf8.proofs.Chars.{rest-of}
 use Rattle.munch.specs.declared.Mode.{Mode}
 use Rattle.munch.specs.declared.Step.{Step}
 use Rattle.munch.specs.Munch.{munched}
-use Rattle.munch.specs.Laws.{Goes}
+use Rattle.munch.specs.laws.Step.{Goes}
 use Rattle.munch.proofs.Table.{by-table}
 use Rattle.lex.specs.Steps.{stepLength, stepMode, followed, stepsPast, readFrom}
 use Rattle.lex.specs.Lex.{entries}

@@ -2,7 +2,7 @@
 use Rattle.listing.proofs.Puts.{puts, puts-none, puts-on}
 use Rattle.listing.proofs.Few.{lexeme-few}
 use Rattle.listing.proofs.Lexemes.{text-more, text-all}
-use Rattle.listing.specs.Puts.{Puts}
+use Rattle.listing.specs.steps.Puts.{Puts}
 use Rattle.listing.specs.Listing.{longestLexeme, lexemeText, lexemesText, zipped}
 use Rattle.lex.specs.Steps.{entry}
 use mathlib.Core.Path.{_≡_, refl}

@@ -1,7 +1,7 @@
 -- Each number stands behind those before it, and there is room for three.
 use mathlib.Core.Path.{_∙_}
 use native.Mathlib.Omega.{arith}
-use Rattle.byte.specs.Ascii.{ascii}
+use Rattle.scan.specs.Ascii.{ascii}
 use Rattle.listing.proofs.Puts.{puts-on}
 use Rattle.listing.proofs.Few.{number-most}
 use borrow.Author.Needs.{needs}

@@ -1,7 +1,7 @@
 -- The line stands at the front of the array, which has room for any: `refused `, and three numbers behind it.
 use Rattle.listing.proofs.Puts.{puts, puts-on, puts-front}
 use Rattle.listing.specs.Listing.{refusal}
-use Rattle.byte.specs.Ascii.{ascii}
+use Rattle.scan.specs.Ascii.{ascii}
 use lib.Seq.{length-take-le}
 use lib.ListN.{length, take}
 use mathlib.Core.Path.{_≡_, sym, _∙_}

@@ -2,12 +2,12 @@
 use native.Mathlib.Omega.{arith}
 use mathlib.Core.Path.{_≡_, sym, ap, subst, _∙_}
 use denote.Ref.{now}
-use Rattle.byte.specs.Byte.{peekAt, isAlpha}
+use Rattle.scan.specs.Byte.{peekAt, isAlpha}
 use Rattle.scan.proofs.Edges.{ascii-inside, alpha-ascii}
-use Rattle.lead.specs.declared.BraceLead.{BraceLead}
-use Rattle.lead.specs.Lead.{braceLeadOf}
-use Rattle.lead.specs.Laws.{BraceBegun}
-use Rattle.lead.proofs.Leads.{brace-lead-begun, begun-inside}
+use Rattle.munch.specs.declared.lead.BraceLead.{BraceLead}
+use Rattle.munch.specs.Lead.{braceLeadOf}
+use Rattle.munch.specs.laws.Lead.{BraceBegun}
+use Rattle.munch.proofs.lead.Leads.{brace-lead-begun, begun-inside}
 use Rattle.munch.specs.Munch.{braceStep}
 use borrow.Author.Needs.{needs}
 use Rattle.munch.proofs.brace_step.Statement.{statement}

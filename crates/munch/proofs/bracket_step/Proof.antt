@@ -1,9 +1,9 @@
 -- Each arm is the clause of the definition for what begins here.
 use mathlib.Core.Path.{_≡_, sym, ap, _∙_}
 use denote.Ref.{now}
-use Rattle.byte.specs.Byte.{peekAt}
-use Rattle.lead.specs.declared.BracketLead.{BracketLead}
-use Rattle.lead.specs.Lead.{bracketLeadOf}
+use Rattle.scan.specs.Byte.{peekAt}
+use Rattle.munch.specs.declared.lead.BracketLead.{BracketLead}
+use Rattle.munch.specs.Lead.{bracketLeadOf}
 use Rattle.munch.specs.Munch.{bracketStep}
 use borrow.Author.Needs.{needs}
 use Rattle.munch.proofs.bracket_step.Statement.{statement}

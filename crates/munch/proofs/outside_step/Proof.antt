@@ -2,13 +2,13 @@
 use native.Mathlib.Omega.{arith}
 use mathlib.Core.Path.{_≡_, sym, ap, subst, _∙_}
 use denote.Ref.{now}
-use Rattle.byte.specs.Byte.{peekAt}
+use Rattle.scan.specs.Byte.{peekAt}
 use Rattle.scan.proofs.Edges.{ascii-inside}
-use Rattle.token.specs.WordRows.{keywordIn}
-use Rattle.lead.specs.declared.Lead.{Lead}
-use Rattle.lead.specs.Lead.{leadOf}
-use Rattle.lead.specs.Laws.{isWordStart, Begun}
-use Rattle.lead.proofs.Leads.{lead-begun, start-ascii, begun-inside}
+use Rattle.token.specs.steps.WordRows.{keywordIn}
+use Rattle.munch.specs.declared.lead.Lead.{Lead}
+use Rattle.munch.specs.Lead.{leadOf}
+use Rattle.munch.specs.laws.Lead.{isWordStart, Begun}
+use Rattle.munch.proofs.lead.Leads.{lead-begun, start-ascii, begun-inside}
 use Rattle.munch.specs.Munch.{outsideStep}
 use borrow.Author.Needs.{needs}
 use Rattle.munch.proofs.outside_step.Statement.{statement}

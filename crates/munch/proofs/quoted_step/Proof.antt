@@ -4,17 +4,17 @@ use native.Mathlib.Omega.{arith}
 use mathlib.Core.Path.{_≡_, sym, ap, ap₂, subst, _∙_}
 use denote.Ref.{now}
 use lib.ListN.{drop, length-drop}
-use Rattle.byte.specs.Byte.{end, peekAt}
-use Rattle.byte.proofs.Classes.{getD-any}
+use Rattle.scan.specs.Byte.{end, peekAt}
+use Rattle.scan.proofs.byte.Classes.{getD-any}
 use Rattle.scan.proofs.Edges.{edge-within}
 use Rattle.utf8.proofs.Chars.{rest-of}
 use Rattle.token.specs.Kinds.{string}
 use Rattle.quoted.specs.declared.Quoted.{Quoted}
 use Rattle.quoted.specs.Quoted.{quotedOf}
-use Rattle.quoted.specs.Laws.{Lies}
+use Rattle.quoted.specs.laws.Quoted.{Lies}
 use Rattle.quoted.proofs.Strings.{string-within}
-use Rattle.lead.specs.Lead.{isQuote}
-use Rattle.lead.proofs.Leads.{begun-inside, quote-ascii}
+use Rattle.munch.specs.Lead.{isQuote}
+use Rattle.munch.proofs.lead.Leads.{begun-inside, quote-ascii}
 use Rattle.munch.specs.declared.Step.the-variants.{Lexeme}
 use Rattle.munch.specs.Munch.{quotedStep}
 use borrow.Author.Needs.{needs}

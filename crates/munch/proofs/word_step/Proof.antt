@@ -3,8 +3,8 @@ use native.Mathlib.Omega.{arith}
 use mathlib.Core.Path.{sym}
 use denote.Ref.{now}
 use lib.Seq.{length-take-le}
-use Rattle.byte.specs.declared.Class.the-variants.{Word}
-use Rattle.byte.specs.Byte.{isIn}
+use Rattle.scan.specs.declared.byte.Class.the-variants.{Word}
+use Rattle.scan.specs.Byte.{isIn}
 use Rattle.scan.proofs.Runs.{run-within}
 use Rattle.munch.specs.Munch.{wordStep}
 use borrow.Author.Needs.{needs}

@@ -1,6 +1,6 @@
 -- Each way out knows what the two tests said.
-use Rattle.byte.proofs.Ways.{ways}
-use Rattle.byte.specs.Byte.{isWithin}
+use Rattle.proving.proofs.Ways.{ways}
+use Rattle.scan.specs.Byte.{isWithin}
 use Rattle.number.proofs.is_between.Statement.{statement}
 use Rattle.number.proofs.is_between.Tie as tie
 

@@ -2,8 +2,8 @@
 use mathlib.Core.Bool.{false}
 use mathlib.Core.Path.{_≡_, sym, _∙_}
 use borrow.Author.Needs.{needs}
-use Rattle.byte.specs.Byte.{isWithin}
-use Rattle.byte.proofs.Ways.{ways}
+use Rattle.scan.specs.Byte.{isWithin}
+use Rattle.proving.proofs.Ways.{ways}
 use Rattle.number.specs.White.{isWhite}
 use Rattle.number.proofs.is_white.Statement.{statement}
 use Rattle.number.proofs.is_white.Tie as tie

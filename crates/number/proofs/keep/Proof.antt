@@ -11,14 +11,14 @@ use types.Run.{OneOf}
 use denote.Enum.Declared.{tagOf}
 use denote.Ref.{now}
 use borrow.Author.Needs.{needs}
-use Rattle.byte.specs.Byte.{end, peekAt}
-use Rattle.byte.proofs.Classes.{getD-any}
-use Rattle.scan.proofs.Stores.{sets-join}
+use Rattle.scan.specs.Byte.{end, peekAt}
+use Rattle.scan.proofs.byte.Classes.{getD-any}
+use Rattle.proving.proofs.Stores.{sets-join}
 use Rattle.utf8.specs.declared.Character.{Character}
 use Rattle.utf8.specs.declared.Character.the-variants.{Scalar, Nothing, IllFormed}
 use Rattle.utf8.specs.Text.{WellFormed}
 use Rattle.utf8.specs.Answers.{characterAt}
-use Rattle.utf8.specs.Laws.{Standing, StandsAt}
+use Rattle.utf8.specs.laws.Characters.{Standing, StandsAt}
 use Rattle.utf8.proofs.Bounds.{character-stands, ascii-at}
 use Rattle.utf8.proofs.Character as character
 use Rattle.decimal.specs.Value.{longest}

@@ -10,11 +10,11 @@ use lib.Dec.{eqb}
 use lib.ListN.{length, drop}
 use denote.Ref.{now}
 use borrow.Author.Tests.{eq-eqb, ne-eqb, not-true, not-false}
-use Rattle.byte.specs.Byte.{peekAt}
+use Rattle.scan.specs.Byte.{peekAt}
 use Rattle.scan.proofs.Runs.{peek-inside}
 use Rattle.utf8.proofs.Chars.{rest-of}
 use Rattle.decimal.specs.declared.Notation.the-variants.{Hex, Octal}
-use Rattle.sign.specs.Sign.{isMinus}
+use Rattle.scan.specs.Sign.{isMinus}
 use Rattle.number.specs.declared.Parsing.the-variants.{Refused}
 use Rattle.number.specs.Number.{notNumber, isZeroAt, leadsZero, behindZero, isHexMark, notationOf, followsMark, integerRead, markedRead}
 use Rattle.number.proofs.Marks.{zero-inside}

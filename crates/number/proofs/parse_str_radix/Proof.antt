@@ -6,10 +6,10 @@ use mathlib.Core.Path.{_≡_, sym, ap, ap₂, _∙_}
 use lib.ListN.{length, take, replicate}
 use lib.Seq.{sets, length-sets}
 use denote.Ref.{now}
-use Rattle.scan.proofs.Stores.{written-front}
+use Rattle.proving.proofs.Stores.{written-front}
 use Rattle.utf8.specs.declared.Admission.{Admission}
 use Rattle.utf8.specs.Answers.{admitted, refusedBy}
-use Rattle.utf8.specs.Refusals.{Taken}
+use Rattle.utf8.specs.laws.Refusals.{Taken}
 use Rattle.utf8.proofs.Given.{admitted-text}
 use Rattle.decimal.specs.Value.{longest}
 use Rattle.number.specs.declared.Parsing.the-variants.{Refused}

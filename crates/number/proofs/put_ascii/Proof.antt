@@ -5,7 +5,7 @@ use mathlib.Core.List.{[], _∷_}
 use mathlib.Core.Path.{_≡_, refl, sym, ap, _∙_}
 use lib.ListN.{length}
 use borrow.Author.Needs.{needs}
-use Rattle.byte.proofs.Classes.{lowered-ascii}
+use Rattle.scan.proofs.byte.Classes.{lowered-ascii}
 use Rattle.number.specs.White.{keptBytes}
 use Rattle.number.proofs.Kept.{white-kept, ascii-kept}
 use Rattle.number.proofs.put_ascii.Statement.{statement}

@@ -10,13 +10,13 @@ use types.Run.{OneOf}
 use denote.Enum.Declared.{tagOf}
 use denote.Ref.{now}
 use borrow.Author.Needs.{needs}
-use Rattle.byte.specs.Byte.{lowered}
-use Rattle.encode.specs.declared.Encoding.{Encoding}
-use Rattle.encode.specs.declared.Encoding.the-variants.{Written}
+use Rattle.scan.specs.Byte.{lowered}
+use Rattle.utf8.specs.declared.encode.Encoding.{Encoding}
+use Rattle.utf8.specs.declared.encode.Encoding.the-variants.{Written}
 use Rattle.utf8.specs.Code.{isScalar, encoded}
-use Rattle.encode.specs.Answers.{leftBy}
-use Rattle.encode.proofs.Bounds.{encoding-fits}
-use Rattle.encode.proofs.Encoding as encoding
+use Rattle.utf8.specs.Encode.{leftBy}
+use Rattle.utf8.proofs.encode.Bounds.{encoding-fits}
+use Rattle.utf8.proofs.encode.Encoding as encoding
 use Rattle.number.specs.White.{keptBytes}
 use Rattle.number.proofs.Kept.{white-kept, other-kept, lowered-scalar, lowered-below}
 use Rattle.number.proofs.put_kept.Statement.{statement}

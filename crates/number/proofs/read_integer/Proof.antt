@@ -9,9 +9,9 @@ use denote.Ref.{now}
 use borrow.Author.Tests.{lt-ltb, le-ltb, not-true, not-false}
 use Rattle.utf8.proofs.Chars.{rest-of}
 use Rattle.decimal.specs.declared.Notation.{Notation}
-use Rattle.sign.specs.Sign.{isMinus}
+use Rattle.scan.specs.Sign.{isMinus}
 use Rattle.decimal.specs.Value.{radixOf, valueIn, mostTold}
-use Rattle.sign.proofs.Places.{sign-within}
+use Rattle.scan.proofs.sign.Places.{sign-within}
 use Rattle.number.specs.declared.Integer.the-variants.{Whole, NotInteger}
 use Rattle.number.specs.Integer.{isDigits, unsignedOf, isWhole, magnitudeOf, integerOf, toldOf}
 use borrow.Author.Needs.{needs}

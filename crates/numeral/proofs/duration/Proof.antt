@@ -6,7 +6,7 @@ use mathlib.Core.List.{List}
 use mathlib.Core.Path.{_≡_, refl, sym, ap, _∙_}
 use lib.ListN.{length, drop}
 use denote.Ref.{now}
-use Rattle.byte.specs.Byte.{peekAt}
+use Rattle.scan.specs.Byte.{peekAt}
 use Rattle.numeral.specs.declared.Part.{Part}
 use Rattle.numeral.specs.declared.Turn.{Turn}
 use Rattle.numeral.specs.Numeral.{turnOf, turned, partOf, durationFrom}

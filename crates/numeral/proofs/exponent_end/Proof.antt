@@ -3,11 +3,11 @@ use native.Mathlib.Omega.{arith}
 use mathlib.Core.Path.{sym, ap, _∙_}
 use denote.Ref.{now}
 use borrow.Author.Tests.{eq-eqb}
-use Rattle.byte.specs.declared.Class.the-variants.{Digit}
-use Rattle.byte.specs.Byte.{lowered, isIn}
+use Rattle.scan.specs.declared.byte.Class.the-variants.{Digit}
+use Rattle.scan.specs.Byte.{lowered, isIn}
 use Rattle.scan.specs.Run.{runEnd}
 use Rattle.scan.proofs.Edges.{ascii-inside}
-use Rattle.byte.proofs.Ways.{ways}
+use Rattle.proving.proofs.Ways.{ways}
 use Rattle.numeral.specs.Numeral.{exponentEnd}
 use Rattle.numeral.proofs.Within.{letter-ascii}
 use borrow.Author.Needs.{needs}

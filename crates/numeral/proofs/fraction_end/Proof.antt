@@ -3,7 +3,7 @@ use native.Mathlib.Omega.{arith}
 use mathlib.Core.Path.{sym}
 use denote.Ref.{now}
 use Rattle.scan.proofs.Edges.{ascii-inside}
-use Rattle.byte.proofs.Ways.{ways}
+use Rattle.proving.proofs.Ways.{ways}
 use Rattle.numeral.specs.Numeral.{fractionEnd}
 use borrow.Author.Needs.{needs}
 use Rattle.numeral.proofs.fraction_end.Statement.{statement}

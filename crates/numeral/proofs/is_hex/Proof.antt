@@ -1,6 +1,6 @@
 -- Each way out knows what the tests before it said of the two bytes.
 use mathlib.Core.Path.{sym}
-use Rattle.byte.proofs.Ways.{ways}
+use Rattle.proving.proofs.Ways.{ways}
 use Rattle.numeral.specs.Numeral.{isHex}
 use borrow.Author.Needs.{needs}
 use Rattle.numeral.proofs.is_hex.Statement.{statement}

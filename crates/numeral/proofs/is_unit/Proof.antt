@@ -1,5 +1,5 @@
 -- Each way out knows what the tests before it said.
-use Rattle.byte.proofs.Ways.{ways}
+use Rattle.proving.proofs.Ways.{ways}
 use Rattle.numeral.specs.Numeral.{isUnit}
 use borrow.Author.Needs.{needs}
 use Rattle.numeral.proofs.is_unit.Statement.{statement}

@@ -1,7 +1,7 @@
 -- Each way out knows the part and what the tests said; to where the parts but digits meet, each brings what it knows.
 use mathlib.Core.Logic.{⊎-elim}
 use mathlib.Core.Path.{sym}
-use Rattle.byte.proofs.Ways.{ways}
+use Rattle.proving.proofs.Ways.{ways}
 use Rattle.numeral.specs.Numeral.{stopOf}
 use borrow.Author.Needs.{needs}
 use Rattle.numeral.proofs.stop_of.Statement.{statement}

@@ -10,7 +10,7 @@ use lib.ListN.{length, getD, drop}
 use denote.Ref.{now}
 use borrow.Author.Needs.{needs}
 use borrow.Author.Tests.{eq-eqb, ne-eqb, not-true, not-false}
-use Rattle.byte.specs.Byte.{backslash}
+use Rattle.scan.specs.Byte.{backslash}
 use Rattle.quoted.specs.declared.Quoted.the-variants.{Closed, Refused}
 use Rattle.quoted.specs.Quoted.{unknownEscape, quotedFrom, quotedOf}
 use Rattle.quoted.proofs.Turns.{past-end, escaped-turn, plain-turn}

@@ -8,10 +8,10 @@ use mathlib.Core.Path.{_≡_, refl, sym, ap, _∙_}
 use borrow.Author.Needs.{needs}
 use lib.ListN.{length}
 use denote.Ref.{now}
-use Rattle.byte.specs.declared.Class.{Class}
-use Rattle.byte.specs.Byte.{peekAt, isIn}
+use Rattle.scan.specs.declared.byte.Class.{Class}
+use Rattle.scan.specs.Byte.{peekAt, isIn}
 use Rattle.scan.specs.Run.{runEnd}
-use Rattle.byte.proofs.Classes.{end-in-none}
+use Rattle.scan.proofs.byte.Classes.{end-in-none}
 use Rattle.scan.proofs.Runs.{inside, run-goes-on, run-stops}
 use Rattle.scan.proofs.run_end.Statement.{statement}
 use Rattle.scan.proofs.run_end.Tie as tie

@@ -4,8 +4,8 @@ use native.Mathlib.Omega.{arith}
 use lib.ListN.{length}
 use denote.Ref.{now}
 use borrow.Author.Tests.{le-leb, lt-leb, eq-eqb, ne-eqb}
-use Rattle.byte.specs.Byte.{end}
-use Rattle.byte.proofs.Classes.{getD-any}
+use Rattle.scan.specs.Byte.{end}
+use Rattle.scan.proofs.byte.Classes.{getD-any}
 use Rattle.string.specs.Literal.{isEnclosed}
 use borrow.Author.Needs.{needs}
 use Rattle.string.proofs.is_enclosed.Statement.{statement}

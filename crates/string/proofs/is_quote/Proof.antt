@@ -1,5 +1,5 @@
 -- Each way out knows what the tests before it said.
-use Rattle.byte.proofs.Ways.{ways}
+use Rattle.proving.proofs.Ways.{ways}
 use Rattle.string.specs.Literal.{isQuote}
 use Rattle.string.proofs.is_quote.Statement.{statement}
 use Rattle.string.proofs.is_quote.Tie as tie

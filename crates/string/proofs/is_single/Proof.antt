@@ -1,7 +1,7 @@
 -- Each way out knows what the two tests said.
 use borrow.Author.Needs.{needs}
 use borrow.Author.Tests.{le-leb, lt-leb}
-use Rattle.string.specs.Measure.{isSingle}
+use Rattle.string.specs.steps.Measure.{isSingle}
 use Rattle.string.proofs.is_single.Statement.{statement}
 use Rattle.string.proofs.is_single.Tie as tie
 

@@ -13,21 +13,21 @@ use denote.Enum.Declared.{tagOf}
 use denote.Ref.{now}
 use lib.Dec.{leb}
 use borrow.Author.Tests.{leb-true}
-use Rattle.byte.proofs.Choice.{told}
-use Rattle.encode.specs.declared.Encoding.{Encoding}
-use Rattle.encode.specs.declared.Encoding.the-variants.{Written, NotScalar, NoRoom}
+use Rattle.proving.proofs.Choice.{told}
+use Rattle.utf8.specs.declared.encode.Encoding.{Encoding}
+use Rattle.utf8.specs.declared.encode.Encoding.the-variants.{Written, NotScalar, NoRoom}
 use Rattle.utf8.specs.declared.Reading.{Reading}
 use Rattle.utf8.specs.declared.Reading.the-variants.{Crate, Documented}
 use Rattle.utf8.specs.Code.{isScalar, encoded}
-use Rattle.encode.specs.Answers.{leftBy}
+use Rattle.utf8.specs.Encode.{leftBy}
 use Rattle.utf8.proofs.Bounds.{byte-scalar}
-use Rattle.encode.proofs.Bounds.{encoding-fits}
-use Rattle.encode.proofs.Encoding as encoding
-use Rattle.tile.specs.declared.Form.{Form}
-use Rattle.tile.specs.Tile.{isByte, isAllowed}
+use Rattle.utf8.proofs.encode.Bounds.{encoding-fits}
+use Rattle.utf8.proofs.encode.Encoding as encoding
+use Rattle.string.specs.declared.tile.Form.{Form}
+use Rattle.string.specs.Tile.{isByte, isAllowed}
 use Rattle.string.specs.Tiles.{givesByte, pieceBytes}
 use borrow.Author.Needs.{needs}
-use Rattle.string.specs.Measure.{isSingle}
+use Rattle.string.specs.steps.Measure.{isSingle}
 use Rattle.string.proofs.Contents.{single, several}
 use Rattle.string.proofs.put_piece.Statement.{statement}
 use Rattle.string.proofs.put_piece.Tie as tie

@@ -9,12 +9,12 @@ use lib.ListN.{length, drop, length-append}
 use lib.Seq.{sets}
 use denote.Ref.{now}
 use borrow.Author.Needs.{needs}
-use Rattle.scan.proofs.Stores.{sets-join}
+use Rattle.proving.proofs.Stores.{sets-join}
 use Rattle.utf8.proofs.Chars.{rest-of}
-use Rattle.tile.specs.declared.Form.{Form}
-use Rattle.tile.specs.declared.Tile.the-variants.{Piece}
-use Rattle.tile.specs.Tile.{tileOf}
-use Rattle.tile.specs.Laws.{Fair}
+use Rattle.string.specs.declared.tile.Form.{Form}
+use Rattle.string.specs.declared.tile.Tile.the-variants.{Piece}
+use Rattle.string.specs.Tile.{tileOf}
+use Rattle.string.specs.laws.Tile.{Fair}
 use Rattle.string.specs.Tiles.{tilesOf, hasBad, pieceBytes, bytesOf}
 use Rattle.string.proofs.Contents as contents
 use Rattle.string.proofs.write_pieces.Statement.{statement}

@@ -1,8 +1,8 @@
 -- `token::display_table` meets its contract: the check computes the rows from the definition, and they are the code's constant.
 use mathlib.Core.Path.{refl}
-use Rattle.token.specs.Padded.{padded}
+use Rattle.token.specs.steps.Padded.{padded}
 use Rattle.token.specs.Display.{displays, textIn}
-use Rattle.token.specs.DisplayRows.{rowOf, rowsFrom, table}
+use Rattle.token.specs.steps.DisplayRows.{rowOf, rowsFrom, table}
 use Rattle.token.proofs.display_table.Statement.{statement}
 use Rattle.token.proofs.display_table.Tie as tie
 

@@ -9,7 +9,7 @@ use denote.Ref.{now}
 use lib.ListN.{length, getD, take, drop, length-drop}
 use lib.Seq.{length-take-le, getD-take, getD-drop}
 use Rattle.token.specs.declared.Keyword.the-variants.{Kind}
-use Rattle.token.specs.WordRows.{wordCount, widestWord, wordRow, isRow, foundIn}
+use Rattle.token.specs.steps.WordRows.{wordCount, widestWord, wordRow, isRow, foundIn}
 use Rattle.token.proofs.Search.{from, row-missing, row-tried}
 use Rattle.token.proofs.find.Statement.{statement}
 use Rattle.token.proofs.find.Tie as tie

@@ -4,7 +4,7 @@ use mathlib.Core.Path.{ap, _∙_}
 use Prim.Native.Nat.{ℕ}
 use borrow.Author.Needs.{needs}
 use denote.Ref.{now}
-use Rattle.token.specs.WordRows.{keywordIn}
+use Rattle.token.specs.steps.WordRows.{keywordIn}
 use Rattle.token.proofs.Lookup.{table-finds}
 use Rattle.token.proofs.get_keyword_token.Statement.{statement}
 use Rattle.token.proofs.get_keyword_token.Tie as tie

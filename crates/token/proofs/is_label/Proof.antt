@@ -2,8 +2,8 @@
 use mathlib.Core.Path.{_≡_, sym, ap, _∙_}
 use borrow.Author.Needs.{needs}
 use denote.Ref.{now}
-use Rattle.byte.specs.declared.Class.the-variants.{AlphaNumeric}
-use Rattle.byte.specs.Byte.{peekAt, isAlpha, isIn}
+use Rattle.scan.specs.declared.byte.Class.the-variants.{AlphaNumeric}
+use Rattle.scan.specs.Byte.{peekAt, isAlpha, isIn}
 use Rattle.scan.specs.Run.{runEnd}
 use Rattle.token.proofs.Labels.{label-is}
 use Rattle.token.proofs.is_label.Statement.{statement}

@@ -6,7 +6,7 @@ use borrow.Author.Tests.{eq-eqb, ne-eqb}
 use denote.Ref.{now}
 use lib.ListN.{length}
 use lib.Seq.{length-take-le}
-use Rattle.token.specs.WordRows.{widestWord, isRow}
+use Rattle.token.specs.steps.WordRows.{widestWord, isRow}
 use Rattle.token.proofs.is_row.Statement.{statement}
 use Rattle.token.proofs.is_row.Tie as tie
 

@@ -8,9 +8,9 @@ use borrow.Author.Tests.{lt-ltb, le-ltb}
 use denote.Ref.{now}
 use lib.ListN.{length, take, replicate, length-map}
 use lib.Seq.{sets, length-sets, length-take-le}
-use Rattle.byte.specs.Byte.{lowered}
-use Rattle.token.specs.WordRows.{widestWord, keywordIn}
-use Rattle.scan.proofs.Stores.{written-front}
+use Rattle.scan.specs.Byte.{lowered}
+use Rattle.token.specs.steps.WordRows.{widestWord, keywordIn}
+use Rattle.proving.proofs.Stores.{written-front}
 use Rattle.token.proofs.keyword_in.Statement.{statement}
 use Rattle.token.proofs.keyword_in.Tie as tie
 

@@ -9,8 +9,8 @@ use borrow.Author.Needs.{needs}
 use denote.Ref.{now}
 use lib.ListN.{length, getD, drop, length-map, drop-of-length-le}
 use lib.Seq.{drop-cons, sets}
-use Rattle.byte.proofs.Classes.{lowered-byte, lowered-at}
-use Rattle.byte.specs.Byte.{lowered}
+use Rattle.scan.proofs.byte.Classes.{lowered-byte, lowered-at}
+use Rattle.scan.specs.Byte.{lowered}
 use Rattle.token.proofs.lower_into.Statement.{statement}
 use Rattle.token.proofs.lower_into.Tie as tie
 

@@ -2,7 +2,7 @@
 use native.Mathlib.Omega.{arith}
 use mathlib.Core.Path.{sym, _∙_}
 use borrow.Author.Needs.{needs}
-use Rattle.token.specs.DisplayRows.{pastKinds}
+use Rattle.token.specs.steps.DisplayRows.{pastKinds}
 use Rattle.token.proofs.Displays.{past-kinds}
 use Rattle.token.proofs.row_of.Statement.{statement}
 use Rattle.token.proofs.row_of.Tie as tie

@@ -7,7 +7,7 @@ use lib.ListN.{length, getD, take, drop}
 use denote.Ref.{now}
 use borrow.Author.Needs.{needs}
 use Rattle.token.specs.Display.{displayOf, fitted, leftBy}
-use Rattle.token.specs.DisplayRows.{textSize, rowSize}
+use Rattle.token.specs.steps.DisplayRows.{textSize, rowSize}
 use Rattle.token.proofs.Displays.{short}
 use Rattle.token.proofs.DisplayRows.{size-at, text-at}
 use Rattle.token.proofs.token_display.Statement.{statement}

@@ -1,8 +1,8 @@
 -- `token::words` meets its contract: the rows that the check computes of the definition are the constant, byte for byte.
 use mathlib.Core.Path.{refl}
-use Rattle.token.specs.Padded.{padded}
+use Rattle.token.specs.steps.Padded.{padded}
 use Rattle.token.specs.Words.{words}
-use Rattle.token.specs.WordRows.{tableOf, wordTable}
+use Rattle.token.specs.steps.WordRows.{tableOf, wordTable}
 use Rattle.token.proofs.words.Statement.{statement}
 use Rattle.token.proofs.words.Tie as tie
 

@@ -1,6 +1,6 @@
 -- `utf8::low_second` meets its contract: each arm knows its byte.
-use Rattle.byte.proofs.Ways.{ways}
-use Rattle.utf8.specs.Lead.{lowSecond}
+use Rattle.proving.proofs.Ways.{ways}
+use Rattle.utf8.specs.steps.Lead.{lowSecond}
 use Rattle.utf8.proofs.low_second.Statement.{statement}
 use Rattle.utf8.proofs.low_second.Tie as tie
 

@@ -1,6 +1,6 @@
 -- `utf8::size_by` meets its contract: each way out knows what the tests before it said.
-use Rattle.byte.proofs.Ways.{ways}
-use Rattle.utf8.specs.Lead.{sizeBy}
+use Rattle.proving.proofs.Ways.{ways}
+use Rattle.utf8.specs.steps.Lead.{sizeBy}
 use Rattle.utf8.proofs.size_by.Statement.{statement}
 use Rattle.utf8.proofs.size_by.Tie as tie
 

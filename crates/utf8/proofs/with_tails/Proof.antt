@@ -1,6 +1,6 @@
 -- `utf8::with_tails` meets its contract: each way out knows what the tests before it said.
 use borrow.Author.Tests.{le-leb, lt-leb, not-true, not-false}
-use Rattle.utf8.specs.Lead.{withTails}
+use Rattle.utf8.specs.steps.Lead.{withTails}
 use borrow.Author.Needs.{needs}
 use Rattle.utf8.proofs.with_tails.Statement.{statement}
 use Rattle.utf8.proofs.with_tails.Tie as tie

@@ -5,9 +5,9 @@ use mathlib.Core.List.{List}
 use mathlib.Core.Path.{_≡_, sym, ap, _∙_}
 use lib.ListN.{length}
 use denote.Ref.{now}
-use Rattle.span.specs.declared.Duration.{Duration}
-use Rattle.display.specs.declared.Displaying.{Displaying}
-use Rattle.display.specs.Display.{textOf, displayingOf, leftBy, refusedBy}
+use Rattle.duration.specs.declared.span.Duration.{Duration}
+use Rattle.duration.specs.declared.display.Displaying.{Displaying}
+use Rattle.duration.specs.Display.{textOf, displayingOf, leftBy, refusedBy}
 use Rattle.exports.specs.Packed.{packedOf}
 use Rattle.exports.specs.Duration.{durationOf, displayingCode}
 use borrow.Author.Needs.{needs}

@@ -1,5 +1,5 @@
 -- The test is that of the definition.
-use Rattle.byte.proofs.Ways.{ways}
+use Rattle.proving.proofs.Ways.{ways}
 use Rattle.exports.specs.String.{readingOf}
 use Rattle.exports.proofs.strings.reading_of.Statement.{statement}
 use Rattle.exports.proofs.strings.reading_of.Tie as tie

@@ -4,8 +4,8 @@ use mathlib.Core.Path.{_≡_, sym, ap, _∙_}
 use denote.Ref.{now}
 use borrow.Author.Needs.{needs}
 use lib.ListN.{length}
-use Rattle.escape.specs.declared.Escaping.{Escaping}
-use Rattle.escape.specs.Escape.{escaped, escapingOf, leftBy, refusedBy}
+use Rattle.string.specs.declared.escape.Escaping.{Escaping}
+use Rattle.string.specs.Escape.{escaped, escapingOf, leftBy, refusedBy}
 use Rattle.exports.specs.Packed.{packedOf}
 use Rattle.exports.specs.String.{escapeCode}
 use Rattle.exports.proofs.strings.simmerpath_escape_string.Statement.{statement}

@@ -7,9 +7,9 @@ use mathlib.Core.Path.{_≡_, refl, _∙_}
 use types.Run.{OneOf}
 use denote.Enum.Declared.{tagOf}
 use Rattle.utf8.specs.Answers.{noRoom}
-use Rattle.encode.specs.declared.Encoding.{Encoding}
-use Rattle.encode.specs.declared.Encoding.the-variants.{Written, NotScalar, NoRoom}
-use Rattle.encode.proofs.Encoding as encoding
+use Rattle.utf8.specs.declared.encode.Encoding.{Encoding}
+use Rattle.utf8.specs.declared.encode.Encoding.the-variants.{Written, NotScalar, NoRoom}
+use Rattle.utf8.proofs.encode.Encoding as encoding
 use Rattle.exports.specs.Packed.{packedOf}
 use Rattle.exports.specs.Utf8.{encodeCode}
 use borrow.Author.Needs.{needs}

@@ -9,10 +9,10 @@ use denote.Ref.{now}
 use denote.Enum.Declared.{tagOf}
 use borrow.Author.Needs.{needs}
 use lib.ListN.{length}
-use Rattle.encode.specs.declared.Encoding.{Encoding}
-use Rattle.encode.specs.declared.Encoding.the-variants.{Written}
-use Rattle.encode.specs.Answers.{encodingOf, leftBy}
-use Rattle.encode.proofs.Encoding as encoding
+use Rattle.utf8.specs.declared.encode.Encoding.{Encoding}
+use Rattle.utf8.specs.declared.encode.Encoding.the-variants.{Written}
+use Rattle.utf8.specs.Encode.{encodingOf, leftBy}
+use Rattle.utf8.proofs.encode.Encoding as encoding
 use Rattle.exports.specs.Utf8.{encodeCode}
 use Rattle.exports.proofs.text.simmerpath_utf8_encode.Statement.{statement}
 use Rattle.exports.proofs.text.simmerpath_utf8_encode.Tie as tie

@@ -1,7 +1,0 @@
-pub mod Ways
-pub mod Choice
-pub mod Below
-pub mod Classes
-pub mod One
-pub mod Unique
-pub mod Wrong

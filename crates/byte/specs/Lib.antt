@@ -1,2 +1,0 @@
-pub mod Ascii
-pub mod Byte

@@ -1,3 +1,0 @@
-pub mod Display
-pub mod Steps
-pub mod Laws

@@ -1,0 +1,33 @@
+-- The answer by the tests of the code: nanoseconds over range first, then the room for the text, which is stored at the front.
+use Prim.Native.Nat.{ℕ, _+_, _≤_, _<_}
+use native.Mathlib.Nat.{zero-add}
+use native.Mathlib.Omega.{arith}
+use mathlib.Core.List.{List, _++_}
+use mathlib.Core.Path.{_≡_, refl}
+use lib.ListN.{length, drop}
+use lib.Seq.{sets, sets-eq}
+use borrow.Author.Tests.{le-leb, lt-leb}
+use Rattle.utf8.specs.Answers.{atStart, noRoom}
+use Rattle.duration.specs.declared.span.Duration.{Duration}
+use Rattle.duration.specs.declared.display.Displaying.the-variants.{Written, Refused}
+use Rattle.duration.specs.Unit.{nanosASecond}
+use Rattle.duration.specs.Display.{overRange, textOf, displayingOf}
+
+pub over-range : (room : ℕ) (d : Duration) → nanosASecond ≤ d .nanos → displayingOf room d ≡ Refused (atStart overRange)
+unfolding displayingOf
+over-range room d h = rw (le-leb nanosASecond (d .nanos) h)
+
+module _ (d : Duration) (few : d .nanos < nanosASecond) where
+  pub no-room : (room : ℕ) → room < length (textOf d) → displayingOf room d ≡ Refused noRoom
+  unfolding displayingOf
+  no-room room h = rw (lt-leb nanosASecond (d .nanos) few, lt-leb (length (textOf d)) room h)
+
+  pub fits : (room : ℕ) → length (textOf d) ≤ room → displayingOf room d ≡ Written (length (textOf d))
+  unfolding displayingOf
+  fits room h = rw (lt-leb nanosASecond (d .nanos) few, le-leb (length (textOf d)) room h)
+
+  pub shown : (out : List ℕ) {e : List ℕ} {n : ℕ} → n ≡ length (textOf d) → n ≤ length out → e ≡ sets out 0 (textOf d)
+      → (Written n ≡ displayingOf (length out) d) × (e ≡ textOf d ++ drop n out)
+  shown out k h s =
+      let room : 0 + length (textOf d) ≤ length out = omega arith in
+      rw (k, s, fits (length out) (omega arith), sets-eq (textOf d) out 0 room, zero-add) (refl, refl)

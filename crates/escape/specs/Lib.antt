@@ -1,3 +1,0 @@
-pub mod Escape
-pub mod Bytes
-pub mod Laws

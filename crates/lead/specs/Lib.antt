@@ -1,2 +1,0 @@
-pub mod Lead
-pub mod Laws

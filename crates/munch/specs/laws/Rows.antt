@@ -1,0 +1,167 @@
+-- Document 01's rows 10 to 32 as conditions: on the mode that a step is made in, on the bytes that are left, and on the place of the refusal
+-- among these. `RowsGiven` says that a step is refused with a number at a place exactly when its row holds; `proofs/Given` has the proof.
+use Prim.Native.Nat.{ℕ, suc, _<_}
+use Prim.Native.Char.{code}
+use mathlib.Core.Bool.{Bool, true, false}
+use mathlib.Core.List.{List}
+use mathlib.Core.Logic.{_↔_, _⊎_}
+use mathlib.Core.Path.{_≡_}
+use lib.ListN.{drop}
+use Rattle.scan.specs.Byte.{end, peekAt, isDigit}
+use Rattle.token.specs.declared.Keyword.{Keyword}
+use Rattle.numeral.specs.declared.Numeral.the-variants.{Neither}
+use Rattle.numeral.specs.Numeral.{numeralOf}
+use Rattle.quoted.specs.declared.Quoted.the-variants as quoting
+use Rattle.quoted.specs.Quoted.{unknownEscape, endInEscape, endInString, quotedOf}
+use Rattle.munch.specs.declared.lead.Lead.the-variants as lead
+use Rattle.munch.specs.declared.lead.BraceLead.the-variants as brace
+use Rattle.munch.specs.declared.lead.BracketLead.the-variants as bracket
+use Rattle.munch.specs.Lead.{isQuote, leadOf, braceLeadOf, bracketLeadOf}
+use Rattle.munch.specs.declared.Inside.the-variants.{Nothing, Braces, Brackets}
+use Rattle.munch.specs.declared.Mode.{Mode}
+use Rattle.munch.specs.declared.Step.the-variants.{Refused}
+use Rattle.munch.specs.Munch.{munchedBy}
+
+-- where: outside braces and brackets, in braces, in brackets
+abbrev pub Outside : Mode → Type 0
+Outside m = m .inside ≡ Nothing
+
+abbrev pub InBraces : Mode → Type 0
+InBraces m = m .inside ≡ Braces
+
+pub record InBrackets (m : Mode) : Type 0 where
+  pub seen : Bool
+  pub fresh : Bool
+  pub there : m .inside ≡ Brackets seen fresh
+
+-- what stands first, and what second; `end` where nothing does
+abbrev pub Begins : ℕ → List ℕ → Type 0
+Begins c xs = peekAt xs 0 ≡ c
+
+abbrev pub Follows : ℕ → List ℕ → Type 0
+Follows c xs = peekAt xs 1 ≡ c
+
+-- "Number, begun by a digit or, outside brackets, by `.` and a digit"
+abbrev pub NumberBegins : Mode → List ℕ → Type 0
+NumberBegins m xs =
+    ((Outside m ⊎ InBrackets m) × (isDigit (peekAt xs 0) ≡ true)) ⊎ (Outside m × Begins (code ".") xs × (isDigit (peekAt xs 1) ≡ true))
+
+-- "Strings open with `"`, `'` or a backquote"
+abbrev pub StringBegins : Mode → List ℕ → Type 0
+StringBegins m xs = (Outside m ⊎ InBraces m) × (isQuote (peekAt xs 0) ≡ true)
+
+-- 10 "end with `(` open, no other refusal there"
+abbrev pub ParenOpenAtEnd : Mode → List ℕ → Type 0
+ParenOpenAtEnd m xs = Outside m × Begins end xs × (0 < m .depth)
+
+-- 11 "`=~` outside braces"
+abbrev pub RegexOutside : Mode → List ℕ → Type 0
+RegexOutside m xs = Outside m × Begins (code "=") xs × Follows (code "~") xs
+
+-- 12 "other character after `!` outside .. braces"
+abbrev pub AfterBang : Mode → List ℕ → Type 0
+AfterBang m xs = Outside m × Begins (code "!") xs × (¬ (Follows (code "=") xs)) × (¬ (Follows end xs))
+
+-- 13 "`!` at the end", "also in braces"
+abbrev pub BangAtEnd : Mode → List ℕ → Type 0
+BangAtEnd m xs = (Outside m ⊎ InBraces m) × Begins (code "!") xs × Follows end xs
+
+-- 14 "`.` before a non-digit"
+abbrev pub AfterDot : Mode → List ℕ → Type 0
+AfterDot m xs = Outside m × Begins (code ".") xs × (isDigit (peekAt xs 1) ≡ false) × (¬ (Follows end xs))
+
+-- 15 "`.` at the end"
+abbrev pub DotAtEnd : Mode → List ℕ → Type 0
+DotAtEnd m xs = Outside m × Begins (code ".") xs × Follows end xs
+
+-- 16, 17, 18 "unmatched `)`, `}`, `]`"
+abbrev pub UnmatchedParen : Mode → List ℕ → Type 0
+UnmatchedParen m xs = Outside m × Begins (code ")") xs × (m .depth ≡ 0)
+
+abbrev pub UnmatchedBrace : Mode → List ℕ → Type 0
+UnmatchedBrace m xs = Outside m × Begins (code "}") xs
+
+abbrev pub UnmatchedBracket : Mode → List ℕ → Type 0
+UnmatchedBracket m xs = Outside m × Begins (code "]") xs
+
+-- 19 "other character outside": one that begins nothing there, by `specs/Lead`
+abbrev pub OtherOutside : Mode → List ℕ → Type 0
+OtherOutside m xs = Outside m × (leadOf (peekAt xs 0) ≡ lead.Other)
+
+-- 20 "neither number nor duration", as `numeral` says of the bytes
+abbrev pub NeitherThere : ℕ → Mode → List ℕ → Type 0
+NeitherThere n m xs = NumberBegins m xs × (numeralOf xs ≡ Neither n)
+
+-- 21, 22, 23: the string is refused with the number, n bytes behind its opening sign, as `quoted` says of them
+abbrev pub StringFails : ℕ → ℕ → Mode → List ℕ → Type 0
+StringFails number n m xs = StringBegins m xs × (quotedOf (peekAt xs 0) (drop 1 xs) ≡ quoting.Refused number n)
+
+-- 24 "other character after `!` .. inside braces"
+abbrev pub AfterBangInBraces : Mode → List ℕ → Type 0
+AfterBangInBraces m xs =
+    InBraces m × Begins (code "!") xs × (¬ (Follows (code "=") xs)) × (¬ (Follows (code "~") xs)) × (¬ (Follows end xs))
+
+-- 25 "`{` in braces"
+abbrev pub BraceInBraces : Mode → List ℕ → Type 0
+BraceInBraces m xs = InBraces m × Begins (code "{") xs
+
+-- 26 "other character .. in braces": one that begins nothing there
+abbrev pub OtherInBraces : Mode → List ℕ → Type 0
+OtherInBraces m xs = InBraces m × (braceLeadOf (peekAt xs 0) ≡ brace.Other)
+
+-- 27 "end in braces"
+abbrev pub EndInBraces : Mode → List ℕ → Type 0
+EndInBraces m xs = InBraces m × Begins end xs
+
+-- 28 "second colon"
+abbrev pub SecondColon : Mode → List ℕ → Type 0
+SecondColon m xs = (b : InBrackets m) × (b .seen ≡ true) × Begins (code ":") xs
+
+-- 29 "colon directly after `[`"
+abbrev pub ColonFirst : Mode → List ℕ → Type 0
+ColonFirst m xs = (b : InBrackets m) × (b .seen ≡ false) × (b .fresh ≡ true) × Begins (code ":") xs
+
+-- 30 "`[` in brackets"
+abbrev pub BracketInBrackets : Mode → List ℕ → Type 0
+BracketInBrackets m xs = InBrackets m × Begins (code "[") xs
+
+-- 31 "other character .. in brackets": one that begins nothing there
+abbrev pub OtherInBrackets : Mode → List ℕ → Type 0
+OtherInBrackets m xs = InBrackets m × (bracketLeadOf (peekAt xs 0) ≡ bracket.Other)
+
+-- 32 "end .. in brackets"
+abbrev pub EndInBrackets : Mode → List ℕ → Type 0
+EndInBrackets m xs = InBrackets m × Begins end xs
+
+-- the rows, by their numbers and places
+pub data Row (m : Mode) (xs : List ℕ) : ℕ → ℕ → Type 0 where
+  row10 : ParenOpenAtEnd m xs → Row m xs 10 0
+  row11 : RegexOutside m xs → Row m xs 11 1
+  row12 : AfterBang m xs → Row m xs 12 1
+  row13 : BangAtEnd m xs → Row m xs 13 1
+  row14 : AfterDot m xs → Row m xs 14 1
+  row15 : DotAtEnd m xs → Row m xs 15 0
+  row16 : UnmatchedParen m xs → Row m xs 16 0
+  row17 : UnmatchedBrace m xs → Row m xs 17 0
+  row18 : UnmatchedBracket m xs → Row m xs 18 0
+  row19 : OtherOutside m xs → Row m xs 19 0
+  row20 : (n : ℕ) → NeitherThere n m xs → Row m xs 20 n
+  row21 : (n : ℕ) → StringFails unknownEscape n m xs → Row m xs 21 (suc n)
+  row22 : (n : ℕ) → StringFails endInEscape n m xs → Row m xs 22 (suc n)
+  row23 : (n : ℕ) → StringFails endInString n m xs → Row m xs 23 (suc n)
+  row24 : AfterBangInBraces m xs → Row m xs 24 1
+  row25 : BraceInBraces m xs → Row m xs 25 0
+  row26 : OtherInBraces m xs → Row m xs 26 0
+  row27 : EndInBraces m xs → Row m xs 27 0
+  row28 : SecondColon m xs → Row m xs 28 0
+  row29 : ColonFirst m xs → Row m xs 29 0
+  row30 : BracketInBrackets m xs → Row m xs 30 0
+  row31 : OtherInBrackets m xs → Row m xs 31 0
+  row32 : EndInBrackets m xs → Row m xs 32 0
+
+abbrev pub RowsGiven : Type 0
+RowsGiven = (look : List ℕ → Keyword) (m : Mode) (xs : List ℕ) (r o : ℕ) → munchedBy look m xs ≡ Refused r o ↔ Row m xs r o
+
+-- no two of them hold together
+abbrev pub OneRow : Type 0
+OneRow = (m : Mode) (xs : List ℕ) (r o s p : ℕ) → Row m xs r o → Row m xs s p → (r ≡ s) × (o ≡ p)

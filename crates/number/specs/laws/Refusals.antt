@@ -1,0 +1,99 @@
+-- Document 01's rows 1, 2, 53, 60 and 61 as conditions on a number's text, and the statement that each answer is given exactly when its row
+-- holds; `proofs/Given` has the proof. But for 1 and 2 they are said of t, the text without white space and in lower case.
+use Prim.Native.Nat.{ℕ, _≤_, _<_}
+use Prim.Native.Char.{code}
+use mathlib.Core.Bool.{Bool, true}
+use mathlib.Core.List.{List, [], _∷_}
+use mathlib.Core.Logic.{_↔_, _⊎_}
+use mathlib.Core.Path.{_≡_}
+use lib.Ieee.{nan, inf, unlike}
+use lib.ListN.{length}
+use Rattle.scan.specs.Byte.{peekAt, isDigitIn}
+use Rattle.scan.specs.Text.{Stands}
+use Rattle.utf8.specs.Text.{prefixEnd}
+use Rattle.utf8.specs.Answers.{placeAt, tooLong, notUtf8}
+use Rattle.utf8.specs.laws.Refusals.{TooLong, NotUtf8, Taken}
+use Rattle.decimal.specs.declared.Number.{Number}
+use Rattle.scan.specs.Sign.{pastSign, isMinus}
+use Rattle.decimal.specs.Value.{radixOf, plain, longest}
+use Rattle.decimal.specs.laws.Decimal.{nearestOf, Infinite, Nan, Numeral, Spelled, InExact}
+use Rattle.number.specs.declared.Parsing.the-variants.{Value, Refused}
+use Rattle.number.specs.White.{plainText}
+use Rattle.number.specs.Signed.{mostOf}
+use Rattle.number.specs.Integer.{unsignedOf, magnitudeOf}
+use Rattle.number.specs.Number.{outsideExact, notNumber, outsideI64, behindZero, notationOf, followsMark, integerNumber, parsingOf}
+
+-- "a leading 0 after an optional sign
+abbrev pub LeadsZero : List ℕ → Type 0
+LeadsZero t = peekAt t (pastSign t 0) ≡ code "0"
+
+-- with no `.`, 8 or 9, except `0`, `+0`, `-0`"
+abbrev pub ZeroLed : List ℕ → Type 0
+ZeroLed t =
+    LeadsZero t
+    × (¬ (Stands (code ".") t ⊎ (Stands (code "8") t ⊎ Stands (code "9") t)))
+    × (¬ (behindZero t ≡ length t))
+
+-- "An `x`, or" that
+abbrev pub Marked : List ℕ → Type 0
+Marked t = Stands (code "x") t ⊎ ZeroLed t
+
+-- "hex after `0x`, else octal after `0`. What follows may bear its own sign": digits of the notation, one at least
+abbrev pub AllDigits : ℕ → List ℕ → Type 0
+AllDigits radix [] = Unit {0}
+AllDigits radix (c ∷ cs) = (isDigitIn radix c ≡ true) × AllDigits radix cs
+
+abbrev pub Whole : List ℕ → Type 0
+Whole t =
+    let digits = unsignedOf (followsMark t) in
+    LeadsZero t × ((0 < length digits) × AllDigits (radixOf (notationOf t)) digits)
+
+-- its magnitude, its own sign, and that sign behind the outer one
+abbrev pub magnitude : List ℕ → ℕ
+magnitude t = magnitudeOf (notationOf t) (followsMark t)
+
+abbrev pub own : List ℕ → Bool
+own t = isMinus (followsMark t) 0
+
+abbrev pub negative : List ℕ → Bool
+negative t = unlike (own t) (isMinus t 0)
+
+-- "Signed 64-bit before an outer minus", and behind it: "Negating the least integer is 61"
+abbrev pub InI64 : List ℕ → Type 0
+InI64 t = (magnitude t ≤ mostOf (own t)) × (magnitude t ≤ mostOf (negative t))
+
+-- 53 "decimal outside the exact range"
+abbrev pub OutsideExact : List ℕ → Type 0
+OutsideExact t = (¬ (Marked t)) × Numeral t × (¬ (InExact t))
+
+-- 60 "not a number text"
+abbrev pub NotNumber : List ℕ → Type 0
+NotNumber t = (Marked t × (¬ (Whole t))) ⊎ ((¬ (Marked t)) × (¬ (Spelled t)))
+
+-- 61 "hex or octal outside a signed 64-bit integer"
+abbrev pub OutsideI64 : List ℕ → Type 0
+OutsideI64 t = Marked t × Whole t × (¬ (InI64 t))
+
+-- an integer's number, and a decimal's: infinity or NaN by name, or the nearest f64
+abbrev pub IntegerIs : List ℕ → Number → Type 0
+IntegerIs t n = Marked t × Whole t × InI64 t × (n ≡ integerNumber (notationOf t) (negative t) (magnitude t))
+
+abbrev pub DecimalIs : List ℕ → Number → Type 0
+DecimalIs t n =
+    (¬ (Marked t))
+    × ((Infinite t × (n ≡ plain (inf (isMinus t 0))))
+    ⊎ ((Nan t × (n ≡ plain nan))
+    ⊎ (Numeral t × InExact t × (n ≡ nearestOf t))))
+
+-- "Order: 1, 2, the reading"; "60 and 52 are judged on the whole text, before 61 and 53"
+abbrev pub ParsingGiven : Type 0
+ParsingGiven =
+    (xs : List ℕ) →
+    let p = parsingOf xs in
+    let t = plainText xs in
+    (p ≡ Refused tooLong ↔ TooLong longest xs)
+    × (p ≡ Refused (notUtf8 (placeAt xs (prefixEnd xs))) ↔ (¬ (TooLong longest xs)) × NotUtf8 xs)
+    × (p ≡ Refused notNumber ↔ Taken longest xs × NotNumber t)
+    × (p ≡ Refused outsideI64 ↔ Taken longest xs × OutsideI64 t)
+    × (p ≡ Refused outsideExact ↔ Taken longest xs × OutsideExact t)
+    × ((n : Number) → p ≡ Value n ↔ Taken longest xs × (IntegerIs t n ⊎ DecimalIs t n))

@@ -1,0 +1,6 @@
+pub mod Ways
+pub mod Choice
+pub mod Below
+pub mod Tests
+pub mod Stores
+pub mod One

@@ -1,0 +1,1 @@
+// What proofs of every subject go by; there is no code.

@@ -1,0 +1,38 @@
+-- What a run is, over any test, and what the test of texts says, as statements; `proofs/Runs` and `proofs/Same` have their proofs.
+use Prim.Native.Nat.{ℕ, _<_, _≤_, max}
+use mathlib.Core.Bool.{Bool, true, false}
+use mathlib.Core.List.{List, _∷_, _++_}
+use mathlib.Core.Path.{_≡_}
+use lib.ListN.{length}
+use Rattle.scan.specs.Byte.{end, peekAt}
+use Rattle.scan.specs.Run.{runEnd}
+use Rattle.scan.specs.Text.{sameText}
+
+-- a run is within the list
+abbrev pub RunWithin : Type 0
+RunWithin = (p : ℕ → Bool) (xs : List ℕ) (n : ℕ) → runEnd p xs n ≤ max n (length xs)
+
+-- all of it is in the class
+abbrev pub RunPasses : Type 0
+RunPasses = (p : ℕ → Bool) (xs : List ℕ) (n i : ℕ) → n ≤ i → i < runEnd p xs n → p (peekAt xs i) ≡ true
+
+-- past it stands what is not in the class
+abbrev pub RunStopped : Type 0
+RunStopped = (p : ℕ → Bool) → p end ≡ false → (xs : List ℕ) (n : ℕ) → p (peekAt xs (runEnd p xs n)) ≡ false
+
+-- a byte outside the class ends it
+abbrev pub RunStops : Type 0
+RunStops = (p : ℕ → Bool) (xs : List ℕ) (n : ℕ) → p (peekAt xs n) ≡ false → runEnd p xs n ≡ n
+
+-- appending after such a byte changes nothing
+abbrev pub RunAppend : Type 0
+RunAppend =
+    (p : ℕ → Bool) (xs : List ℕ) (y : ℕ) (ys : List ℕ) → p y ≡ false → (n : ℕ) → n ≤ length xs → runEnd p (xs ++ (y ∷ ys)) n ≡ runEnd p xs n
+
+-- nor does appending anything after a run that ends within the list
+abbrev pub RunInside : Type 0
+RunInside = (p : ℕ → Bool) (xs ys : List ℕ) (n : ℕ) → runEnd p xs n < length xs → runEnd p (xs ++ ys) n ≡ runEnd p xs n
+
+-- the test of texts is equality
+abbrev pub SameIsEqual : Type 0
+SameIsEqual = (xs ys : List ℕ) → (sameText xs ys ≡ true → xs ≡ ys) × (xs ≡ ys → sameText xs ys ≡ true)

@@ -1,0 +1,69 @@
+-- What is refused is refused first, with nothing written; then the room decides, by the length of the text escaped byte by byte.
+use mathlib.Core.Path.{refl, sym, ap, _∙_}
+use native.Mathlib.Omega.{arith}
+use denote.Ref.{now}
+use borrow.Author.Needs.{needs}
+use Rattle.utf8.specs.Answers.{refusedBy}
+use Rattle.string.specs.declared.escape.Escaping.the-variants.{Refused}
+use Rattle.string.proofs.escape.Escapes.{refused-first, not-fitted, written, left}
+use Rattle.string.proofs.escape.escape_string.Statement.{statement}
+use Rattle.string.proofs.escape.escape_string.Tie as tie
+
+admit-requires : tie.Need-admit-requires
+admit-requires c κs = search needs
+
+enum-told : tie.Need-enum-told
+enum-told c = search needs
+
+enum-told-2 : tie.Need-enum-told-2
+enum-told-2 c = search needs
+
+refused-by-requires : tie.Need-refused-by-requires
+refused-by-requires c κs = search needs
+
+returns : tie.Need-returns
+returns c =
+    let d = now (c .before .before .before .before .before .before .args .out) in
+    let e = c .before .enum-told2 .given .1 in
+    (ap Refused (c .refused-by .ensures ∙ ap refusedBy e) ∙ refused-first _ d _ (sym (c .before .before .before .admit .ensures) ∙ e), refl)
+
+escaped-length-requires : tie.Need-escaped-length-requires
+escaped-length-requires c κs = search needs
+
+at-start-requires : tie.Need-at-start-requires
+at-start-requires c κs = search needs
+
+returns-2 : tie.Need-returns-2
+returns-2 c =
+    let a = sym (c .before .before .before .before .before .admit .ensures) ∙ c .before .before .before .enum-told .given .1 in
+    let d = now (c .before .before .before .before .before .before .before .before .args .out) in
+    (ap Refused (c .at-start .ensures) ∙ not-fitted _ d _ a (omega (arith, c .before .before .escaped-length .ensures)), refl)
+
+write-escaped-requires : tie.Need-write-escaped-requires
+write-escaped-requires c κs = search needs
+
+same-length : tie.Need-same-length
+same-length c = search needs
+
+returns-3 : tie.Need-returns-3
+returns-3 c =
+    let a = sym (c .before .before .before .before .before .before .before .before .admit .ensures) ∙ c .before .before .before .before .before .before .enum-told .given .1 in
+    let n = c .before .before .before .before .before .escaped-length .ensures in
+    let d = now (c .before .before .before .before .before .before .before .before .before .before .before .args .out) in
+    rw n (written _ d _ a (omega (arith, n)), c .before .before .write-escaped .ensures ∙ left _ d _ a (omega (arith, n)))
+
+pub escape-string-spec : {M : Type 1} → statement M
+escape-string-spec =
+    tie.close
+    (tie.spec
+    admit-requires
+    enum-told
+    enum-told-2
+    refused-by-requires
+    returns
+    escaped-length-requires
+    at-start-requires
+    returns-2
+    write-escaped-requires
+    same-length
+    returns-3)

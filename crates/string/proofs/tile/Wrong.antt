@@ -1,0 +1,91 @@
+-- The answer that each promise leaves at a telling input: a program that answers otherwise there, as the theorem's name says, cannot be
+-- proved. A theorem of `unquote_char` computes with the definitions that `unquote-char-at` unfolds.
+use Prim.Native.Nat.{ℕ}
+use Prim.Native.Char.{code}
+use mathlib.Core.Bool.{Bool, true, false}
+use mathlib.Core.List.{List, [], _∷_}
+use mathlib.Core.Path.{_≡_, ap, ap₂, _∙_}
+use denote.Ref.{now}
+use Rattle.scan.specs.Ascii.{ascii}
+use Rattle.scan.specs.Byte.{isWithin, isHexDigit, digitOf, isDigitIn}
+use Rattle.proving.proofs.One.{Answers}
+use Rattle.utf8.specs.Table.{fits, sizeIn, charLength}
+use Rattle.utf8.specs.Code.{isScalar, codeOf}
+use Rattle.utf8.specs.Answers.{characterAt}
+use Rattle.string.specs.declared.tile.Form.{Form}
+use Rattle.string.specs.declared.tile.Form.the-variants.{Plain, Letter, Hex, Octal, Point}
+use Rattle.string.specs.declared.tile.Tile.{Tile}
+use Rattle.string.specs.declared.tile.Tile.the-variants.{Piece, Bad}
+use Rattle.string.specs.Tile.{letterValue, numeralFrom, isByte, isAllowed, numbered, escapeOf, beginsEscape, tileOf}
+use Rattle.string.proofs.tile.is_byte.Kinds as is-byte
+use Rattle.string.proofs.tile.is_byte.Reads as is-byte-reads
+use Rattle.string.proofs.tile.unquote_char.Kinds as unquote-char
+use Rattle.string.proofs.tile.unquote_char.Reads as unquote-char-reads
+
+abbrev is-byte-gives : Form → Bool → Type 0
+is-byte-gives f v = Answers is-byte.ps is-byte.r is-byte-reads.Post (λ κs a. a .0 ≡ f) (λ κs. v)
+
+is-byte-at : (f : Form) → is-byte-gives f (isByte f)
+is-byte-at f κs a x e p h = p ∙ ap isByte h
+
+pub octal-escape-is-a-byte : is-byte-gives Octal true
+octal-escape-is-a-byte = is-byte-at _
+
+pub escape-by-u-is-no-byte : is-byte-gives Point false
+escape-by-u-is-no-byte = is-byte-at _
+
+-- of what is left of a content, and the literal's quote sign
+abbrev unquote-char-gives : List ℕ → ℕ → Tile → Type 0
+unquote-char-gives xs q v = Answers unquote-char.ps unquote-char.r unquote-char-reads.Post (λ κs a. (now (a .0) ≡ xs) × (a .1 .0 ≡ q)) (λ κs. v)
+
+unquote-char-at : (xs : List ℕ) (q : ℕ) → unquote-char-gives xs q (tileOf q xs)
+unfolding tileOf beginsEscape escapeOf letterValue numbered numeralFrom isAllowed isDigitIn isHexDigit digitOf isWithin isScalar characterAt charLength sizeIn fits codeOf
+unquote-char-at xs q κs a x e p h = p ∙ ap₂ tileOf (h .1) (h .0)
+
+pub bare-closing-sign-is-bad : unquote-char-gives (ascii "'") (code "'") Bad
+unfolding unquote-char-at
+bare-closing-sign-is-bad = unquote-char-at _ _
+
+pub bare-sign-of-another-literal-is-taken : unquote-char-gives (ascii "\"") (code "'") (Piece Plain (code "\"") 1)
+unfolding unquote-char-at
+bare-sign-of-another-literal-is-taken = unquote-char-at _ _
+
+pub backslash-between-backquotes-is-a-character : unquote-char-gives (ascii "\\n") (code "`") (Piece Plain (code "\\") 1)
+unfolding unquote-char-at
+backslash-between-backquotes-is-a-character = unquote-char-at _ _
+
+pub escape-by-n-is-a-newline : unquote-char-gives (ascii "\\n") (code "'") (Piece Letter 10 2)
+unfolding unquote-char-at
+escape-by-n-is-a-newline = unquote-char-at _ _
+
+pub escaped-sign-is-taken : unquote-char-gives (ascii "\\'") (code "'") (Piece Letter (code "'") 2)
+unfolding unquote-char-at
+escaped-sign-is-taken = unquote-char-at _ _
+
+pub escaped-sign-of-another-literal-is-bad : unquote-char-gives (ascii "\\\"") (code "'") Bad
+unfolding unquote-char-at
+escaped-sign-of-another-literal-is-bad = unquote-char-at _ _
+
+pub escape-by-x-has-two-digits : unquote-char-gives (ascii "\\x4f") (code "'") (Piece Hex 0x4f 4)
+unfolding unquote-char-at
+escape-by-x-has-two-digits = unquote-char-at _ _
+
+pub octal-255-is-taken : unquote-char-gives (ascii "\\377") (code "'") (Piece Octal 255 4)
+unfolding unquote-char-at
+octal-255-is-taken = unquote-char-at _ _
+
+pub octal-256-is-bad : unquote-char-gives (ascii "\\400") (code "'") Bad
+unfolding unquote-char-at
+octal-256-is-bad = unquote-char-at _ _
+
+pub surrogate-is-bad : unquote-char-gives (ascii "\\ud800") (code "'") Bad
+unfolding unquote-char-at
+surrogate-is-bad = unquote-char-at _ _
+
+pub past-10ffff-is-bad : unquote-char-gives (ascii "\\U00110000") (code "'") Bad
+unfolding unquote-char-at
+past-10ffff-is-bad = unquote-char-at _ _
+
+pub character-of-two-bytes-is-one-tile : unquote-char-gives (0xc3 ∷ 0xa9 ∷ []) (code "'") (Piece Plain 0xe9 2)
+unfolding unquote-char-at
+character-of-two-bytes-is-one-tile = unquote-char-at _ _

@@ -1,0 +1,4 @@
+pub mod Escape
+pub mod ReadBack
+pub mod Refusals
+pub mod Tile

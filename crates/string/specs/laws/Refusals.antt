@@ -1,0 +1,80 @@
+-- Document 01's rows 1, 2, 40 and 3 as conditions on a literal, and the statement that each answer is given exactly when its row holds;
+-- `proofs/Given` and `proofs/There` have the proofs. "Order: 1, 2, the reading left to right (first refusal wins), 3."
+use Prim.Native.Nat.{ℕ, _+_, _-_, _<_}
+use mathlib.Core.List.{List, [], _∷_}
+use mathlib.Core.Logic.{_↔_, _⊎_}
+use mathlib.Core.Path.{_≡_}
+use lib.ListN.{length, take, drop}
+use Rattle.scan.specs.Byte.{peekAt, backslash}
+use Rattle.scan.specs.Text.{Stands}
+use Rattle.utf8.specs.declared.Reading.{Reading}
+use Rattle.utf8.specs.Text.{prefixEnd, WellFormed}
+use Rattle.utf8.specs.Answers.{textLimit, placeAt, tooLong, notUtf8, noRoom}
+use Rattle.utf8.specs.laws.Refusals.{TooLong, NotUtf8, Taken}
+use Rattle.string.specs.declared.tile.Tile.{Tile}
+use Rattle.string.specs.declared.tile.Tile.the-variants.{Bad}
+use Rattle.string.specs.Tile.{backquote}
+use Rattle.string.specs.declared.Unquoting.the-variants.{Inner, Written, Refused}
+use Rattle.string.specs.laws.Tile.{IsEscape, Begun}
+use Rattle.string.specs.Tiles.{sizeOf, tilesOf}
+use Rattle.string.specs.Literal.{doubleQuote, singleQuote, lineFeed, signOf, innerOf, unquoted, badLiteral, unquotingOf}
+
+-- "At least two bytes,
+abbrev pub TooShort : List ℕ → Type 0
+TooShort xs = length xs < 2
+
+-- first byte equal to last
+abbrev pub SignsDiffer : List ℕ → Type 0
+SignsDiffer xs = ¬ (peekAt xs (length xs - 1) ≡ signOf xs)
+
+-- and a quote sign."
+abbrev pub NoQuoteSign : List ℕ → Type 0
+NoQuoteSign xs = ¬ ((signOf xs ≡ doubleQuote) ⊎ (signOf xs ≡ singleQuote) ⊎ (signOf xs ≡ backquote))
+
+-- "Else: no LF in it,
+abbrev pub Newline : List ℕ → Type 0
+Newline xs = (¬ (signOf xs ≡ backquote)) × Stands lineFeed (innerOf xs)
+
+-- no bare closing sign", and no other escape than those of the list: no tile is bad
+abbrev pub BadAmong : List Tile → Type 0
+BadAmong [] = ⊥
+BadAmong (t ∷ ts) = (t ≡ Bad) ⊎ BadAmong ts
+
+-- which in text means that where a tile starts, the sign stands, or a backslash that begins none of 01's escapes (`tile`, specs/Laws)
+abbrev pub sizesOf : List Tile → ℕ
+sizesOf [] = 0
+sizesOf (t ∷ ts) = sizeOf t + sizesOf ts
+
+abbrev pub Starts : ℕ → List ℕ → ℕ → Type 0
+Starts q ys at = (k : ℕ) × (at ≡ sizesOf (take k (tilesOf q ys)))
+
+abbrev pub BadAt : ℕ → List ℕ → Type 0
+BadAt q zs = (peekAt zs 0 ≡ q) ⊎ (Begun q zs × (¬ (IsEscape q zs)))
+
+abbrev pub BadThere : Type 0
+BadThere =
+    (q : ℕ) (ys : List ℕ) → q < 0x80 → 0 < q → WellFormed ys →
+    BadAmong (tilesOf q ys) ↔ ((at : ℕ) × (at < length ys) × Starts q ys at × BadAt q (drop at ys))
+
+-- 40 "bad literal"
+abbrev pub BadLiteral : List ℕ → Type 0
+BadLiteral xs = TooShort xs ⊎ (SignsDiffer xs ⊎ (NoQuoteSign xs ⊎ (Newline xs ⊎ BadAmong (tilesOf (signOf xs) (innerOf xs)))))
+
+-- what "a literal with no escape" is not
+abbrev pub WithEscape : List ℕ → Type 0
+WithEscape xs = (¬ (signOf xs ≡ backquote)) × Stands backslash (innerOf xs)
+
+-- 3 "result needs more room"
+abbrev pub NoRoom : Reading → ℕ → List ℕ → Type 0
+NoRoom r room xs = room < length (unquoted r xs)
+
+abbrev pub UnquotingGiven : Type 0
+UnquotingGiven =
+    (r : Reading) (room : ℕ) (xs : List ℕ) →
+    let u = unquotingOf r room xs in
+    (u ≡ Refused tooLong ↔ TooLong textLimit xs)
+    × (u ≡ Refused (notUtf8 (placeAt xs (prefixEnd xs))) ↔ (¬ (TooLong textLimit xs)) × NotUtf8 xs)
+    × (u ≡ Refused badLiteral ↔ Taken textLimit xs × BadLiteral xs)
+    × (u ≡ Refused noRoom ↔ Taken textLimit xs × (¬ (BadLiteral xs)) × WithEscape xs × NoRoom r room xs)
+    × (u ≡ Inner (length (innerOf xs)) ↔ Taken textLimit xs × (¬ (BadLiteral xs)) × (¬ (WithEscape xs)))
+    × (u ≡ Written (length (unquoted r xs)) ↔ Taken textLimit xs × (¬ (BadLiteral xs)) × WithEscape xs × (¬ (NoRoom r room xs)))

@@ -1,0 +1,110 @@
+// A text is escaped, to stand between double quotes. It is measured first, so that a refused call writes nothing.
+use utf8::Admission;
+use utf8::Refusal;
+ghost use mathlib.Core.Path.{_≡_};
+ghost use Prim.Native.Nat.{_+_, _≤_};
+ghost use lib.ListN.{length};
+ghost use lib.Seq.{sets};
+ghost use Rattle.string.specs.Escape.{letterOf, escaped, escapingOf, leftBy, refusedBy};
+ghost use Rattle.string.specs.steps.Bytes.{escapedByte, escapedBytes};
+
+// How many bytes of an escaped text were written, or why none were.
+pub enum Escaping {
+    Written(usize),
+    Refused(Refusal),
+}
+
+const BACKSLASH: u8 = b'\\';
+
+// A byte that is copied has no letter.
+const NO_LETTER: u8 = 0;
+
+// What stands behind the backslash for a byte.
+fn letter_of(c: u8) -> u8
+    ensures { λ r. ⌜ r ≡ letterOf c ⌝ }
+{
+    match c {
+        b'\\' => b'\\',
+        b'"' => b'"',
+        b'\n' => b'n',
+        b'\r' => b'r',
+        b'\t' => b't',
+        _ => NO_LETTER,
+    }
+}
+
+// How many bytes a byte has when it is escaped.
+fn escaped_size(c: u8) -> usize
+    ensures { λ r. ⌜ r ≡ length (escapedByte c) ⌝ }
+{
+    if letter_of(c) == NO_LETTER { 1 } else { 2 }
+}
+
+// How many bytes a text has when it is escaped.
+fn escaped_length(text: &[u8]) -> usize
+    ensures { λ r. ⌜ r ≡ length (escapedBytes (now (text .entry))) ⌝ }
+{
+    let mut n = 0;
+    let mut i = 0;
+    while i < text.len() {
+        n += escaped_size(text[i]);
+        i += 1;
+    }
+    n
+}
+
+// Writes a byte, escaped, at a place where it fits, and answers the place past it.
+fn put_escaped(c: u8, out: &mut [u8], at: usize) -> usize
+    requires { ⌜ at + length (escapedByte c) ≤ length (now out) ⌝ }
+    ensures { λ r. ⌜ r ≡ at + length (escapedByte c) ⌝ }
+    ensures { λ _. ⌜ now (out .exit) ≡ sets (now (out .entry)) at (escapedByte c) ⌝ }
+{
+    let letter = letter_of(c);
+    if letter == NO_LETTER {
+        out[at] = c;
+        return at + 1;
+    }
+    out[at] = BACKSLASH;
+    out[at + 1] = letter;
+    at + 2
+}
+
+// Writes a text, escaped, at the front of a buffer that it fits.
+fn write_escaped(text: &[u8], out: &mut [u8])
+    requires { ⌜ length (escapedBytes (now text)) ≤ length (now out) ⌝ }
+    ensures { λ _. ⌜ now (out .exit) ≡ sets (now (out .entry)) 0 (escapedBytes (now (text .entry))) ⌝ }
+{
+    let mut at = 0;
+    let mut i = 0;
+    while i < text.len() {
+        at = put_escaped(text[i], out, at);
+        i += 1;
+    }
+}
+
+// Writes a text, escaped, at the front of a lent buffer; nothing where it is refused.
+pub fn escape_string(text: &[u8], out: &mut [u8]) -> Escaping
+    ensures { λ r. ⌜ r ≡ escapingOf (length (now (out .entry))) (now (text .entry)) ⌝ }
+    ensures { λ r. ⌜ now (out .exit) ≡ leftBy r (escaped (now (text .entry))) (now (out .entry)) ⌝ }
+{
+    let a = utf8::admit(text, utf8::TEXT_LIMIT);
+    let Admission::Admitted(_) = a else {
+        return Escaping::Refused(utf8::refused_by(a));
+    };
+    let n = escaped_length(text);
+    if out.len() < n {
+        return Escaping::Refused(utf8::at_start(utf8::NO_ROOM));
+    }
+    write_escaped(text, out);
+    Escaping::Written(n)
+}
+
+// Why a text is not escaped; where it is, a refusal of no number.
+pub fn refused_by(answer: Escaping) -> Refusal
+    ensures { λ r. ⌜ r ≡ refusedBy answer ⌝ }
+{
+    let Escaping::Refused(r) = answer else {
+        return utf8::at_start(utf8::NO_REFUSAL);
+    };
+    r
+}

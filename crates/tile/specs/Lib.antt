@@ -1,2 +1,0 @@
-pub mod Tile
-pub mod Laws

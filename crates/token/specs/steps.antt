@@ -1,0 +1,3 @@
+pub mod DisplayRows
+pub mod Padded
+pub mod WordRows
