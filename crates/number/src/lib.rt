@@ -8,8 +8,8 @@ use utf8::Admission;
 use utf8::ByteOffset;
 use utf8::Character;
 use utf8::Refusal;
+use utf8::Writing;
 use utf8::encode;
-use utf8::encode::Encoding;
 ghost use mathlib.Core.Bool.{true};
 ghost use mathlib.Core.Path.{_≡_};
 ghost use Prim.Native.Nat.{_+_, _<_, _≤_};
@@ -118,7 +118,7 @@ fn put_kept(code: u32, out: &mut [u8], at: usize) -> usize
         return at;
     }
     let e = encode::encode(byte::lowered(code as usize) as u32, out, ByteOffset(at));
-    let Encoding::Written(n) = e else {
+    let Writing::Written(n) = e else {
         return at;
     };
     at + n

@@ -9,8 +9,8 @@ use utf8::Admission;
 use utf8::ByteOffset;
 use utf8::Reading;
 use utf8::Refusal;
+use utf8::Writing;
 use utf8::encode;
-use utf8::encode::Encoding;
 ghost use mathlib.Core.Bool.{true, false};
 ghost use mathlib.Core.List.{[]};
 ghost use mathlib.Core.Path.{_≡_};
@@ -175,7 +175,7 @@ fn put_piece(reading: Reading, form: Form, value: u32, out: &mut [u8], at: usize
         return at + 1;
     }
     let e = encode::encode(value, out, ByteOffset(at));
-    let Encoding::Written(n) = e else {
+    let Writing::Written(n) = e else {
         return at;
     };
     at + n

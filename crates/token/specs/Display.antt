@@ -2,11 +2,10 @@
 use Prim.Native.Nat.{ℕ}
 use mathlib.Core.Bool.{cond}
 use mathlib.Core.List.{List, [], _∷_, _++_}
-use lib.Dec.{leb, eqb}
-use lib.ListN.{length, drop}
+use lib.Dec.{eqb}
 use Rattle.scan.specs.Ascii.{ascii}
-use Rattle.token.specs.declared.Display.{Display}
-use Rattle.token.specs.declared.Display.the-variants.{Length, NoRoom}
+use Rattle.utf8.specs.declared.Writing.{Writing}
+use Rattle.utf8.specs.Writing.{fitted}
 use Rattle.token.specs.Kinds.{eofKind, identifier, metricIdentifier, string, number, duration, leftParen, rightParen, leftBrace, rightBrace, leftBracket, rightBracket, comma, colon, eql, add, sub, mul, div, modulo, pow, eqlc, neq, lte, lss, gte, gtr, eqlRegex, neqRegex, atSign}
 use Rattle.token.specs.Words.{KindText, _names_, words}
 
@@ -66,14 +65,6 @@ textIn (e ∷ es) k = cond (eqb (e .kind) k) (e .text) (textIn es k)
 abbrev pub displayOf : ℕ → List ℕ
 displayOf k = textIn displays k
 
--- how many bytes of a text a buffer takes
-unfoldable pub fitted : ℕ → List ℕ → Display
-fitted room xs = cond (leb (length xs) room) (Length (length xs)) NoRoom
-
-abbrev pub displayed : ℕ → ℕ → Display
+-- how many bytes of it a buffer takes: all, or refusal 3
+abbrev pub displayed : ℕ → ℕ → Writing
 displayed room k = fitted room (displayOf k)
-
--- what the buffer holds then
-abbrev pub leftBy : Display → List ℕ → List ℕ → List ℕ
-leftBy (Length n) xs d = xs ++ drop n d
-leftBy NoRoom xs d = d

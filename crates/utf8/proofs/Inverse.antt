@@ -327,7 +327,7 @@ size-told xs c n = go (eqb (charLength xs) 0)
     go true e = cc
     go false e = cc
 
-encoded-some : (c : ℕ) → 0 < length (encoded c)
+pub encoded-some : (c : ℕ) → 0 < length (encoded c)
 unfolding encoded
 encoded-some c =
     let P : List ℕ → Type 0 = λ bs. 0 < length bs in

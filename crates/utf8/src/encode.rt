@@ -1,18 +1,16 @@
 // Writing a code point in UTF-8 (RFC 3629): whether it is a character's, how many bytes it has, and those bytes, in a lent buffer.
 use crate::ByteOffset;
+use crate::Writing;
 ghost use mathlib.Core.Path.{_≡_};
 ghost use Prim.Native.Nat.{_+_, _≤_};
 ghost use lib.ListN.{length};
 ghost use lib.Seq.{sets};
 ghost use Rattle.utf8.specs.Code.{isScalar, sixBits, encoded};
-ghost use Rattle.utf8.specs.Encode.{encodingOf, leftBy};
+ghost use Rattle.utf8.specs.Encode.{encodingOf};
+ghost use Rattle.utf8.specs.Writing.{leftAt};
 
-// How many bytes of a code point were written, or why none were.
-pub enum Encoding {
-    Written(usize),
-    NotScalar,
-    NoRoom,
-}
+// The refusal of a code point that is no character's, for which document 01 has no row: that of a literal with an escape of one.
+pub const NOT_SCALAR: usize = 40;
 
 // Whether a code point is a character: not a surrogate, and at most 10FFFF.
 pub fn is_scalar(code: u32) -> bool
@@ -69,21 +67,21 @@ fn write_code(code: u32, out: &mut [u8], at: usize)
 }
 
 // Writes the bytes of a code point at an offset of a lent buffer; nothing where it is no character's, or else has no room.
-pub fn encode(code: u32, out: &mut [u8], at: ByteOffset) -> Encoding
+pub fn encode(code: u32, out: &mut [u8], at: ByteOffset) -> Writing
     ensures { λ r. ⌜ r ≡ encodingOf code (length (now (out .entry))) (at .0) ⌝ }
-    ensures { λ r. ⌜ now (out .exit) ≡ leftBy r code (at .0) (now (out .entry)) ⌝ }
+    ensures { λ r. ⌜ now (out .exit) ≡ leftAt (at .0) r (encoded code) (now (out .entry)) ⌝ }
 {
     let from = at.0;
     if !is_scalar(code) {
-        return Encoding::NotScalar;
+        return Writing::Refused(crate::at_start(NOT_SCALAR));
     }
     if out.len() < from {
-        return Encoding::NoRoom;
+        return Writing::Refused(crate::at_start(crate::NO_ROOM));
     }
     let size = encoded_size(code);
     if out.len() - from < size {
-        return Encoding::NoRoom;
+        return Writing::Refused(crate::at_start(crate::NO_ROOM));
     }
     write_code(code, out, from);
-    Encoding::Written(size)
+    Writing::Written(size)
 }

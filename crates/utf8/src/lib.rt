@@ -54,7 +54,7 @@ pub enum Admission {
     Refused(Refusal),
 }
 
-// How many bytes of a text were written at the front of a lent buffer, or why none were.
+// How many bytes of a text were written to a lent buffer, or why none were.
 pub enum Writing {
     Written(usize),
     Refused(Refusal),

@@ -11,15 +11,16 @@ use Rattle.utf8.specs.declared.Admission.{Admission}
 use Rattle.utf8.specs.declared.Admission.the-variants.{Admitted, Refused}
 use Rattle.utf8.specs.declared.Character.{Character}
 use Rattle.utf8.specs.declared.Character.the-variants.{Scalar, Nothing, IllFormed}
-use Rattle.utf8.specs.declared.encode.Encoding.{Encoding}
-use Rattle.utf8.specs.declared.encode.Encoding.the-variants.{Written, NotScalar, NoRoom}
+use Rattle.utf8.specs.declared.Writing.{Writing}
+use Rattle.utf8.specs.declared.Writing.the-variants as writing
 use Rattle.utf8.specs.Answers.{placeAt, textLimit, tooLong, notUtf8, admitted, characterAt}
 use Rattle.utf8.specs.Encode.{encodingOf}
 use Rattle.utf8.proofs.Bounds.{Bounded, admitted-bound, Within, character-within, number-bound}
 use Rattle.utf8.proofs.encode.Bounds.{AtMostFour, encoding-bound}
 use Rattle.exports.specs.Packed.{packedOf}
-use Rattle.exports.specs.Utf8.{validateCode, characterCode, charAtCode, encodeCode}
-use Rattle.exports.specs.laws.Codes.{looksRefused, isNotAdmitted, ValidateTold, ValidateKept, isIllFormed, CharAtTold, CharAtKept, isUnwritten, EncodeTold, EncodeKept}
+use Rattle.exports.specs.Utf8.{validateCode, characterCode, charAtCode}
+use Rattle.exports.specs.Written.{writtenCode}
+use Rattle.exports.specs.laws.Codes.{looksRefused, isNotAdmitted, ValidateTold, ValidateKept, isIllFormed, CharAtTold, CharAtKept, isNotWritten, EncodeTold, EncodeKept}
 use Rattle.exports.proofs.packing.Laws.{small, packed-told, placed-kept}
 
 pub validate-told : ValidateTold
@@ -53,10 +54,9 @@ char-at-kept = (
 pub encode-told : EncodeTold
 encode-told c room at = go (encodingOf c room at) (encoding-bound c room at)
   where
-    go : (k : Encoding) → AtMostFour k → looksRefused (encodeCode k) ≡ isUnwritten k
-    go (Written n) h = small n (omega arith)
-    go NotScalar h = refl
-    go NoRoom h = refl
+    go : (k : Writing) → AtMostFour k → looksRefused (writtenCode k) ≡ isNotWritten k
+    go (writing.Written n) h = small n (omega arith)
+    go (writing.Refused r) h = packed-told r
 
 pub encode-kept : EncodeKept
 encode-kept = (omega arith, omega arith)
