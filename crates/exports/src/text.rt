@@ -27,7 +27,7 @@ pub extern "C" fn simmerpath_utf8_validate(text: &[u8]) -> u64
 {
     let a = utf8::admit(text, utf8::TEXT_LIMIT);
     let Admission::Admitted(count) = a else {
-        return packing::packed(utf8::refused_by(a));
+        return packing::packed(utf8::not_admitted(a));
     };
     count.0 as u64
 }

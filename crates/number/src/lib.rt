@@ -352,7 +352,7 @@ pub fn parse_str_radix(s: &[u8]) -> Parsing
 {
     let a = utf8::admit(s, decimal::LONGEST);
     let Admission::Admitted(_) = a else {
-        return Parsing::Refused(utf8::refused_by(a));
+        return Parsing::Refused(utf8::not_admitted(a));
     };
     let mut buf = [0u8; decimal::LONGEST];
     let n = keep(s, &mut buf);

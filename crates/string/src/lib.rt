@@ -207,7 +207,7 @@ pub fn unquote_string(literal: &[u8], reading: Reading, text: &mut [u8]) -> Unqu
 {
     let a = utf8::admit(literal, utf8::TEXT_LIMIT);
     let Admission::Admitted(_) = a else {
-        return Unquoting::Refused(utf8::refused_by(a));
+        return Unquoting::Refused(utf8::not_admitted(a));
     };
     let e = extent_of(literal, reading);
     let Extent::Text { escaped, size } = e else {

@@ -21,7 +21,7 @@ use Rattle.utf8.specs.laws.Characters.{AsciiBytes, isAscii, AsciiText, A
 use Rattle.utf8.proofs.Lead.{second, sized, char-by}
 use Rattle.utf8.proofs.Chars.{chars-none, chars-some}
 use Rattle.utf8.proofs.Codes.{one-byte}
-use Rattle.utf8.proofs.Laws.{ascii-alone, ascii-head}
+use Rattle.utf8.proofs.Laws.{ascii-char, ascii-head}
 use Rattle.utf8.proofs.Inverse.{Range, size-range, long-code}
 
 pub ascii-bytes : AsciiBytes
@@ -33,7 +33,7 @@ ascii-text [] h = (refl, refl)
 ascii-text (x ∷ xs) h =
     let l = ltb-true x 0x80 (and-left (ltb x 0x80) (isAscii xs) h) in
     let r = ascii-text xs (and-right (ltb x 0x80) (isAscii xs) h) in
-    (ascii-head x xs l .0 ∙ ap suc (r .0), rw (ascii-alone x xs l) (ap (λ (t : List ℕ). x ∷ t) (r .1)))
+    (ascii-head x xs l .0 ∙ ap suc (r .0), rw (ascii-char x xs l) (ap (λ (t : List ℕ). x ∷ t) (r .1)))
 
 -- a character of one byte is ASCII
 pub one-ascii : (x : ℕ) (xs : List ℕ) → charLength (x ∷ xs) ≡ 1 → x < 0x80
@@ -62,7 +62,7 @@ ascii-codes (x ∷ xs) w h = go (decLt x 0x80) (ascii-codes xs)
   where
     go : Dec (x < 0x80) → (WellFormed xs → isAscii (codesOf xs) ≡ true → isAscii xs ≡ true) → isAscii (x ∷ xs) ≡ true
     go (yes l) ih =
-        let a : isAscii (x ∷ codesOf xs) ≡ true = rw (ascii-alone x xs l) at h in
+        let a : isAscii (x ∷ codesOf xs) ≡ true = rw (ascii-char x xs l) at h in
         rw (lt-ltb x 0x80 l) (ih (omega (arith, ascii-head x xs l .0, w)) (and-right (ltb x 0x80) (isAscii (codesOf xs)) a))
     go (no l) ih = absurd (true≢false (sym h ∙ first-other x xs w (omega arith)))
 

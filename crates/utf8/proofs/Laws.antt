@@ -15,7 +15,7 @@ use Rattle.proving.proofs.Choice.{and-left, and-right}
 use Rattle.utf8.specs.Table.{Bounds, isTail, rows, fits, sizeIn, charLength}
 use Rattle.utf8.specs.Code.{codeOf}
 use Rattle.utf8.specs.Text.{Char, charOf, charsPast, charsOf, sizeOf, prefixEnd, WellFormed, begunIn, charNumber}
-use Rattle.utf8.specs.laws.Characters.{Steps, AsciiAlone, AsciiHead, NoneAscii, CharsJoin, PrefixJoin, NumberJoin, TextJoin}
+use Rattle.utf8.specs.laws.Characters.{Steps, AsciiChar, AsciiHead, NoneAscii, CharsJoin, PrefixJoin, NumberJoin, TextJoin}
 use Rattle.utf8.proofs.Chars.{EachRow, of-size, char-bound, chars-none, chars-some}
 use Rattle.utf8.proofs.Texts.{One, chars-one, by-characters, Filled, filled}
 
@@ -170,13 +170,13 @@ pub ascii-code : (x : ℕ) (xs : List ℕ) → x < 0x80 → codeOf 1 (x ∷ xs) 
 unfolding codeOf
 ascii-code x xs h = omega arith
 
-pub ascii-alone : AsciiAlone
-ascii-alone x xs h =
+pub ascii-char : AsciiChar
+ascii-char x xs h =
     let e = ascii-length x xs h in
     chars-some (x ∷ xs) (omega (arith, e)) ∙ rw (e, ascii-code x xs h)
 
 pub ascii-head : AsciiHead
 unfolding sizeOf charNumber begunIn
 ascii-head x xs h =
-    let e = ascii-alone x xs h in
+    let e = ascii-char x xs h in
     (ap sizeOf e ∙ omega arith, λ to. rw (e, ne-eqb (suc to) 0 (λ z. omega arith)) (ap (λ (n : ℕ). suc (begunIn n (charsOf xs))) (omega arith)))

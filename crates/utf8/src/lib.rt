@@ -8,7 +8,7 @@ ghost use Rattle.utf8.specs.Table.{isTail, charLength};
 ghost use Rattle.utf8.specs.steps.Lead.{sizeBy, lowSecond, highSecond, withTails};
 ghost use Rattle.utf8.specs.Text.{charNumber};
 ghost use Rattle.utf8.specs.Code.{codeOf};
-ghost use Rattle.utf8.specs.Answers.{count, nextStart, validityOf, atStart, notUtf8By, admitted, refusedBy, characterAt};
+ghost use Rattle.utf8.specs.Answers.{count, nextStart, validityOf, atStart, notUtf8By, admitted, notAdmitted, characterAt};
 ghost use Rattle.utf8.specs.Writing.{notWritten};
 
 // How many bytes come before a place.
@@ -224,8 +224,8 @@ pub fn admit(text: &[u8], limit: usize) -> Admission
 }
 
 // Why a text is not taken up; where it is, a refusal of no number.
-pub fn refused_by(a: Admission) -> Refusal
-    ensures { λ r. ⌜ r ≡ refusedBy a ⌝ }
+pub fn not_admitted(a: Admission) -> Refusal
+    ensures { λ r. ⌜ r ≡ notAdmitted a ⌝ }
 {
     let Admission::Refused(r) = a else {
         return at_start(NO_REFUSAL);

@@ -25,8 +25,8 @@ Steps =
     (n ≤ length xs) × (n ≡ 0 → charsOf xs ≡ []) × (0 < n → charsOf xs ≡ charOf n xs ∷ charsOf (drop n xs))
 
 -- an ASCII byte is a character by itself
-abbrev pub AsciiAlone : Type 0
-AsciiAlone = (x : ℕ) (xs : List ℕ) → x < 0x80 → charsOf (x ∷ xs) ≡ record { code = x; size = 1 } ∷ charsOf xs
+abbrev pub AsciiChar : Type 0
+AsciiChar = (x : ℕ) (xs : List ℕ) → x < 0x80 → charsOf (x ∷ xs) ≡ record { code = x; size = 1 } ∷ charsOf xs
 
 -- so what follows it is text where the whole is, and has one character number less
 abbrev pub AsciiHead : Type 0
