@@ -11,7 +11,7 @@ use borrow.Author.Tests.{leb-true, ltb-true, eq-eqb, eqb-true, eqb-false, not-tr
 use Rattle.proving.proofs.Choice.{and-left, and-right}
 use Rattle.token.specs.Words.{KindText, _names_, words}
 use Rattle.token.specs.Display.{signs, ownKinds, displays, textIn, displayOf, unknown}
-use Rattle.token.specs.laws.Display.{shownAt, KindsDistinct, KindShown, OtherUnknown}
+use Rattle.token.specs.laws.Display.{shownAt, KindsDistinct, KindShown, OtherUnknown, DisplayShort}
 use Rattle.token.specs.steps.DisplayRows.{pastKinds, textSize}
 use Rattle.token.proofs.Every.{every, distinct, Search, each-found, none-hit, one-hit, hit-found}
 
@@ -62,8 +62,7 @@ past-kinds k h =
     each-found (searched k) isShown (λ xs. xs ≡ unknown) refl
     (λ e t s. absurd (omega (arith, ltb-true (e .kind) pastKinds (and-left _ _ t), eqb-true (e .kind) k s))) displays entries
 
--- no text is longer than a row has room for
-pub short : (k : ℕ) → length (displayOf k) ≤ textSize
+pub short : DisplayShort
 unfolding textIn
 short k =
     each-found (searched k) isShown (λ xs. length xs ≤ textSize) (lit≤ tt)

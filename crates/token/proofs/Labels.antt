@@ -15,7 +15,7 @@ use Rattle.scan.specs.declared.byte.Class.the-variants.{AlphaNumeric}
 use Rattle.scan.specs.Byte.{peekAt, isWithin, isAlpha, isAlphaNumeric, isIn}
 use Rattle.scan.specs.Run.{runLength, runEnd}
 use Rattle.scan.proofs.byte.Classes.{above-not}
-use Rattle.utf8.specs.laws.Characters.{isAscii}
+use Rattle.utf8.specs.laws.Ascii.{isAscii}
 use Rattle.utf8.proofs.Ascii.{by-bytes}
 use Rattle.token.specs.Label.{every, named, isLabel}
 

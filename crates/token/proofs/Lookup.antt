@@ -14,7 +14,7 @@ use Rattle.scan.specs.Byte.{lowered}
 use Rattle.scan.specs.Text.{sameText}
 use Rattle.proving.proofs.Choice.{either, and-left, and-right}
 use Rattle.scan.proofs.Same.{same-not, same-is-equal}
-use Rattle.utf8.specs.laws.Characters.{isAscii}
+use Rattle.utf8.specs.laws.Ascii.{isAscii}
 use Rattle.utf8.proofs.Ascii.{by-bytes, lowered-other}
 use Rattle.token.specs.declared.Keyword.{Keyword}
 use Rattle.token.specs.declared.Keyword.the-variants.{Kind, Nothing}

@@ -6,13 +6,14 @@ use lib.ListN.{length}
 use denote.Ref.{now}
 use borrow.Author.Needs.{needs}
 use Rattle.scan.specs.Byte.{lowered}
+use Rattle.scan.proofs.byte.Classes.{lowered-below}
 use Rattle.utf8.specs.declared.Writing.{Writing}
 use Rattle.utf8.specs.declared.Writing.the-variants.{Written}
 use Rattle.utf8.specs.Code.{isScalar, encoded}
 use Rattle.utf8.specs.Writing.{leftAt}
 use Rattle.utf8.proofs.encode.Bounds.{encoding-fits, written-sets}
 use Rattle.number.specs.White.{keptBytes}
-use Rattle.number.proofs.Kept.{white-kept, other-kept, lowered-scalar, lowered-below}
+use Rattle.number.proofs.Kept.{white-kept, other-kept, lowered-scalar}
 use Rattle.number.proofs.put_kept.Statement.{statement}
 use Rattle.number.proofs.put_kept.Tie as tie
 

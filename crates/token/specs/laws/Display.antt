@@ -1,11 +1,12 @@
 -- What the texts of kinds keep to, as statements; `proofs/Displays` and `proofs/Shown` have their proofs.
-use Prim.Native.Nat.{ℕ, _<_}
+use Prim.Native.Nat.{ℕ, _<_, _≤_}
 use mathlib.Core.Path.{_≡_}
 use lib.ListN.{length, getD}
 use Rattle.token.specs.Kinds.{number}
 use Rattle.token.specs.Words.{KindText, _names_}
 use Rattle.token.specs.Display.{displays, displayOf, unknown}
 use Rattle.token.specs.laws.Words.{wordAt}
+use Rattle.token.specs.steps.DisplayRows.{textSize}
 use Rattle.token.specs.steps.WordRows.{wordCount}
 
 -- a row of the texts, and none past the last
@@ -27,3 +28,7 @@ OtherUnknown = (k : ℕ) → ((i : ℕ) → i < length displays → shownAt i .k
 -- a word is shown as itself, but for inf and nan, which are NUMBER
 abbrev pub WordShown : Type 0
 WordShown = (i : ℕ) → i < wordCount → (wordAt i .kind ≡ number → ⊥) → displayOf (wordAt i .kind) ≡ wordAt i .text
+
+-- and no text is longer than `unknown token`
+abbrev pub DisplayShort : Type 0
+DisplayShort = (k : ℕ) → length (displayOf k) ≤ textSize

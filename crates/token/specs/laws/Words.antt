@@ -1,10 +1,11 @@
--- What the crates above may know of words, as statements; `proofs/Lookup` and `proofs/Table` have their proofs.
-use Prim.Native.Nat.{ℕ, _<_}
+-- What the crates above may know of words, as statements; `proofs/Lookup`, `proofs/Fits` and `proofs/Table` have their proofs.
+use Prim.Native.Nat.{ℕ, _^_, _<_}
 use mathlib.Core.Bool.{true}
 use mathlib.Core.List.{List}
 use mathlib.Core.Path.{_≡_}
 use lib.ListN.{getD}
 use Rattle.scan.specs.Text.{sameText}
+use Rattle.token.specs.declared.Keyword.{Keyword}
 use Rattle.token.specs.declared.Keyword.the-variants.{Kind, Nothing}
 use Rattle.token.specs.Words.{KindText, _names_, words, kindIn, keywordOf}
 use Rattle.token.specs.steps.WordRows.{wordCount, wordTable, keywordIn}
@@ -12,6 +13,14 @@ use Rattle.token.specs.steps.WordRows.{wordCount, wordTable, keywordIn}
 -- by the table of `words`, a search finds what the definition says
 abbrev pub TableFinds : Type 0
 TableFinds = (xs : List ℕ) → keywordIn wordTable xs ≡ keywordOf xs
+
+-- the kind of a word, if any, has 16 bits
+abbrev pub KindFits : Keyword → Type 0
+KindFits (Kind k) = k < 2 ^ 16
+KindFits Nothing = Unit {0}
+
+abbrev pub KeywordFits : Type 0
+KeywordFits = (xs : List ℕ) → KindFits (keywordOf xs)
 
 -- a row of the words, and none past the last
 abbrev pub wordAt : ℕ → KindText
