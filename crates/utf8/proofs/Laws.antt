@@ -17,7 +17,7 @@ use Rattle.utf8.specs.Code.{codeOf}
 use Rattle.utf8.specs.Text.{Char, charOf, charsPast, charsOf, sizeOf, prefixEnd, WellFormed, begunIn, charNumber}
 use Rattle.utf8.specs.laws.Ascii.{AsciiCode, AsciiHead, NoneAscii}
 use Rattle.utf8.specs.laws.Characters.{Steps, NoneEmpty, RestText, One, OneText, RestWell}
-use Rattle.utf8.specs.laws.Texts.{CharsJoin, PrefixJoin, NumberJoin, TextJoin}
+use Rattle.utf8.specs.laws.Texts.{PrefixJoin, NumberJoin, TextJoin}
 use Rattle.utf8.proofs.Chars.{EachRow, of-size, char-bound, chars-none, chars-some}
 use Rattle.utf8.proofs.Texts.{chars-one, by-characters, Filled, filled}
 
@@ -49,7 +49,8 @@ pub one-text : OneText
 unfolding sizeOf charsPast
 one-text bs o = let e = chars-one bs [] o in omega (arith, ap sizeOf (sym (ap charsOf (append-nil bs)) ∙ e))
 
-pub chars-join : CharsJoin
+-- after a well-formed text the characters of any bytes are what they are by themselves
+chars-join : (xs ys : List ℕ) → WellFormed xs → charsOf (xs ++ ys) ≡ charsOf xs ++ charsOf ys
 chars-join xs ys =
     by-characters (λ xs. WellFormed xs → charsOf (xs ++ ys) ≡ charsOf xs ++ charsOf ys)
     (λ xs e w. rw (none-empty xs e w) (unfold charsPast in refl))

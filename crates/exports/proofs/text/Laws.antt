@@ -1,4 +1,4 @@
--- The laws of texts in `specs/Laws`: an accepted answer is at most a text's bytes, well below bit 63, and a refusal's place lies within
+-- The laws of texts in `specs/laws/Codes`: an accepted answer is at most a text's bytes, well below bit 63, and a refusal's place lies within
 -- the text, by the bounds of the answers of `utf8` and `encode`.
 use Prim.Native.Nat.{_<_}
 use native.Mathlib.Omega.{arith}

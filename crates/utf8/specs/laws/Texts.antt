@@ -33,11 +33,7 @@ abbrev pub Longest : Type 0
 Longest =
     (xs : List ℕ) → WellFormed (take (prefixEnd xs) xs) × ((n : ℕ) → n ≤ length xs → WellFormed (take n xs) → n ≤ prefixEnd xs)
 
--- after a well-formed text the characters of any bytes are what they are by themselves
-abbrev pub CharsJoin : Type 0
-CharsJoin = (xs ys : List ℕ) → WellFormed xs → charsOf (xs ++ ys) ≡ charsOf xs ++ charsOf ys
-
--- so two well-formed texts make one
+-- two well-formed texts make one
 abbrev pub TextJoin : Type 0
 TextJoin = (xs ys : List ℕ) → WellFormed xs → WellFormed ys → WellFormed (xs ++ ys)
 
