@@ -1,19 +1,18 @@
 -- Laws of edges: each is within the text, and a run of ASCII bytes goes from one to another, since its last byte is ASCII.
-use Prim.Native.Nat.{ℕ, zero, suc, _+_, _<_, _≤_}
+use Prim.Native.Nat.{ℕ, zero, suc, _+_, _<_}
 use Prim.Native.Char.{code}
 use native.Mathlib.Omega.{arith}
 use native.Mathlib.Nat.{add-zero}
 use mathlib.Core.Bool.{Bool, true, false, _||_, true≢false}
-use mathlib.Core.List.{List}
 use mathlib.Core.Path.{_≡_, refl, sym, subst}
-use lib.Dec.{eqb, ltb}
-use lib.ListN.{length, drop}
+use lib.Dec.{ltb}
+use lib.ListN.{drop}
 use borrow.Author.Tests.{eqb-true, lt-ltb}
 use Rattle.scan.specs.declared.byte.Class.the-variants.{Space, Alpha, Digit, HexDigit, AlphaNumeric, Word, Line}
 use Rattle.scan.specs.Byte.{peekAt, isWithin, isSpace, isAlpha, isDigit, isHexDigit, isAlphaNumeric, isWord, isIn}
-use Rattle.scan.specs.laws.Edge.{Edge, first, last, behind, EdgeWithin, AsciiAlone, EdgeRun, isAsciiClass, ClassAscii, OneAscii, OrAscii}
+use Rattle.scan.specs.laws.Edge.{Edge, first, last, behind, EdgeWithin, AsciiAlone, EdgeRun, ClassAscii, OneAscii, OrAscii}
 use Rattle.scan.specs.laws.Inside.{AsciiInside}
-use Rattle.scan.specs.Run.{runLength, runEnd}
+use Rattle.scan.specs.Run.{runLength}
 use Rattle.scan.proofs.byte.Classes.{within-bounds}
 use Rattle.scan.proofs.Runs.{inside, run-passes}
 

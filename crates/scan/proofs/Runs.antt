@@ -10,7 +10,7 @@ use lib.Dec.{eqb}
 use lib.Seq.{drop-append-le, getD-drop}
 use lib.ListN.{length, take, drop, length-drop}
 use Rattle.scan.specs.Byte.{end, peekAt}
-use Rattle.scan.specs.Run.{runLength, runEnd}
+use Rattle.scan.specs.Run.{runLength}
 use Rattle.scan.specs.laws.Inside.{TestInside, PeekInside, PeekAppend}
 use Rattle.scan.specs.laws.Runs.{RunWithin, RunPasses, RunStopped, RunStops, RunGoesOn, RunPast, RunAppend, RunInside}
 

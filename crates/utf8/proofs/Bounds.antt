@@ -1,6 +1,6 @@
 -- Bounds of the answers: a place of a text lies within it, and since each character has a byte at least, there are no more characters
 -- than bytes.
-use Prim.Native.Nat.{ℕ, suc, _+_, _-_, _<_, _≤_}
+use Prim.Native.Nat.{ℕ, suc, _-_, _<_, _≤_}
 use native.Mathlib.Omega.{arith}
 use mathlib.Core.List.{List, [], _∷_}
 use mathlib.Core.Logic.{_⊎_, inl, inr}
@@ -9,16 +9,13 @@ use lib.Dec.{leb, ltb, eqb}
 use lib.ListN.{length, drop, length-drop}
 use lib.Seq.{drop-drop, drop-cons}
 use borrow.Author.Tests.{le-leb, lt-leb, leb-false, ltb-false, lt-ltb, eq-eqb, ne-eqb, eqb-true, eqb-false}
-use Rattle.utf8.specs.declared.Refusal.{Refusal}
-use Rattle.utf8.specs.declared.Admission.{Admission}
-use Rattle.utf8.specs.declared.Admission.the-variants.{Admitted, Refused}
 use Rattle.utf8.specs.declared.Character.{Character}
 use Rattle.utf8.specs.declared.Character.the-variants.{Scalar, Nothing, IllFormed}
 use Rattle.utf8.specs.Table.{charLength}
 use Rattle.utf8.specs.Code.{codeOf, isScalar, encoded}
 use Rattle.utf8.specs.Text.{Char, charsOf, sizeOf, prefixEnd, begunIn, charNumber}
 use Rattle.utf8.specs.laws.Ascii.{AsciiAt}
-use Rattle.utf8.specs.laws.Bounds.{Placed, Bounded, AdmittedBound, NumberBound, CharacterWithin}
+use Rattle.utf8.specs.laws.Bounds.{Bounded, AdmittedBound, NumberBound, CharacterWithin}
 use Rattle.utf8.specs.laws.Characters.{FirstCharacter, StandsAt, CharacterStands}
 use Rattle.utf8.specs.laws.Encode.{ByteScalar, FewBytes}
 use Rattle.utf8.specs.Answers.{validityOf, admittedAs, admitted, characterAt}

@@ -16,7 +16,7 @@ use Rattle.utf8.specs.Table.{Bounds, isTail, rows, fits, sizeIn, charLen
 use Rattle.utf8.specs.Code.{codeOf}
 use Rattle.utf8.specs.Text.{Char, charOf, charsPast, charsOf, sizeOf, prefixEnd, WellFormed, begunIn, charNumber}
 use Rattle.utf8.specs.laws.Ascii.{AsciiCode, AsciiHead, NoneAscii}
-use Rattle.utf8.specs.laws.Characters.{Steps, NoneEmpty, RestText, One, OneText, RestWell}
+use Rattle.utf8.specs.laws.Characters.{Steps, NoneEmpty, RestText, OneText, RestWell}
 use Rattle.utf8.specs.laws.Texts.{PrefixJoin, NumberJoin, TextJoin}
 use Rattle.utf8.proofs.Chars.{EachRow, of-size, char-bound, chars-none, chars-some}
 use Rattle.utf8.proofs.Texts.{chars-one, by-characters, Filled, filled}

@@ -13,8 +13,7 @@ use Rattle.scan.specs.Byte.{end, peekAt, isWithin}
 use Rattle.utf8.specs.Table.{Bounds, tail, fits, charLength}
 use Rattle.utf8.specs.steps.Lead.{sizeBy}
 use Rattle.utf8.specs.Code.{codeOf}
-use Rattle.utf8.specs.Text.{Char, charOf, charsOf, sizeOf, prefixEnd, begunIn, charNumber}
-use Rattle.utf8.specs.declared.Character.the-variants.{Scalar}
+use Rattle.utf8.specs.Text.{Char, charsOf, sizeOf, prefixEnd, begunIn, charNumber}
 use Rattle.utf8.specs.Answers.{place, nextStart, characterAt}
 use Rattle.utf8.specs.laws.Characters.{One, OneByOne, CharsOne, CharacterOne}
 use Rattle.proving.proofs.Choice.{either-same, and-left, and-right}

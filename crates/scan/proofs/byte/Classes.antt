@@ -3,13 +3,12 @@ use Prim.Native.Nat.{ℕ, _<_, _≤_}
 use Prim.Native.Char.{code}
 use native.Mathlib.Omega.{arith}
 use mathlib.Core.Bool.{Bool, true, false, _||_, and-false}
-use mathlib.Core.List.{map}
 use mathlib.Core.Path.{_≡_, refl}
 use lib.Dec.{leb, ltb}
 use lib.ListN.{List·getD-map}
 use borrow.Author.Tests.{le-leb, lt-leb, leb-true}
 use Rattle.scan.specs.declared.byte.Class.the-variants.{Space, Alpha, Digit, HexDigit, AlphaNumeric, Word, Line}
-use Rattle.scan.specs.Byte.{end, isWithin, isSpace, isAlpha, isDigit, isHexDigit, digitOf, isDigitIn, lowered, isAlphaNumeric, isWord, isLine, isIn}
+use Rattle.scan.specs.Byte.{isWithin, isSpace, isAlpha, isDigit, isHexDigit, digitOf, isDigitIn, lowered, isAlphaNumeric, isWord, isLine, isIn}
 use Rattle.scan.specs.laws.Classes.{EndInNone, WithinBounds, WithinYes, BelowNot, AboveNot, DigitBound, DigitBounds, LoweredAbove, LoweredBelow, LoweredAt}
 use Rattle.proving.proofs.Choice.{either, and-left, and-right}
 

@@ -1,5 +1,5 @@
 -- Bounds of what is written: where there is room the answer is the number of a code point's bytes, and no code point has more than four.
-use Prim.Native.Nat.{ℕ, _+_, _-_, _≤_}
+use Prim.Native.Nat.{ℕ, _-_, _≤_}
 use native.Mathlib.Omega.{arith}
 use mathlib.Core.List.{append-assoc}
 use mathlib.Core.Path.{subst}
