@@ -14,7 +14,7 @@ use denote.Triple.Clauses.{AtExit}
 use borrow.Author.Tests.{leb-true}
 use Rattle.utf8.specs.declared.Reading.{Reading}
 use Rattle.utf8.specs.Answers.{textLimit}
-use Rattle.utf8.specs.laws.Characters.{isAscii}
+use Rattle.utf8.specs.laws.Ascii.{isAscii}
 use Rattle.utf8.proofs.Ascii.{ascii-text}
 use Rattle.string.specs.laws.ReadBack.{isRead}
 use Rattle.string.proofs.Calls.{Read, read-calls}

@@ -17,7 +17,7 @@ use Rattle.scan.specs.Run.{runEnd}
 use Rattle.proving.proofs.Choice.{either, and-right}
 use Rattle.scan.proofs.byte.Classes.{within-bounds, lowered-above}
 use Rattle.scan.proofs.Runs.{run-passes}
-use Rattle.utf8.specs.laws.Characters.{isAscii}
+use Rattle.utf8.specs.laws.Ascii.{isAscii}
 use Rattle.utf8.proofs.Ascii.{by-bytes, lowered-other}
 use Rattle.scan.proofs.sign.Places.{sign-ascii}
 use Rattle.decimal.specs.declared.Decimal.{Decimal}

@@ -11,7 +11,8 @@ use Rattle.proving.proofs.Choice.{either}
 use Rattle.utf8.specs.declared.Admission.{Admission}
 use Rattle.utf8.specs.declared.Admission.the-variants as admission
 use Rattle.utf8.specs.Answers.{admitted}
-use Rattle.utf8.proofs.Bounds as within
+use Rattle.utf8.specs.laws.Bounds as within
+use Rattle.utf8.proofs.Bounds.{admitted-bound}
 use Rattle.decimal.specs.declared.Decimal.{Decimal}
 use Rattle.decimal.specs.declared.Decimal.the-variants.{NotDecimal, Named, Exact, Outside}
 use Rattle.decimal.specs.Value.{longest, decimalOf}
@@ -52,7 +53,7 @@ read-bound xs =
 
 pub timing-bound : (xs : List ℕ) → Bounded (timingOf xs)
 unfolding timingOf
-timing-bound xs = go (admitted longest xs) (within.admitted-bound longest xs)
+timing-bound xs = go (admitted longest xs) (admitted-bound longest xs)
   where
     go : (a : Admission) → within.Bounded longest a → Bounded (timingFor a xs)
     go (admission.Admitted n) h = read-bound xs

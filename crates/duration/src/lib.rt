@@ -109,7 +109,7 @@ pub fn parse_duration(s: &[u8]) -> Timing
 {
     let a = utf8::admit(s, decimal::LONGEST);
     let Admission::Admitted(_) = a else {
-        return Timing::Refused(utf8::refused_by(a));
+        return Timing::Refused(utf8::not_admitted(a));
     };
     if s.len() == 0 {
         return refused(EMPTY);

@@ -1,4 +1,4 @@
--- What the C functions over `utf8` and `encode` answer, and what they leave in what was lent, by cases over the answers of those.
+-- What the C functions over `utf8` answer, and what they leave in what was lent, by cases over its answers.
 use Prim.Native.Nat.{ℕ}
 use mathlib.Core.Bool.{cond}
 use mathlib.Core.List.{List}
@@ -8,10 +8,7 @@ use Rattle.utf8.specs.declared.Admission.{Admission}
 use Rattle.utf8.specs.declared.Admission.the-variants.{Admitted, Refused}
 use Rattle.utf8.specs.declared.Character.{Character}
 use Rattle.utf8.specs.declared.Character.the-variants.{Scalar, Nothing, IllFormed}
-use Rattle.utf8.specs.declared.encode.Encoding.{Encoding}
-use Rattle.utf8.specs.declared.encode.Encoding.the-variants.{Written, NotScalar, NoRoom}
-use Rattle.utf8.specs.Answers.{placeAt, textLimit, tooLong, noRoom, notUtf8, characterAt}
-use Rattle.string.specs.Literal.{badLiteral}
+use Rattle.utf8.specs.Answers.{placeAt, textLimit, tooLong, notUtf8, characterAt}
 use Rattle.exports.specs.Packed.{packedOf}
 
 -- the number of characters, or the refusal
@@ -39,9 +36,3 @@ codeOr old IllFormed = old
 -- what `code` holds then: of a text that is too long, what it held
 unfoldable pub charAtLeft : List ℕ → ℕ → ℕ → ℕ
 charAtLeft xs at old = cond (ltb textLimit (length xs)) old (codeOr old (characterAt xs at))
-
--- how many bytes were written, or why none were
-abbrev pub encodeCode : Encoding → ℕ
-encodeCode (Written n) = n
-encodeCode NotScalar = packedOf badLiteral
-encodeCode NoRoom = packedOf noRoom

@@ -6,17 +6,19 @@ use utf8::ByteOffset;
 use utf8::Character;
 use utf8::Place;
 use utf8::Refusal;
+use utf8::Writing;
 use utf8::encode;
-use utf8::encode::Encoding;
 ghost use mathlib.Core.Path.{_≡_};
 ghost use Prim.Native.Nat.{ℕ};
 ghost use lib.ListN.{length};
 ghost use Rattle.utf8.specs.Text.{charNumber};
 ghost use Rattle.utf8.specs.Answers.{textLimit, admitted};
 ghost use Rattle.utf8.specs.declared.Character.the-variants.{Scalar};
-ghost use Rattle.utf8.specs.declared.encode.Encoding.the-variants.{Written};
-ghost use Rattle.utf8.specs.Encode.{encodingOf, leftBy};
-ghost use Rattle.exports.specs.Utf8.{validateCode, characterCode, charAtCode, charAtLeft, encodeCode};
+ghost use Rattle.utf8.specs.Code.{encoded};
+ghost use Rattle.utf8.specs.Encode.{encodingOf};
+ghost use Rattle.utf8.specs.Writing.{leftAt};
+ghost use Rattle.exports.specs.Utf8.{validateCode, characterCode, charAtCode, charAtLeft};
+ghost use Rattle.exports.specs.Written.{writtenCode};
 
 // The number of characters of a text, or refusal 1 or 2.
 #[no_mangle]
@@ -25,7 +27,7 @@ pub extern "C" fn simmerpath_utf8_validate(text: &[u8]) -> u64
 {
     let a = utf8::admit(text, utf8::TEXT_LIMIT);
     let Admission::Admitted(count) = a else {
-        return packing::packed(utf8::refused_by(a));
+        return packing::packed(utf8::not_admitted(a));
     };
     count.0 as u64
 }
@@ -73,26 +75,15 @@ pub extern "C" fn simmerpath_utf8_char_at(text: &[u8], at: usize, code: &mut u32
     size as u64
 }
 
-// Why a code point was not written: refusal 40, where it is no character's, or 3.
-fn not_written(e: Encoding) -> u64
-    requires { ⌜ ((n : ℕ) → e ≡ Written n → ⊥) ⌝ }
-    ensures { λ r. ⌜ r ≡ encodeCode e ⌝ }
-{
-    let Encoding::NotScalar = e else {
-        return packing::packed_at_start(utf8::NO_ROOM);
-    };
-    packing::packed_at_start(string::BAD_LITERAL)
-}
-
 // How many bytes of a code point were written at an offset of a lent buffer, or refusal 40, where it is no character's, or 3.
 #[no_mangle]
 pub extern "C" fn simmerpath_utf8_encode(code: u32, out: &mut [u8], at: usize) -> u64
-    ensures { λ r. ⌜ r ≡ encodeCode (encodingOf code (length (now (out .entry))) at) ⌝ }
-    ensures { λ _. ⌜ now (out .exit) ≡ leftBy (encodingOf code (length (now (out .entry))) at) code at (now (out .entry)) ⌝ }
+    ensures { λ r. ⌜ r ≡ writtenCode (encodingOf code (length (now (out .entry))) at) ⌝ }
+    ensures { λ _. ⌜ now (out .exit) ≡ leftAt at (encodingOf code (length (now (out .entry))) at) (encoded code) (now (out .entry)) ⌝ }
 {
     let e = encode::encode(code, out, ByteOffset(at));
-    let Encoding::Written(n) = e else {
-        return not_written(e);
+    let Writing::Written(n) = e else {
+        return packing::packed(utf8::not_written(e));
     };
     n as u64
 }

@@ -1,14 +1,16 @@
 // The C functions over `token`: each answers with one number, and writes what else it gives to what is lent.
 // A refusal is answered as `packing` makes it one number.
 use crate::packing;
-use token::Display;
 use token::Keyword;
+use utf8::Writing;
 ghost use mathlib.Core.Path.{_≡_};
 ghost use lib.ListN.{length};
-ghost use Rattle.token.specs.Display.{displayOf, displayed, leftBy};
+ghost use Rattle.utf8.specs.Writing.{leftBy};
+ghost use Rattle.token.specs.Display.{displayOf, displayed};
 ghost use Rattle.token.specs.Words.{keywordOf};
 ghost use Rattle.token.specs.Label.{isLabel};
-ghost use Rattle.exports.specs.Token.{keywordCode, displayCode, flag, classesCode};
+ghost use Rattle.exports.specs.Token.{keywordCode, flag, classesCode};
+ghost use Rattle.exports.specs.Written.{writtenCode};
 
 // No kind has this number: a word that has none of its own is answered with it.
 const NO_KIND: u64 = 0x1_0000;
@@ -39,12 +41,12 @@ pub extern "C" fn simmerpath_get_keyword_token(word: &[u8]) -> u64
 // How many bytes of the text that a kind is shown as were written at the front of a lent buffer, or refusal 3.
 #[no_mangle]
 pub extern "C" fn simmerpath_token_display(kind: u16, out: &mut [u8]) -> u64
-    ensures { λ r. ⌜ r ≡ displayCode (displayed (length (now (out .entry))) kind) ⌝ }
+    ensures { λ r. ⌜ r ≡ writtenCode (displayed (length (now (out .entry))) kind) ⌝ }
     ensures { λ _. ⌜ now (out .exit) ≡ leftBy (displayed (length (now (out .entry))) kind) (displayOf kind) (now (out .entry)) ⌝ }
 {
     let d = token::token_display(kind, out);
-    let Display::Length(n) = d else {
-        return packing::packed_at_start(utf8::NO_ROOM);
+    let Writing::Written(n) = d else {
+        return packing::packed(utf8::not_written(d));
     };
     n as u64
 }

@@ -11,7 +11,7 @@ use Rattle.scan.specs.declared.byte.Class.the-variants as class
 use Rattle.scan.specs.Byte.{isWithin, isSpace, isAlpha, isDigit, isIn}
 use Rattle.scan.specs.Run.{runLength}
 use Rattle.proving.proofs.Below.{below}
-use Rattle.scan.proofs.Edges.{space-ascii}
+use Rattle.scan.proofs.Edges.{class-ascii}
 use Rattle.token.specs.Words.{keywordOf}
 use Rattle.munch.specs.Lead.{leadOf, braceLeadOf, bracketLeadOf}
 use Rattle.munch.specs.declared.Inside.{Inside}
@@ -42,7 +42,7 @@ unfolding isSpace isAlpha isWithin
 not-white = below (λ c. cond (isSpace c) (not (isAlpha c || isDigit c)) true) 0x80 refl
 
 white-is : (c : ℕ) → isSpace c ≡ true → (isAlpha c ≡ false) × (isDigit c ≡ false)
-white-is c e = go (isAlpha c) (isDigit c) (rw e at (not-white c (space-ascii c e)))
+white-is c e = go (isAlpha c) (isDigit c) (rw e at (not-white c (unfold isIn in class-ascii class.Space refl c e)))
   where
     go : (a d : Bool) → not (a || d) ≡ true → (a ≡ false) × (d ≡ false)
     go true d h = (cc, cc)

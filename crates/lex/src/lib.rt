@@ -101,7 +101,7 @@ pub fn measure(query: &[u8]) -> Lexing
 {
     let a = utf8::admit(query, utf8::TEXT_LIMIT);
     let Admission::Admitted(_) = a else {
-        return Lexing::Refused(utf8::refused_by(a));
+        return Lexing::Refused(utf8::not_admitted(a));
     };
     let words = token::words();
     let t = count_lexemes(&words, query);

@@ -7,17 +7,17 @@ use Prim.Native.Char.{code}
 use native.Mathlib.Omega.{arith}
 use mathlib.Core.Bool.{Bool, true, false, _||_}
 use mathlib.Core.List.{List, [], _∷_}
-use mathlib.Core.Path.{_≡_, ap}
+use mathlib.Core.Path.{_≡_, refl, ap}
 use lib.Dec.{eqb}
 use lib.ListN.{drop, length-drop}
 use borrow.Author.Tests.{eqb-true}
 use Rattle.scan.specs.declared.byte.Class.{Class}
-use Rattle.scan.specs.declared.byte.Class.the-variants.{AlphaNumeric, Word}
-use Rattle.scan.specs.Byte.{end, peekAt, isWithin, isDigit, isIn}
+use Rattle.scan.specs.declared.byte.Class.the-variants.{Space, Alpha, AlphaNumeric, Word}
+use Rattle.scan.specs.Byte.{end, peekAt, isWithin, isSpace, isAlpha, isDigit, isIn}
 use Rattle.scan.specs.laws.Edge.{Bytes, Edge, first, last, behind, AsciiAlone}
 use Rattle.scan.specs.Run.{runEnd}
 use Rattle.proving.proofs.Choice.{either}
-use Rattle.scan.proofs.Edges.{ascii-inside, edge-within, edge-past, edge-run, one-ascii, alpha-ascii, space-ascii, alpha-numeric-ascii, word-ascii}
+use Rattle.scan.proofs.Edges.{ascii-inside, edge-within, edge-run, class-ascii, one-ascii}
 use Rattle.token.specs.declared.Keyword.{Keyword}
 use Rattle.token.specs.Kinds.{eqlc, neq, lte, lss, gte, gtr, eqlRegex, neqRegex}
 use Rattle.numeral.specs.declared.Numeral.{Numeral}
@@ -48,14 +48,14 @@ use Rattle.munch.specs.declared.Step.the-variants.{Lexeme, Refused}
 use Rattle.munch.specs.Munch.{mode, ifNext, numberBy, numberStep, dotStep, quotedBy, quotedStep, commentStep, wordStep, equalsStep, bangStep, compareStep, rightParenStep, leftBracketStep, endStep, outsideStep, braceWord, braceEquals, braceBang, braceStep, colonStep, bracketStep, stepIn, munchedBy}
 use Rattle.munch.specs.laws.Step.{Past, Goes, StepGoes}
 
--- the bytes that a word goes on with are ASCII
-in-word-ascii : AsciiAlone (isIn Word)
+-- white space and letters are ASCII
+space-ascii : AsciiAlone isSpace
 unfolding isIn
-in-word-ascii = word-ascii
+space-ascii = class-ascii Space refl
 
-in-brace-word-ascii : AsciiAlone (isIn AlphaNumeric)
+alpha-ascii : AsciiAlone isAlpha
 unfolding isIn
-in-brace-word-ascii = alpha-numeric-ascii
+alpha-ascii = class-ascii Alpha refl
 
 -- behind the first byte, an edge of the others is one of all
 edge-next : (xs : List ℕ) {n : ℕ} → peekAt xs 0 < 0x80 → Edge (drop 1 xs) n → Edge xs (suc n)
@@ -70,7 +70,7 @@ bytes-next (x ∷ xs) h b i l = b (suc i) (suc-le-suc l)
 
 -- some bytes up to an edge
 past-edge : (xs : List ℕ) (n : ℕ) → 1 ≤ n → Edge xs n → Past xs n
-past-edge xs n h e = record { some = h; within = edge-within e; edge = λ b. e }
+past-edge xs n h e = record { some = h; within = edge-within _ _ e; edge = λ b. e }
 
 -- from a first byte that is ASCII: it alone, with a run, with a comment
 module _ (xs : List ℕ) (h : peekAt xs 0 < 0x80) where
@@ -117,7 +117,7 @@ module _ (m : Mode) (xs : List ℕ) where
     -- two bytes, the second of them ASCII, or another step
     two-goes : (c k : ℕ) (s : Step) → c < 0x80 → Goes m xs s → Goes m xs (ifNext xs c (Lexeme k 2 m) s)
     two-goes c k s a g =
-        either (Goes m xs) (eqb (peekAt xs 1) c) (λ e. past-edge xs 2 (omega arith) (edge-past (one-ascii c a) xs 1 e)) (λ e. g)
+        either (Goes m xs) (eqb (peekAt xs 1) c) (λ e. past-edge xs 2 (omega arith) (behind 1 (one-ascii c a (peekAt xs 1) e))) (λ e. g)
 
     equals-goes : Goes m xs (equalsStep m xs)
     unfolding equalsStep
@@ -155,7 +155,7 @@ module _ (d : ℕ) (xs : List ℕ) where
 
   outside-goes : (look : List ℕ → Keyword) (k : Lead) → Begun k (peekAt xs 0) → Goes (mode d Nothing) xs (outsideStep look d xs k)
   unfolding outsideStep wordStep commentStep leftBracketStep
-  outside-goes look lead.Letter h = past-run xs (start-ascii (peekAt xs 0) h) Word in-word-ascii
+  outside-goes look lead.Letter h = past-run xs (start-ascii (peekAt xs 0) h) Word (class-ascii Word refl)
   outside-goes look lead.White h = past-one xs (space-ascii (peekAt xs 0) h)
   outside-goes look lead.Hash h = past-comment xs (omega arith)
   outside-goes look lead.Quote h = string-goes (mode d Nothing) xs (quote-ascii (peekAt xs 0) h)
@@ -177,7 +177,7 @@ module _ (d : ℕ) (xs : List ℕ) where
 
   brace-goes : (k : BraceLead) → BraceBegun k (peekAt xs 0) → Goes (mode d Braces) xs (braceStep d xs k)
   unfolding braceStep braceWord commentStep
-  brace-goes brace.Letter h = past-run xs (alpha-ascii (peekAt xs 0) h) AlphaNumeric in-brace-word-ascii
+  brace-goes brace.Letter h = past-run xs (alpha-ascii (peekAt xs 0) h) AlphaNumeric (class-ascii AlphaNumeric refl)
   brace-goes brace.White h = past-one xs (space-ascii (peekAt xs 0) h)
   brace-goes brace.Hash h = past-comment xs (omega arith)
   brace-goes brace.Quote h = string-goes (mode d Braces) xs (quote-ascii (peekAt xs 0) h)

@@ -14,7 +14,7 @@ use Rattle.utf8.specs.Table.{fits, sizeIn, charLength}
 use Rattle.utf8.specs.Code.{codeOf}
 use Rattle.utf8.specs.Text.{charsPast, sizeOf}
 use Rattle.token.specs.Kinds.{identifier, string, rightParen, leftBracket, comma, lor}
-use Rattle.token.specs.Words.{word, words, kindIn, keywordOf}
+use Rattle.token.specs.Words.{_names_, words, kindIn, keywordOf}
 use Rattle.token.specs.steps.Padded.{padded}
 use Rattle.token.specs.steps.WordRows.{tableOf, isRow, foundIn, keywordIn}
 use Rattle.quoted.specs.Quoted.{quotedFrom, commentEnd}
@@ -42,7 +42,7 @@ munch-in-gives table xs m v =
 munch-in-at : (table xs : List ℕ) (m : Mode) → munch-in-gives table xs m (munchedBy (keywordIn table) m xs)
 munch-in-at table xs m κs a x e p h = cc (p, h .0, h .1, h .2)
 
-pub word-has-the-kind-of-the-table : munch-in-gives (tableOf (word "a" lor ∷ [])) (ascii "a") outside (Lexeme lor 1 outside)
+pub word-has-the-kind-of-the-table : munch-in-gives (tableOf ("a" names lor ∷ [])) (ascii "a") outside (Lexeme lor 1 outside)
 unfolding munching
 word-has-the-kind-of-the-table = munch-in-at _ _ _
 

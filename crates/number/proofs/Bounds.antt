@@ -8,7 +8,8 @@ use Rattle.proving.proofs.Choice.{either}
 use Rattle.utf8.specs.declared.Admission.{Admission}
 use Rattle.utf8.specs.declared.Admission.the-variants as admission
 use Rattle.utf8.specs.Answers.{admitted}
-use Rattle.utf8.proofs.Bounds as within
+use Rattle.utf8.specs.laws.Bounds as within
+use Rattle.utf8.proofs.Bounds.{admitted-bound}
 use Rattle.scan.specs.Sign.{isMinus}
 use Rattle.decimal.specs.declared.Notation.{Notation}
 use Rattle.decimal.specs.declared.Decimal.{Decimal}
@@ -49,7 +50,7 @@ number-bound t = either Bounded (isMarked t) (λ e. marked-bound t) (λ e. decim
 
 pub parsing-bound : (xs : List ℕ) → Bounded (parsingOf xs)
 unfolding parsingOf
-parsing-bound xs = go (admitted longest xs) (within.admitted-bound longest xs)
+parsing-bound xs = go (admitted longest xs) (admitted-bound longest xs)
   where
     go : (a : Admission) → within.Bounded longest a → Bounded (parsingBy a (plainText xs))
     go (admission.Admitted n) h = number-bound (plainText xs)

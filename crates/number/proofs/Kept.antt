@@ -8,10 +8,10 @@ use mathlib.Core.Logic.{_⊎_, inl, inr, ⊎-elim}
 use mathlib.Core.Path.{_≡_, refl, ap, _∙_}
 use lib.ListN.{length, drop, length-append, drop-of-length-le}
 use Rattle.scan.specs.Byte.{lowered}
-use Rattle.scan.proofs.byte.Classes.{lowered-above, lowered-ascii}
-use Rattle.utf8.specs.Code.{isScalar, encoded}
+use Rattle.scan.proofs.byte.Classes.{lowered-above, lowered-below}
+use Rattle.utf8.specs.Code.{isScalar, encoded, textOf}
 use Rattle.utf8.specs.Text.{codesOf, WellFormed}
-use Rattle.utf8.specs.laws.Characters.{textOf, Standing}
+use Rattle.utf8.specs.laws.Characters.{Standing}
 use Rattle.utf8.proofs.Ascii.{ascii-bytes, ascii-text}
 use Rattle.utf8.proofs.Bounds.{byte-scalar}
 use Rattle.utf8.proofs.Inverse.{codes-text}
@@ -27,21 +27,18 @@ module _ (c : ℕ) where
   other-kept e = rw e (append-nil (encoded (lowered c)))
 
   pub ascii-kept : c < 0x80 → isWhite c ≡ false → keptBytes c ≡ lowered c ∷ []
-  ascii-kept h e = other-kept e ∙ ascii-bytes (lowered c) (lowered-ascii c h)
+  ascii-kept h e = other-kept e ∙ ascii-bytes (lowered c) (lowered-below c 0x80 (omega arith) h)
 
   -- an ASCII character is lowered to one, and others are left as they are; so a character stays one, of as many bytes
   lowered-ways : ((c < 0x80) × (lowered c < 0x80)) ⊎ (lowered c ≡ c)
   lowered-ways = go (decLt c 0x80)
     where
       go : Dec (c < 0x80) → ((c < 0x80) × (lowered c < 0x80)) ⊎ (lowered c ≡ c)
-      go (yes l) = inl (l, lowered-ascii c l)
+      go (yes l) = inl (l, lowered-below c 0x80 (omega arith) l)
       go (no l) = inr (lowered-above c (omega arith))
 
   pub lowered-scalar : isScalar c ≡ true → isScalar (lowered c) ≡ true
   lowered-scalar s = ⊎-elim (λ l. byte-scalar (lowered c) (omega (arith, l .1))) (λ e. rw e s) lowered-ways
-
-  pub lowered-below : (m : ℕ) → 0x80 ≤ m → c < m → lowered c < m
-  lowered-below m h k = ⊎-elim (λ l. omega (arith, l .1)) (λ e. rw e k) lowered-ways
 
   lowered-size : length (encoded (lowered c)) ≡ length (encoded c)
   lowered-size = ⊎-elim (λ l. rw (ascii-bytes c (l .0), ascii-bytes (lowered c) (l .1))) (λ e. rw e) lowered-ways

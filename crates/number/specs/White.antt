@@ -5,7 +5,7 @@ use mathlib.Core.List.{List, [], _∷_}
 use lib.Dec.{eqb}
 use Rattle.scan.specs.Byte.{isWithin, lowered}
 use Rattle.utf8.specs.Text.{codesOf}
-use Rattle.utf8.specs.laws.Characters.{textOf}
+use Rattle.utf8.specs.Code.{textOf}
 
 -- "Unicode White_Space"
 unfoldable pub isWhite : ℕ → Bool

@@ -8,8 +8,8 @@ use utf8::Admission;
 use utf8::ByteOffset;
 use utf8::Character;
 use utf8::Refusal;
+use utf8::Writing;
 use utf8::encode;
-use utf8::encode::Encoding;
 ghost use mathlib.Core.Bool.{true};
 ghost use mathlib.Core.Path.{_≡_};
 ghost use Prim.Native.Nat.{_+_, _<_, _≤_};
@@ -118,7 +118,7 @@ fn put_kept(code: u32, out: &mut [u8], at: usize) -> usize
         return at;
     }
     let e = encode::encode(byte::lowered(code as usize) as u32, out, ByteOffset(at));
-    let Encoding::Written(n) = e else {
+    let Writing::Written(n) = e else {
         return at;
     };
     at + n
@@ -352,7 +352,7 @@ pub fn parse_str_radix(s: &[u8]) -> Parsing
 {
     let a = utf8::admit(s, decimal::LONGEST);
     let Admission::Admitted(_) = a else {
-        return Parsing::Refused(utf8::refused_by(a));
+        return Parsing::Refused(utf8::not_admitted(a));
     };
     let mut buf = [0u8; decimal::LONGEST];
     let n = keep(s, &mut buf);

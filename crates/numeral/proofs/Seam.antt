@@ -13,14 +13,14 @@ use Rattle.scan.specs.declared.byte.Class.the-variants.{Digit, HexDigit}
 use Rattle.scan.specs.Byte.{end, peekAt, lowered, isWithin, isAlpha, isHexDigit, isIn}
 use Rattle.scan.specs.Run.{runEnd}
 use Rattle.proving.proofs.Choice.{either-same}
-use Rattle.scan.proofs.Edges.{edge-within, alpha-ascii}
+use Rattle.scan.proofs.Edges.{edge-within}
 use Rattle.scan.proofs.Runs.{run-within, run-append, peek-append}
 use Rattle.scan.specs.Sign.{isSign, pastSign}
 use Rattle.numeral.specs.declared.Part.{Part}
 use Rattle.numeral.specs.declared.Part.the-variants.{Unit, UnitS, Digits}
 use Rattle.numeral.specs.Numeral.{isHex, fractionEnd, mantissaEnd, exponentEnd, numberEnd, isUnit, isFirstUnit, stopOf, turnOf, turned, partOf, durationFrom, numeralOf}
 use Rattle.numeral.specs.laws.Numeral.{NumeralSeam}
-use Rattle.numeral.proofs.Within.{point-ascii, letter-ascii, past, sign-edge, hex-edge, digitsEnd, digits-edge, number-edge}
+use Rattle.numeral.proofs.Within.{alpha-ascii, point-ascii, letter-ascii, past, sign-edge, hex-edge, digitsEnd, digits-edge, number-edge}
 
 -- a test that takes a newline as it takes the end
 abbrev AsEnd : (ℕ → Bool) → Type 0
@@ -68,7 +68,7 @@ module _ (xs ys : List ℕ) where
   unfolding fractionEnd
   fraction-line k f at h =
       rw (peek-line (λ c. eqb c (code ".")) refl at h)
-      (either-same (eqb (peekAt xs at) (code ".")) (λ e. run-line k f (at + 1) (edge-within (past xs point-ascii at e))) (λ e. refl))
+      (either-same (eqb (peekAt xs at) (code ".")) (λ e. run-line k f (at + 1) (edge-within _ _ (past xs point-ascii at e))) (λ e. refl))
 
   mantissa-line : (k : Class) → NoLine k → (from : ℕ) → from ≤ length xs → mantissaEnd k lined from ≡ mantissaEnd k xs from
   mantissa-line k f from h = rw (run-line k f from h) (fraction-line k f (runEnd (isIn k) xs from) (omega (arith, run-within (isIn k) xs from)))
@@ -79,7 +79,7 @@ module _ (xs ys : List ℕ) where
       rw (peek-line (λ c. eqb (lowered c) (code "e")) letter-line at h)
       (either-same (eqb (lowered (peekAt xs at)) (code "e"))
       (λ e. let g = past xs letter-ascii at e in
-      rw (peek-line isSign sign-line (at + 1) (edge-within g)) (run-line Digit digits-line (pastSign xs (at + 1)) (edge-within (sign-edge xs (at + 1) g))))
+      rw (peek-line isSign sign-line (at + 1) (edge-within _ _ g)) (run-line Digit digits-line (pastSign xs (at + 1)) (edge-within _ _ (sign-edge xs (at + 1) g))))
       (λ e. refl))
 
 mark-line : (xs ys : List ℕ) → isHex (lined xs ys) ≡ isHex xs
@@ -92,8 +92,8 @@ unfolding numberEnd
 number-line xs ys =
     rw (mark-line xs ys)
     (ap (exponentEnd (lined xs ys))
-    (either-same (isHex xs) (λ e. mantissa-line xs ys HexDigit hex-line 2 (edge-within (hex-edge xs e))) (λ e. mantissa-line xs ys Digit digits-line 0 (omega arith)))
-    ∙ exponent-line xs ys (digitsEnd xs) (edge-within (digits-edge xs)))
+    (either-same (isHex xs) (λ e. mantissa-line xs ys HexDigit hex-line 2 (edge-within _ _ (hex-edge xs e))) (λ e. mantissa-line xs ys Digit digits-line 0 (omega arith)))
+    ∙ exponent-line xs ys (digitsEnd xs) (edge-within _ _ (digits-edge xs)))
 
 -- to a duration, a newline is as the end
 line-ends : (p : Part) (n : ℕ) (ys : List ℕ) → durationFrom p n (code "\n" ∷ ys) ≡ durationFrom p n []
@@ -112,11 +112,11 @@ unfolding numeralOf
 numeral-seam xs ys =
     let n = numberEnd xs in
     let c = peekAt xs n in
-    let h = edge-within (number-edge xs) in
+    let h = edge-within _ _ (number-edge xs) in
     rw (number-line xs ys, peek-line xs ys (λ c. eqb c (code ".")) refl n h, peek-line xs ys isAlpha alpha-line n h, peek-line xs ys isFirstUnit unit-line n h)
     (either-same (eqb c (code ".")) (λ e. refl)
     (λ e. either-same (isAlpha c)
     (λ a. either-same (isFirstUnit c)
-    (λ u. rw (drop-append-le (n + 1) xs (code "\n" ∷ ys) (edge-within (past xs alpha-ascii n a))) (duration-line Unit (n + 1) (drop (n + 1) xs) ys))
+    (λ u. rw (drop-append-le (n + 1) xs (code "\n" ∷ ys) (edge-within _ _ (past xs alpha-ascii n a))) (duration-line Unit (n + 1) (drop (n + 1) xs) ys))
     (λ u. refl))
     (λ a. refl)))

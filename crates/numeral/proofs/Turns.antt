@@ -9,10 +9,11 @@ use mathlib.Core.Path.{_≡_, refl}
 use mathlib.Core.List.{List, [], _∷_}
 use lib.Dec.{eqb}
 use lib.ListN.{length, drop}
-use Rattle.scan.specs.Byte.{end, peekAt, isWithin, isAlpha, isDigit}
+use Rattle.scan.specs.declared.byte.Class.the-variants.{Digit}
+use Rattle.scan.specs.Byte.{end, peekAt, isWithin, isAlpha, isDigit, isIn}
 use Rattle.scan.specs.laws.Edge.{AsciiAlone}
 use Rattle.proving.proofs.Choice.{either}
-use Rattle.scan.proofs.Edges.{ascii-inside, one-ascii, or-ascii, digit-ascii}
+use Rattle.scan.proofs.Edges.{ascii-inside, class-ascii, one-ascii, or-ascii}
 use Rattle.numeral.specs.declared.Part.{Part}
 use Rattle.numeral.specs.declared.Part.the-variants.{Unit, UnitS, Digits}
 use Rattle.numeral.specs.declared.Turn.{Turn}
@@ -23,7 +24,7 @@ use Rattle.numeral.specs.Numeral.{isUnit, stopOf, turnOf, turned, partOf
 unit-ascii : AsciiAlone isUnit
 unfolding isUnit
 unit-ascii =
-    or-ascii (one-ascii (code "s") (omega arith)) (or-ascii (one-ascii (code "m") (omega arith)) (or-ascii (one-ascii (code "h") (omega arith)) (or-ascii (one-ascii (code "d") (omega arith)) (one-ascii (code "w") (omega arith)))))
+    or-ascii _ _ (one-ascii (code "s") (omega arith)) (or-ascii _ _ (one-ascii (code "m") (omega arith)) (or-ascii _ _ (one-ascii (code "h") (omega arith)) (or-ascii _ _ (one-ascii (code "d") (omega arith)) (one-ascii (code "w") (omega arith)))))
 
 -- what ends a duration or fails does not go on with it
 not-on : {A : Type 0} (b : Bool) (q : Part) → cond b Fails Ends ≡ On q → A
@@ -42,7 +43,7 @@ module _ (q : Part) (c : ℕ) where
 
   pub on-ascii : (p : Part) → OnAscii (turnOf p c)
   unfolding turnOf
-  on-ascii p = either OnAscii (isDigit c) (λ e o. digit-ascii c e) (λ e. stop-ascii p)
+  on-ascii p = either OnAscii (isDigit c) (λ e o. unfold isIn in class-ascii Digit refl c e) (λ e. stop-ascii p)
 
 pub on-inside : (p q : Part) (xs : List ℕ) (n : ℕ) → turnOf p (peekAt xs n) ≡ On q → n < length xs
 on-inside p q xs n e = ascii-inside xs n (on-ascii q (peekAt xs n) p e)

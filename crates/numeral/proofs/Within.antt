@@ -10,14 +10,14 @@ use mathlib.Core.Path.{_≡_, refl}
 use lib.Dec.{eqb}
 use lib.ListN.{length, drop}
 use Rattle.scan.specs.declared.byte.Class.{Class}
-use Rattle.scan.specs.declared.byte.Class.the-variants.{Digit, HexDigit}
+use Rattle.scan.specs.declared.byte.Class.the-variants.{Alpha, Digit, HexDigit}
 use Rattle.scan.specs.Byte.{peekAt, lowered, isWithin, isAlpha, isDigit, isIn}
 use Rattle.scan.specs.laws.Edge.{Edge, first, behind, AsciiAlone}
 use Rattle.scan.specs.Run.{runEnd}
 use Rattle.proving.proofs.Choice.{either, and-right}
-use Rattle.scan.proofs.byte.Classes.{end-in-none}
-use Rattle.scan.proofs.Edges.{edge-past, edge-run, one-ascii, within-ascii, or-ascii, digit-ascii, hex-ascii, alpha-ascii}
-use Rattle.scan.proofs.Runs.{goes-on, run-stops}
+use Rattle.scan.proofs.byte.Classes.{end-in-none, within-bounds}
+use Rattle.scan.proofs.Edges.{edge-run, class-ascii, one-ascii, or-ascii}
+use Rattle.scan.proofs.Runs.{run-goes-on, run-stops}
 use Rattle.scan.specs.Sign.{isSign, pastSign}
 use Rattle.scan.proofs.sign.Places.{sign-ascii}
 use Rattle.numeral.specs.declared.Part.{Part}
@@ -29,14 +29,10 @@ use Rattle.numeral.specs.Numeral.{isHex, fractionEnd, mantissaEnd, expon
 use Rattle.numeral.specs.laws.Numeral.{NumeralWithin}
 use Rattle.numeral.proofs.Turns.{on-ascii, on-inside, duration-at}
 
--- the bytes that a number is told by are ASCII: its digits, its point, the letter of its exponent
-digits-ascii : AsciiAlone (isIn Digit)
+-- letters, the point of a number and the letter of its exponent are ASCII
+pub alpha-ascii : AsciiAlone isAlpha
 unfolding isIn
-digits-ascii = digit-ascii
-
-hex-digits-ascii : AsciiAlone (isIn HexDigit)
-unfolding isIn
-hex-digits-ascii = hex-ascii
+alpha-ascii = class-ascii Alpha refl
 
 pub point-ascii : AsciiAlone (λ c. eqb c (code "."))
 point-ascii = one-ascii (code ".") (omega arith)
@@ -44,11 +40,11 @@ point-ascii = one-ascii (code ".") (omega arith)
 pub letter-ascii : AsciiAlone (λ c. eqb (lowered c) (code "e"))
 unfolding lowered
 letter-ascii c =
-    either (λ n. eqb n (code "e") ≡ true → c < 0x80) (isWithin (code "A") (code "Z") c) (λ u e. within-ascii (code "A") (code "Z") (omega arith) c u) (λ u. one-ascii (code "e") (omega arith) c)
+    either (λ n. eqb n (code "e") ≡ true → c < 0x80) (isWithin (code "A") (code "Z") c) (λ u e. omega (arith, within-bounds (code "A") (code "Z") c u)) (λ u. one-ascii (code "e") (omega arith) c)
 
 module _ (xs : List ℕ) where
   pub past : {p : ℕ → Bool} → AsciiAlone p → (at : ℕ) → p (peekAt xs at) ≡ true → Edge xs (at + 1)
-  past a at e = rw add-one (edge-past a xs at e)
+  past a at e = rw add-one (behind at (a (peekAt xs at) e))
 
   fraction-edge : (k : Class) → AsciiAlone (isIn k) → (at : ℕ) → Edge xs at → Edge xs (fractionEnd k xs at)
   unfolding fractionEnd
@@ -58,26 +54,26 @@ module _ (xs : List ℕ) where
   mantissa-edge k a from h = fraction-edge k a (runEnd (isIn k) xs from) (edge-run (isIn k) a xs from h)
 
   pub sign-edge : (at : ℕ) → Edge xs at → Edge xs (pastSign xs at)
-  sign-edge at h = either (Edge xs) (isSign (peekAt xs at)) (edge-past sign-ascii xs at) (λ e. h)
+  sign-edge at h = either (Edge xs) (isSign (peekAt xs at)) (λ e. behind at (sign-ascii (peekAt xs at) e)) (λ e. h)
 
   exponent-edge : (at : ℕ) → Edge xs at → Edge xs (exponentEnd xs at)
   unfolding exponentEnd
   exponent-edge at h =
       either (Edge xs) (eqb (lowered (peekAt xs at)) (code "e"))
-      (λ e. edge-run (isIn Digit) digits-ascii xs (pastSign xs (at + 1)) (sign-edge (at + 1) (past letter-ascii at e)))
+      (λ e. edge-run (isIn Digit) (class-ascii Digit refl) xs (pastSign xs (at + 1)) (sign-edge (at + 1) (past letter-ascii at e)))
       (λ e. h)
 
   pub hex-edge : isHex xs ≡ true → Edge xs 2
   unfolding isHex
   hex-edge e =
-      edge-past (or-ascii (one-ascii (code "x") (omega arith)) (one-ascii (code "X") (omega arith))) xs 1 (and-right (eqb (peekAt xs 0) (code "0")) (eqb (peekAt xs 1) (code "x") || eqb (peekAt xs 1) (code "X")) e)
+      behind 1 (or-ascii _ _ (one-ascii (code "x") (omega arith)) (one-ascii (code "X") (omega arith)) (peekAt xs 1) (and-right (eqb (peekAt xs 0) (code "0")) (eqb (peekAt xs 1) (code "x") || eqb (peekAt xs 1) (code "X")) e))
 
   -- where a number has all its digits but those of its exponent
   abbrev pub digitsEnd : ℕ
   digitsEnd = cond (isHex xs) (mantissaEnd HexDigit xs 2) (mantissaEnd Digit xs 0)
 
   pub digits-edge : Edge xs digitsEnd
-  digits-edge = either (Edge xs) (isHex xs) (λ e. mantissa-edge HexDigit hex-digits-ascii 2 (hex-edge e)) (λ e. mantissa-edge Digit digits-ascii 0 first)
+  digits-edge = either (Edge xs) (isHex xs) (λ e. mantissa-edge HexDigit (class-ascii HexDigit refl) 2 (hex-edge e)) (λ e. mantissa-edge Digit (class-ascii Digit refl) 0 first)
 
   pub number-edge : Edge xs (numberEnd xs)
   unfolding numberEnd
@@ -101,7 +97,7 @@ module _ (xs : List ℕ) where
   mantissa-byte b = go (isDigit (peekAt xs 0)) refl b
     where
       go : (d : Bool) → isDigit (peekAt xs 0) ≡ d → d || eqb (peekAt xs 0) (code ".") ≡ true → 1 ≤ mantissaEnd Digit xs 0
-      go true d t = omega (arith, goes-on (isIn Digit) (end-in-none Digit) xs 0 d, fraction-on Digit (runEnd (isIn Digit) xs 0))
+      go true d t = omega (arith, run-goes-on (isIn Digit) (end-in-none Digit) xs 0 d, fraction-on Digit (runEnd (isIn Digit) xs 0))
       go false d t = rw (run-stops (isIn Digit) xs 0 d, t) (omega arith)
 
   number-byte : isDigit (peekAt xs 0) || eqb (peekAt xs 0) (code ".") ≡ true → 1 ≤ numberEnd xs

@@ -10,9 +10,9 @@ use mathlib.Core.Path.{_≡_, refl, sym, subst}
 use lib.Dec.{eqb}
 use lib.ListN.{length, drop}
 use Rattle.scan.specs.Byte.{end, peekAt, backslash}
-use Rattle.scan.specs.laws.Edge.{Edge, first, last}
+use Rattle.scan.specs.laws.Edge.{Edge, first, last, behind}
 use Rattle.proving.proofs.Choice.{either}
-use Rattle.scan.proofs.Edges.{edge-past, one-ascii}
+use Rattle.scan.proofs.Edges.{one-ascii}
 use Rattle.quoted.specs.declared.Quoted.{Quoted}
 use Rattle.quoted.specs.declared.Quoted.the-variants.{Closed}
 use Rattle.quoted.specs.Quoted.{isEscape, quotedFrom}
@@ -21,7 +21,7 @@ use Rattle.quoted.proofs.Turns.{past-end, escaped-turn, plain-turn}
 
 -- behind an ASCII byte is an edge
 past : (xs : List ℕ) (n y : ℕ) → y < 0x80 → eqb (peekAt xs n) y ≡ true → Edge xs (n + 1)
-past xs n y h e = rw add-one (edge-past (one-ascii y h) xs n e)
+past xs n y h e = rw add-one (behind n (one-ascii y h (peekAt xs n) e))
 
 module _ (symbol : ℕ) (xs : List ℕ) (a : symbol < 0x80) where
   -- from n on, with k bytes left, where an escape is begun at an edge alone

@@ -10,8 +10,9 @@ use lib.Dec.{eqb}
 use lib.Seq.{drop-append-le, getD-drop}
 use lib.ListN.{length, take, drop, length-drop}
 use Rattle.scan.specs.Byte.{end, peekAt}
-use Rattle.scan.specs.Run.{runLength, runEnd}
-use Rattle.scan.specs.laws.Runs.{RunWithin, RunPasses, RunStopped, RunStops, RunAppend, RunInside}
+use Rattle.scan.specs.Run.{runLength}
+use Rattle.scan.specs.laws.Inside.{TestInside, PeekInside, PeekAppend}
+use Rattle.scan.specs.laws.Runs.{RunWithin, RunPasses, RunStopped, RunStops, RunGoesOn, RunPast, RunAppend, RunInside}
 
 module _ (p : ℕ → Bool) where
   -- the test decides at the head
@@ -42,11 +43,10 @@ module _ (p : ℕ → Bool) where
       go true h r = run-yes x (take (runLength p xs) xs) h ∙ ap suc r
       go false h r = refl
 
-  -- a run of a whole list goes on with what follows it
-  pub run-past : (xs ys : List ℕ) → runLength p xs ≡ length xs → runLength p (xs ++ ys) ≡ length xs + runLength p ys
+  past : (xs ys : List ℕ) → runLength p xs ≡ length xs → runLength p (xs ++ ys) ≡ length xs + runLength p ys
   unfolding runLength
-  run-past [] ys h = sym (zero-add (runLength p ys))
-  run-past (x ∷ xs) ys h = go (p x) (run-past xs ys) h
+  past [] ys h = sym (zero-add (runLength p ys))
+  past (x ∷ xs) ys h = go (p x) (past xs ys) h
     where
       go : (b : Bool) → (runLength p xs ≡ length xs → runLength p (xs ++ ys) ≡ length xs + runLength p ys) → cond b (suc (runLength p xs)) 0 ≡ suc (length xs) → cond b (suc (runLength p (xs ++ ys))) 0 ≡ suc (length xs) + runLength p ys
       go true r e = omega (arith, r (omega arith))
@@ -84,24 +84,13 @@ module _ (p : ℕ → Bool) where
       go false ih l = refl
 
   module _ (ends : p end ≡ false) where
-    -- what passes the test stands within the list
-    pub inside : (xs : List ℕ) (n : ℕ) → p (peekAt xs n) ≡ true → n < length xs
-    inside [] zero h = absurd (true≢false (sym h ∙ ends))
-    inside [] (suc n) h = absurd (true≢false (sym h ∙ ends))
-    inside (x ∷ xs) zero h = omega arith
-    inside (x ∷ xs) (suc n) h = suc-le-suc (inside xs n h)
-
-    -- and takes the run one further
-    pub goes-on : (xs : List ℕ) (n : ℕ) → p (peekAt xs n) ≡ true → runLength p (drop n xs) ≡ suc (runLength p (drop (suc n) xs))
+    -- what passes the test takes the run one further
+    goes-on : (xs : List ℕ) (n : ℕ) → p (peekAt xs n) ≡ true → runLength p (drop n xs) ≡ suc (runLength p (drop (suc n) xs))
     unfolding runLength
     goes-on [] zero h = absurd (true≢false (sym h ∙ ends))
     goes-on [] (suc n) h = absurd (true≢false (sym h ∙ ends))
     goes-on (x ∷ xs) zero h = run-yes x xs h
     goes-on (x ∷ xs) (suc n) h = goes-on xs n h
-
-    -- so that it ends where the run from the next byte on does
-    pub run-goes-on : (xs : List ℕ) (n : ℕ) → p (peekAt xs n) ≡ true → runEnd p xs n ≡ runEnd p xs (n + 1)
-    run-goes-on xs n h = rw add-one (omega (arith, goes-on xs n h))
 
     stopped : (xs : List ℕ) → p (peekAt xs (runLength p xs)) ≡ false
     unfolding runLength
@@ -133,12 +122,22 @@ pub run-inside : RunInside
 run-inside p xs ys n h =
     rw (drop-append-le n xs ys (omega arith), within p (drop n xs) ys (omega (arith, length-drop n xs)))
 
--- where the end does not stand, a byte does
-pub peek-inside : (xs : List ℕ) (n : ℕ) → eqb (peekAt xs n) end ≡ false → n < length xs
+pub run-goes-on : RunGoesOn
+run-goes-on p ends xs n h = rw add-one (omega (arith, goes-on p ends xs n h))
+
+pub run-past : RunPast
+run-past = past
+
+pub inside : TestInside
+inside p ends [] zero h = absurd (true≢false (sym h ∙ ends))
+inside p ends [] (suc n) h = absurd (true≢false (sym h ∙ ends))
+inside p ends (x ∷ xs) zero h = omega arith
+inside p ends (x ∷ xs) (suc n) h = suc-le-suc (inside p ends xs n h)
+
+pub peek-inside : PeekInside
 peek-inside xs n h = inside (λ c. not (eqb c end)) refl xs n (ap not h)
 
--- a test that takes the byte y as it takes the end is not changed by what follows y
-pub peek-append : (p : ℕ → Bool) (y : ℕ) → p y ≡ p end → (xs ys : List ℕ) (n : ℕ) → n ≤ length xs → p (peekAt (xs ++ (y ∷ ys)) n) ≡ p (peekAt xs n)
+pub peek-append : PeekAppend
 peek-append p y e [] ys zero h = e
 peek-append p y e [] ys (suc n) h = absurd (not-suc-le-zero h)
 peek-append p y e (x ∷ xs) ys zero h = refl

@@ -1,29 +1,28 @@
 -- Laws of the test of texts: it goes byte by byte, is false where the lengths differ, and is equality.
 -- They hold by induction over the two lists.
-use Prim.Native.Nat.{ℕ, suc, _+_, _<_, _≤_}
+use Prim.Native.Nat.{ℕ, suc}
 use native.Mathlib.Numerals.{add-one}
 use native.Mathlib.Omega.{arith}
-use mathlib.Core.Bool.{true, false, _&&_, and-false}
+use mathlib.Core.Bool.{true, and-false}
 use mathlib.Core.Path.{_≡_, refl, ap}
 use mathlib.Core.List.{List, [], _∷_}
-use lib.ListN.{length, getD, drop, drop-of-length-le}
+use lib.ListN.{drop-of-length-le}
 use lib.Seq.{drop-cons}
 use lib.Dec.{eqb}
 use borrow.Author.Tests.{eq-eqb, eqb-true}
 use Rattle.proving.proofs.Choice.{and-left, and-right}
 use Rattle.scan.specs.Text.{sameText}
-use Rattle.scan.specs.laws.Runs.{SameIsEqual}
+use Rattle.scan.specs.laws.Text.{SameIsEqual, SameNot, SameTurn, SameOut}
 
-pub same-turn : (xs ys : List ℕ) (i : ℕ) → i < length xs → i < length ys
-    → sameText (drop i xs) (drop i ys) ≡ eqb (getD xs i 0) (getD ys i 0) && sameText (drop (i + 1) xs) (drop (i + 1) ys)
+pub same-turn : SameTurn
 unfolding sameText
 same-turn xs ys i h k = rw (drop-cons xs i 0 h, drop-cons ys i 0 k, add-one)
 
-pub same-out : (xs ys : List ℕ) (i : ℕ) → length xs ≤ i → length ys ≤ i → sameText (drop i xs) (drop i ys) ≡ true
+pub same-out : SameOut
 unfolding sameText
 same-out xs ys i h k = rw (drop-of-length-le xs h, drop-of-length-le ys k)
 
-pub same-not : (xs ys : List ℕ) → (length xs ≡ length ys → ⊥) → sameText xs ys ≡ false
+pub same-not : SameNot
 unfolding sameText
 same-not [] [] h = absurd (h refl)
 same-not [] (y ∷ ys) h = refl

@@ -1,2 +1,6 @@
+pub mod Classes
 pub mod Edge
+pub mod Inside
 pub mod Runs
+pub mod Sign
+pub mod Text

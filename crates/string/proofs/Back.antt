@@ -17,7 +17,8 @@ use Rattle.proving.proofs.Choice.{and-left, and-right}
 use Rattle.utf8.specs.declared.Reading.{Reading}
 use Rattle.utf8.specs.declared.Reading.the-variants.{Crate, Documented}
 use Rattle.utf8.specs.Text.{WellFormed}
-use Rattle.utf8.proofs.Texts.{One, by-characters}
+use Rattle.utf8.specs.laws.Characters.{One}
+use Rattle.utf8.proofs.Texts.{by-characters}
 use Rattle.utf8.proofs.Laws.{none-empty, rest-well, none-ascii, text-join}
 use Rattle.utf8.proofs.Ascii.{ascii-bytes, ascii-text, one-ascii}
 use Rattle.string.specs.declared.tile.Form.the-variants.{Letter}

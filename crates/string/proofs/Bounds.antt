@@ -12,7 +12,8 @@ use Rattle.utf8.specs.declared.Admission.{Admission}
 use Rattle.utf8.specs.declared.Admission.the-variants as admission
 use Rattle.utf8.specs.declared.Reading.{Reading}
 use Rattle.utf8.specs.Answers.{textLimit, admitted}
-use Rattle.utf8.proofs.Bounds as within
+use Rattle.utf8.specs.laws.Bounds as within
+use Rattle.utf8.proofs.Bounds.{admitted-bound}
 use Rattle.utf8.proofs.Given.{admitted-text}
 use Rattle.string.specs.declared.Extent.{Extent}
 use Rattle.string.specs.declared.Extent.the-variants as extent
@@ -45,7 +46,7 @@ extent-bound r xs = go (isBadLiteral xs) refl
 
 pub unquoting-bound : (r : Reading) (room : ℕ) (xs : List ℕ) → Bounded (unquotingOf r room xs)
 unfolding unquotingOf
-unquoting-bound r room xs = go (admitted textLimit xs) refl (within.admitted-bound textLimit xs)
+unquoting-bound r room xs = go (admitted textLimit xs) refl (admitted-bound textLimit xs)
   where
     by : (e : Extent) → literals.sizeOf e ≤ textLimit → Bounded (unquotingBy room e)
     by (extent.Text false n) h = h

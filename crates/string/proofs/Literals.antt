@@ -11,7 +11,8 @@ use borrow.Author.Tests.{eqb-true, leb-true, le-leb, lt-leb, not-false}
 use Rattle.scan.specs.Text.{has}
 use Rattle.scan.specs.Byte.{end, peekAt}
 use Rattle.proving.proofs.Choice.{and-left, and-right, told}
-use Rattle.scan.proofs.byte.Classes.{getD-any, below-not}
+use Rattle.scan.proofs.byte.Classes.{below-not}
+use Rattle.proving.proofs.Lists.{getD-any}
 use Rattle.utf8.specs.declared.CharNumber.{CharNumber}
 use Rattle.utf8.specs.declared.Reading.{Reading}
 use Rattle.utf8.specs.declared.Refusal.{Refusal}

@@ -16,7 +16,8 @@ use Rattle.utf8.specs.declared.Reading.{Reading}
 use Rattle.utf8.specs.declared.Reading.the-variants.{Crate, Documented}
 use Rattle.utf8.specs.Code.{codeOf}
 use Rattle.utf8.specs.Text.{WellFormed}
-use Rattle.utf8.proofs.Texts.{One, character-one, by-characters}
+use Rattle.utf8.specs.laws.Characters.{One}
+use Rattle.utf8.proofs.Texts.{character-one, by-characters}
 use Rattle.utf8.proofs.Laws.{none-empty, rest-well, none-ascii}
 use Rattle.string.specs.declared.tile.Form.the-variants.{Plain}
 use Rattle.string.specs.declared.tile.Tile.the-variants.{Piece, Bad}

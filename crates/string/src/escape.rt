@@ -89,7 +89,7 @@ pub fn escape_string(text: &[u8], out: &mut [u8]) -> Escaping
 {
     let a = utf8::admit(text, utf8::TEXT_LIMIT);
     let Admission::Admitted(_) = a else {
-        return Escaping::Refused(utf8::refused_by(a));
+        return Escaping::Refused(utf8::not_admitted(a));
     };
     let n = escaped_length(text);
     if out.len() < n {

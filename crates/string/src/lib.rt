@@ -9,8 +9,8 @@ use utf8::Admission;
 use utf8::ByteOffset;
 use utf8::Reading;
 use utf8::Refusal;
+use utf8::Writing;
 use utf8::encode;
-use utf8::encode::Encoding;
 ghost use mathlib.Core.Bool.{true, false};
 ghost use mathlib.Core.List.{[]};
 ghost use mathlib.Core.Path.{_≡_};
@@ -175,7 +175,7 @@ fn put_piece(reading: Reading, form: Form, value: u32, out: &mut [u8], at: usize
         return at + 1;
     }
     let e = encode::encode(value, out, ByteOffset(at));
-    let Encoding::Written(n) = e else {
+    let Writing::Written(n) = e else {
         return at;
     };
     at + n
@@ -207,7 +207,7 @@ pub fn unquote_string(literal: &[u8], reading: Reading, text: &mut [u8]) -> Unqu
 {
     let a = utf8::admit(literal, utf8::TEXT_LIMIT);
     let Admission::Admitted(_) = a else {
-        return Unquoting::Refused(utf8::refused_by(a));
+        return Unquoting::Refused(utf8::not_admitted(a));
     };
     let e = extent_of(literal, reading);
     let Extent::Text { escaped, size } = e else {

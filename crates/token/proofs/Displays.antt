@@ -9,18 +9,20 @@ use lib.Dec.{leb, ltb, eqb, lit≤}
 use lib.ListN.{length}
 use borrow.Author.Tests.{leb-true, ltb-true, eq-eqb, eqb-true, eqb-false, not-true}
 use Rattle.proving.proofs.Choice.{and-left, and-right}
-use Rattle.token.specs.Display.{Shown, displays, textIn, displayOf, unknown, noEntry, entry, KindsDistinct, KindShown, OtherUnknown}
+use Rattle.token.specs.Words.{KindText, _names_, words}
+use Rattle.token.specs.Display.{signs, ownKinds, displays, textIn, displayOf, unknown}
+use Rattle.token.specs.laws.Display.{shownAt, KindsDistinct, KindShown, OtherUnknown, DisplayShort}
 use Rattle.token.specs.steps.DisplayRows.{pastKinds, textSize}
 use Rattle.token.proofs.Every.{every, distinct, Search, each-found, none-hit, one-hit, hit-found}
 
-abbrev isShown : Shown → Bool
+abbrev isShown : KindText → Bool
 isShown e = ltb (e .kind) pastKinds && leb (length (e .text)) textSize
 
 -- the search for a kind, which is not both of two that differ
-abbrev differs : Shown → Shown → Bool
+abbrev differs : KindText → KindText → Bool
 differs e f = not (eqb (e .kind) (f .kind))
 
-abbrev searched : ℕ → Search Shown (List ℕ)
+abbrev searched : ℕ → Search KindText (List ℕ)
 searched k =
     record {
       isHit = λ e. eqb (e .kind) k;
@@ -32,7 +34,7 @@ searched k =
     }
 
 tested : every isShown displays && distinct differs displays ≡ true
-unfolding displays
+unfolding displays signs ownKinds words
 tested = refl
 
 entries : every isShown displays ≡ true
@@ -44,14 +46,14 @@ apart = and-right (every isShown displays) _ tested
 -- the three laws of the table
 pub kinds-distinct : KindsDistinct
 kinds-distinct i j h l q =
-    one-hit (searched (entry j .kind)) noEntry displays apart i j h l (eq-eqb (entry i .kind) (entry j .kind) q) (eq-eqb (entry j .kind) (entry j .kind) refl)
+    one-hit (searched (shownAt j .kind)) ("" names 0) displays apart i j h l (eq-eqb (shownAt i .kind) (shownAt j .kind) q) (eq-eqb (shownAt j .kind) (shownAt j .kind) refl)
 
 pub kind-shown : KindShown
-kind-shown i h = hit-found (searched (entry i .kind)) noEntry displays apart i h (eq-eqb (entry i .kind) (entry i .kind) refl)
+kind-shown i h = hit-found (searched (shownAt i .kind)) ("" names 0) displays apart i h (eq-eqb (shownAt i .kind) (shownAt i .kind) refl)
 
 pub other-unknown : OtherUnknown
 unfolding textIn
-other-unknown k n = none-hit (searched k) noEntry displays (λ i h e. n i h (eqb-true (entry i .kind) k e))
+other-unknown k n = none-hit (searched k) ("" names 0) displays (λ i h e. n i h (eqb-true (shownAt i .kind) k e))
 
 -- a number above all kinds is unknown
 pub past-kinds : (k : ℕ) → pastKinds ≤ k → displayOf k ≡ unknown
@@ -60,8 +62,7 @@ past-kinds k h =
     each-found (searched k) isShown (λ xs. xs ≡ unknown) refl
     (λ e t s. absurd (omega (arith, ltb-true (e .kind) pastKinds (and-left _ _ t), eqb-true (e .kind) k s))) displays entries
 
--- no text is longer than a row has room for
-pub short : (k : ℕ) → length (displayOf k) ≤ textSize
+pub short : DisplayShort
 unfolding textIn
 short k =
     each-found (searched k) isShown (λ xs. length xs ≤ textSize) (lit≤ tt)

@@ -7,26 +7,29 @@ use native.Mathlib.Decide.{decLt}
 use mathlib.Core.Bool.{Bool, true, false, cond, _&&_, and-false, true≢false}
 use mathlib.Core.List.{List, [], _∷_}
 use mathlib.Core.Path.{_≡_, refl, sym, ap, _∙_}
-use Prim.Native.Char.{code}
 use lib.Dec.{eqb, eqb·zero-suc, eqb·suc-suc}
 use lib.ListN.{length}
-use borrow.Author.Tests.{ne-eqb, lt-ltb}
-use Rattle.scan.specs.declared.byte.Class.the-variants.{AlphaNumeric}
+use borrow.Author.Tests.{lt-ltb}
+use Rattle.scan.specs.declared.byte.Class.the-variants.{Alpha, AlphaNumeric}
 use Rattle.scan.specs.Byte.{peekAt, isWithin, isAlpha, isAlphaNumeric, isIn}
 use Rattle.scan.specs.Run.{runLength, runEnd}
-use Rattle.scan.proofs.byte.Classes.{above-not}
-use Rattle.utf8.specs.laws.Characters.{isAscii}
+use Rattle.scan.specs.laws.Edge.{AsciiAlone}
+use Rattle.proving.proofs.Tests.{affirmed, itself}
+use Rattle.scan.proofs.Edges.{class-ascii}
+use Rattle.utf8.specs.laws.Ascii.{isAscii}
 use Rattle.utf8.proofs.Ascii.{by-bytes}
 use Rattle.token.specs.Label.{every, named, isLabel}
 
+other : {p : ℕ → Bool} → AsciiAlone p → (x : ℕ) → 0x80 ≤ x → p x ≡ false
+other {p} a x h = affirmed (itself (p x)) (λ e. omega (arith, a x e))
+
 other-alpha : (x : ℕ) → 0x80 ≤ x → isAlpha x ≡ false
-unfolding isAlpha
-other-alpha x h =
-    rw (above-not (code "a") (code "z") x (omega arith), above-not (code "A") (code "Z") x (omega arith), ne-eqb x (code "_") (λ e. omega arith))
+unfolding isIn
+other-alpha = other (class-ascii Alpha refl)
 
 other-alpha-numeric : (x : ℕ) → 0x80 ≤ x → isAlphaNumeric x ≡ false
-unfolding isAlphaNumeric
-other-alpha-numeric x h = rw (other-alpha x h, above-not (code "0") (code "9") x (omega arith))
+unfolding isIn
+other-alpha-numeric = other (class-ascii AlphaNumeric refl)
 
 -- a test that takes no byte that is not ASCII does not hold of every byte where there is one
 other-every : (p : ℕ → Bool) → ((x : ℕ) → 0x80 ≤ x → p x ≡ false) → (xs : List ℕ) → isAscii xs ≡ false → every p xs ≡ false

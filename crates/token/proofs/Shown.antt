@@ -7,22 +7,23 @@ use borrow.Author.Tests.{eqb-true}
 use Rattle.scan.specs.Text.{sameText}
 use Rattle.proving.proofs.Below.{below}
 use Rattle.scan.proofs.Same.{same-is-equal}
-use Rattle.token.specs.Display.{displays, textIn, displayOf}
+use Rattle.token.specs.Display.{signs, ownKinds, displays, textIn, displayOf}
 use Rattle.token.specs.Words.{words}
 use Rattle.token.specs.steps.WordRows.{wordCount}
 use Rattle.token.specs.Kinds.{number}
-use Rattle.token.specs.laws.Words.{entryAt, WordShown}
+use Rattle.token.specs.laws.Words.{wordAt}
+use Rattle.token.specs.laws.Display.{WordShown}
 
 abbrev isShown : ℕ → Bool
-isShown i = eqb (entryAt i .kind) number || sameText (displayOf (entryAt i .kind)) (entryAt i .text)
+isShown i = eqb (wordAt i .kind) number || sameText (displayOf (wordAt i .kind)) (wordAt i .text)
 
 all-shown : (i : ℕ) → i < wordCount → isShown i ≡ true
-unfolding words displays textIn sameText
+unfolding words signs ownKinds displays textIn sameText
 all-shown i h = below isShown wordCount refl i h
 
 pub word-shown : WordShown
-word-shown i h n = go (eqb (entryAt i .kind) number) refl (all-shown i h)
+word-shown i h n = go (eqb (wordAt i .kind) number) refl (all-shown i h)
   where
-    go : (t : Bool) → eqb (entryAt i .kind) number ≡ t → t || sameText (displayOf (entryAt i .kind)) (entryAt i .text) ≡ true → displayOf (entryAt i .kind) ≡ entryAt i .text
-    go true e s = absurd (n (eqb-true (entryAt i .kind) number e))
-    go false e s = same-is-equal (displayOf (entryAt i .kind)) (entryAt i .text) .0 s
+    go : (t : Bool) → eqb (wordAt i .kind) number ≡ t → t || sameText (displayOf (wordAt i .kind)) (wordAt i .text) ≡ true → displayOf (wordAt i .kind) ≡ wordAt i .text
+    go true e s = absurd (n (eqb-true (wordAt i .kind) number e))
+    go false e s = same-is-equal (displayOf (wordAt i .kind)) (wordAt i .text) .0 s

@@ -11,18 +11,18 @@ use borrow.Author.Tests.{leb-true, ltb-true, eqb-true, not-true}
 use Rattle.scan.specs.Text.{sameText}
 use Rattle.scan.proofs.Same.{same-is-equal}
 use Rattle.proving.proofs.Choice.{and-left, and-right}
-use Rattle.utf8.specs.laws.Characters.{isAscii}
+use Rattle.utf8.specs.laws.Ascii.{isAscii}
 use Rattle.token.specs.declared.Keyword.{Keyword}
 use Rattle.token.specs.declared.Keyword.the-variants.{Kind, Nothing}
-use Rattle.token.specs.Words.{Entry, word, words, kindIn}
+use Rattle.token.specs.Words.{KindText, _names_, words, kindIn}
 use Rattle.token.specs.steps.WordRows.{wordCount, widestWord}
 use Rattle.token.specs.laws.Words.{OneEntry, EntryFound, NoneFound}
 use Rattle.token.proofs.Every.{every, distinct, Search, each-found, none-hit, one-hit, hit-found}
 
-abbrev pub isEntry : Entry → Bool
+abbrev pub isEntry : KindText → Bool
 isEntry e = leb (length (e .text)) widestWord && (isAscii (e .text) && ltb (e .kind) (2 ^ 16))
 
-module _ (e : Entry) (t : isEntry e ≡ true) where
+module _ (e : KindText) (t : isEntry e ≡ true) where
   pub short : length (e .text) ≤ widestWord
   short = leb-true _ _ (and-left _ _ t)
 
@@ -33,10 +33,10 @@ module _ (e : Entry) (t : isEntry e ≡ true) where
   small = ltb-true _ _ (and-right (isAscii (e .text)) _ (and-right (leb (length (e .text)) widestWord) _ t))
 
 -- the search for a word, which is not both of unlike texts
-abbrev unlike : Entry → Entry → Bool
+abbrev unlike : KindText → KindText → Bool
 unlike e f = not (sameText (e .text) (f .text))
 
-abbrev searched : List ℕ → Search Entry Keyword
+abbrev searched : List ℕ → Search KindText Keyword
 searched w =
     record {
       isHit = λ e. sameText w (e .text);
@@ -61,16 +61,16 @@ apart : distinct unlike words ≡ true
 apart = and-right (every isEntry words) _ (and-right (eqb (length words) wordCount) _ tested)
 
 -- what holds of each entry that a word may be, and of none, holds of the word
-pub word-found : (w : List ℕ) (P : Keyword → Type 0) → P Nothing → ((e : Entry) → isEntry e ≡ true → sameText w (e .text) ≡ true → P (Kind (e .kind))) → P (kindIn words w)
+pub word-found : (w : List ℕ) (P : Keyword → Type 0) → P Nothing → ((e : KindText) → isEntry e ≡ true → sameText w (e .text) ≡ true → P (Kind (e .kind))) → P (kindIn words w)
 unfolding kindIn
 word-found w P n v = each-found (searched w) isEntry P n v words entries
 
 pub one-entry : OneEntry
-one-entry w i j h l = one-hit (searched w) (word "" 0) words apart i j (omega (arith, counted)) (omega (arith, counted))
+one-entry w i j h l = one-hit (searched w) ("" names 0) words apart i j (omega (arith, counted)) (omega (arith, counted))
 
 pub entry-found : EntryFound
-entry-found w i h = hit-found (searched w) (word "" 0) words apart i (omega (arith, counted))
+entry-found w i h = hit-found (searched w) ("" names 0) words apart i (omega (arith, counted))
 
 pub none-found : NoneFound
 unfolding kindIn
-none-found w n = none-hit (searched w) (word "" 0) words (λ i h. n i (omega (arith, counted)))
+none-found w n = none-hit (searched w) ("" names 0) words (λ i h. n i (omega (arith, counted)))

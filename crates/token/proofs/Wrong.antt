@@ -13,12 +13,14 @@ use Rattle.scan.specs.Text.{sameText}
 use Rattle.utf8.specs.Table.{fits, sizeIn, charLength}
 use Rattle.utf8.specs.Code.{codeOf}
 use Rattle.utf8.specs.Text.{charsPast, sizeOf}
-use Rattle.token.specs.declared.Display.{Display}
-use Rattle.token.specs.declared.Display.the-variants.{Length, NoRoom}
+use Rattle.utf8.specs.declared.Writing.{Writing}
+use Rattle.utf8.specs.declared.Writing.the-variants.{Written, Refused}
+use Rattle.utf8.specs.Answers.{atStart}
+use Rattle.utf8.specs.Writing.{leftBy}
 use Rattle.token.specs.declared.Keyword.{Keyword}
 use Rattle.token.specs.declared.Keyword.the-variants.{Kind, Nothing}
 use Rattle.token.specs.Classes.{isOperator, isComparisonOperator, isSetOperator, isAggregator, isAggregatorWithParam}
-use Rattle.token.specs.Display.{displays, textIn, displayOf, fitted, displayed, leftBy}
+use Rattle.token.specs.Display.{signs, ownKinds, displays, textIn, displayOf, displayed}
 use Rattle.token.specs.Words.{words, kindIn, keywordOf}
 use Rattle.token.specs.steps.Padded.{padded}
 use Rattle.token.specs.steps.WordRows.{wordRow, tableOf, wordTable, isRow, foundIn, keywordIn}
@@ -115,23 +117,23 @@ unfolding isWithin
 stdvar-takes-no-parameter = is-aggregator-with-param-at _
 
 -- of a kind, with a buffer of so many bytes
-abbrev token-display-gives : ℕ → ℕ → Display → Type 0
+abbrev token-display-gives : ℕ → ℕ → Writing → Type 0
 token-display-gives k room v =
     Answers token-display.ps token-display.r token-display-reads.Post (λ κs a. (a .0 ≡ k) × (length (now (a .1 .0)) ≡ room)) (λ κs. v)
 
 token-display-at : (k room : ℕ) → token-display-gives k room (displayed room k)
-unfolding fitted textIn displays
+unfolding textIn displays signs ownKinds words
 token-display-at k room κs a x e p h = p .0 ∙ ap₂ displayed (h .1) (h .0)
 
-pub display-that-has-room-is-counted : token-display-gives 6 3 (Length 1)
+pub display-that-has-room-is-counted : token-display-gives 6 3 (Written 1)
 unfolding token-display-at
 display-that-has-room-is-counted = token-display-at _ _
 
-pub room-of-just-the-length-is-enough : token-display-gives 0 5 (Length 5)
+pub room-of-just-the-length-is-enough : token-display-gives 0 5 (Written 5)
 unfolding token-display-at
 room-of-just-the-length-is-enough = token-display-at _ _
 
-pub room-one-byte-short-is-none : token-display-gives 0 4 NoRoom
+pub room-one-byte-short-is-none : token-display-gives 0 4 (Refused (atStart 3))
 unfolding token-display-at
 room-one-byte-short-is-none = token-display-at _ _
 

@@ -1,7 +1,10 @@
--- The kinds that a definition names: document 01, "Kinds", with the Rust's names. EOF, 0, is added by `lex`.
+-- The kinds of lexemes, each once: document 01, "Kinds", in its order, under the Rust's names.
 use Prim.Native.Nat.{ℕ}
 
--- "IDENTIFIER 1, METRIC_IDENTIFIER 2, STRING 3, NUMBER 4, DURATION 5, .."
+-- "EOF 0, IDENTIFIER 1, METRIC_IDENTIFIER 2, STRING 3, NUMBER 4, DURATION 5, .."
+abbrev pub eofKind : ℕ
+eofKind = 0
+
 abbrev pub identifier : ℕ
 identifier = 1
 
@@ -91,7 +94,7 @@ neqRegex = 33
 abbrev pub atSign : ℕ
 atSign = 34
 
--- ".. and, or, unless, atan2 35 to 38"
+-- ".. and, or, unless, atan2 35 to 38."
 abbrev pub land : ℕ
 land = 35
 
@@ -104,18 +107,92 @@ lunless = 37
 abbrev pub atan2 : ℕ
 atan2 = 38
 
--- "sum to limit_ratio 40 to 53, offset to fill_right 60 to 72"
+-- ".. sum to limit_ratio 40 to 53, .."
 abbrev pub sum : ℕ
 sum = 40
+
+abbrev pub avg : ℕ
+avg = 41
+
+abbrev pub countKind : ℕ
+countKind = 42
+
+abbrev pub min : ℕ
+min = 43
+
+abbrev pub max : ℕ
+max = 44
+
+abbrev pub group : ℕ
+group = 45
+
+abbrev pub stddev : ℕ
+stddev = 46
+
+abbrev pub stdvar : ℕ
+stdvar = 47
 
 abbrev pub topk : ℕ
 topk = 48
 
+abbrev pub bottomk : ℕ
+bottomk = 49
+
+abbrev pub countValues : ℕ
+countValues = 50
+
+abbrev pub quantile : ℕ
+quantile = 51
+
+abbrev pub limitk : ℕ
+limitk = 52
+
 abbrev pub limitRatio : ℕ
 limitRatio = 53
+
+-- ".. offset to fill_right 60 to 72, .."
+abbrev pub offset : ℕ
+offset = 60
+
+abbrev pub by : ℕ
+by = 61
+
+abbrev pub without : ℕ
+without = 62
+
+abbrev pub on : ℕ
+on = 63
+
+abbrev pub ignoring : ℕ
+ignoring = 64
+
+abbrev pub groupLeft : ℕ
+groupLeft = 65
+
+abbrev pub groupRight : ℕ
+groupRight = 66
+
+abbrev pub bool : ℕ
+bool = 67
+
+abbrev pub smoothed : ℕ
+smoothed = 68
+
+abbrev pub anchored : ℕ
+anchored = 69
 
 abbrev pub fill : ℕ
 fill = 70
 
+abbrev pub fillLeft : ℕ
+fillLeft = 71
+
 abbrev pub fillRight : ℕ
 fillRight = 72
+
+-- ".. start 80, end 81; .."
+abbrev pub start : ℕ
+start = 80
+
+abbrev pub endKind : ℕ
+endKind = 81

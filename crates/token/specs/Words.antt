@@ -9,59 +9,62 @@ use Rattle.scan.specs.Text.{sameText}
 use Rattle.utf8.specs.Text.{codesOf, isWellFormed}
 use Rattle.token.specs.declared.Keyword.{Keyword}
 use Rattle.token.specs.declared.Keyword.the-variants.{Kind, Nothing}
+use Rattle.token.specs.Kinds.{number, land, lor, lunless, atan2, sum, avg, countKind, min, max, group, stddev, stdvar, topk, bottomk, countValues, quantile, limitk, limitRatio, offset, by, without, on, ignoring, groupLeft, groupRight, bool, smoothed, anchored, fill, fillLeft, fillRight, start, endKind}
 
-pub record Entry : Type 0 where
+-- a text, and the kind that has it
+pub record KindText : Type 0 where
   pub text : List ℕ
   pub kind : ℕ
 
-abbrev pub word : String → ℕ → Entry
-word s k = record { text = ascii s; kind = k }
+infix 90 _names_
+abbrev pub _names_ : String → ℕ → KindText
+s names k = record { text = ascii s; kind = k }
 
--- "and, or, unless, atan2 35 to 38"; "sum to limit_ratio 40 to 53, offset to fill_right 60 to 72, start 80, end 81; inf and nan are NUMBER"
-unfoldable pub words : List Entry
+-- "and, or, unless, atan2"; "sum to limit_ratio", "offset to fill_right", "start", "end"; "inf and nan are NUMBER"
+unfoldable pub words : List KindText
 words =
-    word "and" 35
-    ∷ word "or" 36
-    ∷ word "unless" 37
-    ∷ word "atan2" 38
-    ∷ word "sum" 40
-    ∷ word "avg" 41
-    ∷ word "count" 42
-    ∷ word "min" 43
-    ∷ word "max" 44
-    ∷ word "group" 45
-    ∷ word "stddev" 46
-    ∷ word "stdvar" 47
-    ∷ word "topk" 48
-    ∷ word "bottomk" 49
-    ∷ word "count_values" 50
-    ∷ word "quantile" 51
-    ∷ word "limitk" 52
-    ∷ word "limit_ratio" 53
-    ∷ word "offset" 60
-    ∷ word "by" 61
-    ∷ word "without" 62
-    ∷ word "on" 63
-    ∷ word "ignoring" 64
-    ∷ word "group_left" 65
-    ∷ word "group_right" 66
-    ∷ word "bool" 67
-    ∷ word "smoothed" 68
-    ∷ word "anchored" 69
-    ∷ word "fill" 70
-    ∷ word "fill_left" 71
-    ∷ word "fill_right" 72
-    ∷ word "start" 80
-    ∷ word "end" 81
-    ∷ word "inf" 4
-    ∷ word "nan" 4
+    "and" names land
+    ∷ "or" names lor
+    ∷ "unless" names lunless
+    ∷ "atan2" names atan2
+    ∷ "sum" names sum
+    ∷ "avg" names avg
+    ∷ "count" names countKind
+    ∷ "min" names min
+    ∷ "max" names max
+    ∷ "group" names group
+    ∷ "stddev" names stddev
+    ∷ "stdvar" names stdvar
+    ∷ "topk" names topk
+    ∷ "bottomk" names bottomk
+    ∷ "count_values" names countValues
+    ∷ "quantile" names quantile
+    ∷ "limitk" names limitk
+    ∷ "limit_ratio" names limitRatio
+    ∷ "offset" names offset
+    ∷ "by" names by
+    ∷ "without" names without
+    ∷ "on" names on
+    ∷ "ignoring" names ignoring
+    ∷ "group_left" names groupLeft
+    ∷ "group_right" names groupRight
+    ∷ "bool" names bool
+    ∷ "smoothed" names smoothed
+    ∷ "anchored" names anchored
+    ∷ "fill" names fill
+    ∷ "fill_left" names fillLeft
+    ∷ "fill_right" names fillRight
+    ∷ "start" names start
+    ∷ "end" names endKind
+    ∷ "inf" names number
+    ∷ "nan" names number
     ∷ []
 
--- the kind of the entry whose text a word is
-unfoldable pub kindIn : List Entry → List ℕ → Keyword
+-- the kind of the row whose text a word is
+unfoldable pub kindIn : List KindText → List ℕ → Keyword
 kindIn [] w = Nothing
 kindIn (e ∷ es) w = cond (sameText w (e .text)) (Kind (e .kind)) (kindIn es w)
 
--- "A word of the table, in any case, has its kind": its characters, letters lowered, are the text of an entry
+-- "A word of the table, in any case, has its kind": its characters, letters lowered, are the text of a row
 unfoldable pub keywordOf : List ℕ → Keyword
 keywordOf xs = cond (isWellFormed xs) (kindIn words (map lowered (codesOf xs))) Nothing

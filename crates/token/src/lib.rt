@@ -4,24 +4,20 @@ pub mod kinds;
 
 use scan::byte;
 use scan::byte::Class;
+use utf8::Writing;
 ghost use mathlib.Core.Path.{_≡_};
 ghost use mathlib.Core.List.{map};
 ghost use Prim.Native.Nat.{_≤_};
 ghost use lib.ListN.{length};
 ghost use lib.Seq.{sets};
 ghost use Rattle.scan.specs.Byte.{isWithin, lowered};
+ghost use Rattle.utf8.specs.Writing.{fitted, leftBy};
 ghost use Rattle.token.specs.Classes.{isOperator, isComparisonOperator, isSetOperator, isAggregator, isAggregatorWithParam};
-ghost use Rattle.token.specs.Display.{displayOf, fitted, displayed, leftBy};
+ghost use Rattle.token.specs.Display.{displayOf, displayed};
 ghost use Rattle.token.specs.steps.DisplayRows.{pastKinds, table};
 ghost use Rattle.token.specs.Words.{keywordOf};
 ghost use Rattle.token.specs.steps.WordRows.{wordCount, widestWord, wordRow, wordTable, isRow, foundIn, keywordIn};
 ghost use Rattle.token.specs.Label.{isLabel};
-
-// How many bytes of a display text were written, or that it has no room.
-pub enum Display {
-    Length(usize),
-    NoRoom,
-}
 
 const PAST_KINDS: usize = kinds::T_END as usize + 1;
 
@@ -160,20 +156,20 @@ pub fn is_aggregator_with_param(kind: u16) -> bool
 }
 
 // Writes a text at the front of a lent buffer; nothing where it has no room.
-fn put(text: &[u8], out: &mut [u8]) -> Display
+fn put(text: &[u8], out: &mut [u8]) -> Writing
     ensures { λ r. ⌜ r ≡ fitted (length (now (out .entry))) (now (text .entry)) ⌝ }
     ensures { λ r. ⌜ now (out .exit) ≡ leftBy r (now (text .entry)) (now (out .entry)) ⌝ }
 {
     let n = text.len();
     if out.len() < n {
-        return Display::NoRoom;
+        return Writing::Refused(utf8::at_start(utf8::NO_ROOM));
     }
     let mut i = 0;
     while i < n {
         out[i] = text[i];
         i += 1;
     }
-    Display::Length(n)
+    Writing::Written(n)
 }
 
 // The row that has the text of a kind: that of its number, or the last for a number above all kinds.
@@ -192,7 +188,7 @@ fn display_table() -> [u8; DISPLAY_TABLE]
 }
 
 // Writes the text that a kind is shown as at the front of a lent buffer; nothing where it has no room.
-pub fn token_display(kind: u16, out: &mut [u8]) -> Display
+pub fn token_display(kind: u16, out: &mut [u8]) -> Writing
     ensures { λ r. ⌜ r ≡ displayed (length (now (out .entry))) kind ⌝ }
     ensures { λ r. ⌜ now (out .exit) ≡ leftBy r (displayOf kind) (now (out .entry)) ⌝ }
 {

@@ -17,11 +17,12 @@ use Rattle.utf8.specs.Table.{tail, fits, charLength}
 use Rattle.utf8.specs.steps.Lead.{sizeBy}
 use Rattle.utf8.specs.Code.{codeOf}
 use Rattle.utf8.specs.Text.{charsPast, codesOf, sizeOf, prefixEnd, WellFormed, isWellFormed}
-use Rattle.utf8.specs.laws.Characters.{AsciiBytes, isAscii, AsciiText, AsciiCodes, ByBytes, LoweredOther}
+use Rattle.utf8.specs.laws.Ascii.{OneByte, isAscii, AsciiText, ByBytes, LoweredOther}
+use Rattle.utf8.specs.laws.Encode.{AsciiBytes}
 use Rattle.utf8.proofs.Lead.{second, sized, char-by}
 use Rattle.utf8.proofs.Chars.{chars-none, chars-some}
 use Rattle.utf8.proofs.Codes.{one-byte}
-use Rattle.utf8.proofs.Laws.{ascii-alone, ascii-head}
+use Rattle.utf8.proofs.Laws.{ascii-char, ascii-head}
 use Rattle.utf8.proofs.Inverse.{Range, size-range, long-code}
 
 pub ascii-bytes : AsciiBytes
@@ -33,10 +34,9 @@ ascii-text [] h = (refl, refl)
 ascii-text (x ∷ xs) h =
     let l = ltb-true x 0x80 (and-left (ltb x 0x80) (isAscii xs) h) in
     let r = ascii-text xs (and-right (ltb x 0x80) (isAscii xs) h) in
-    (ascii-head x xs l .0 ∙ ap suc (r .0), rw (ascii-alone x xs l) (ap (λ (t : List ℕ). x ∷ t) (r .1)))
+    (ascii-head x xs l .0 ∙ ap suc (r .0), rw (ascii-char x xs l) (ap (λ (t : List ℕ). x ∷ t) (r .1)))
 
--- a character of one byte is ASCII
-pub one-ascii : (x : ℕ) (xs : List ℕ) → charLength (x ∷ xs) ≡ 1 → x < 0x80
+pub one-ascii : OneByte
 one-ascii x xs e = go (sizeBy x) (size-range x) (sym (char-by x xs) ∙ e)
   where
     go : (n : ℕ) → Range n x → sized n (second x) xs ≡ 1 → x < 0x80
@@ -56,13 +56,14 @@ first-other x xs w h = go (charLength (x ∷ xs)) refl
     go (suc (suc n)) e =
         rw (chars-some (x ∷ xs) (omega arith), le-ltb (codeOf (charLength (x ∷ xs)) (x ∷ xs)) 0x80 (long-code (x ∷ xs) (omega arith)))
 
-pub ascii-codes : AsciiCodes
+-- so text whose code points are ASCII is made of ASCII bytes
+ascii-codes : (xs : List ℕ) → WellFormed xs → isAscii (codesOf xs) ≡ true → isAscii xs ≡ true
 ascii-codes [] w h = refl
 ascii-codes (x ∷ xs) w h = go (decLt x 0x80) (ascii-codes xs)
   where
     go : Dec (x < 0x80) → (WellFormed xs → isAscii (codesOf xs) ≡ true → isAscii xs ≡ true) → isAscii (x ∷ xs) ≡ true
     go (yes l) ih =
-        let a : isAscii (x ∷ codesOf xs) ≡ true = rw (ascii-alone x xs l) at h in
+        let a : isAscii (x ∷ codesOf xs) ≡ true = rw (ascii-char x xs l) at h in
         rw (lt-ltb x 0x80 l) (ih (omega (arith, ascii-head x xs l .0, w)) (and-right (ltb x 0x80) (isAscii (codesOf xs)) a))
     go (no l) ih = absurd (true≢false (sym h ∙ first-other x xs w (omega arith)))
 

@@ -1,27 +1,27 @@
 -- Bounds of the answers: a place of a text lies within it, and since each character has a byte at least, there are no more characters
 -- than bytes.
-use Prim.Native.Nat.{ℕ, suc, _+_, _-_, _<_, _≤_}
+use Prim.Native.Nat.{ℕ, suc, _-_, _<_, _≤_}
 use native.Mathlib.Omega.{arith}
 use mathlib.Core.List.{List, [], _∷_}
 use mathlib.Core.Logic.{_⊎_, inl, inr}
-use mathlib.Core.Path.{_≡_, refl, ap}
+use mathlib.Core.Path.{_≡_, refl, ap, subst}
 use lib.Dec.{leb, ltb, eqb}
 use lib.ListN.{length, drop, length-drop}
 use lib.Seq.{drop-drop, drop-cons}
 use borrow.Author.Tests.{le-leb, lt-leb, leb-false, ltb-false, lt-ltb, eq-eqb, ne-eqb, eqb-true, eqb-false}
-use Rattle.utf8.specs.declared.Refusal.{Refusal}
-use Rattle.utf8.specs.declared.Admission.{Admission}
-use Rattle.utf8.specs.declared.Admission.the-variants.{Admitted, Refused}
 use Rattle.utf8.specs.declared.Character.{Character}
 use Rattle.utf8.specs.declared.Character.the-variants.{Scalar, Nothing, IllFormed}
 use Rattle.utf8.specs.Table.{charLength}
 use Rattle.utf8.specs.Code.{codeOf, isScalar, encoded}
 use Rattle.utf8.specs.Text.{Char, charsOf, sizeOf, prefixEnd, begunIn, charNumber}
-use Rattle.utf8.specs.laws.Characters.{ByteScalar, FirstCharacter, AsciiAt, FewBytes, StandsAt, CharacterStands}
+use Rattle.utf8.specs.laws.Ascii.{AsciiAt}
+use Rattle.utf8.specs.laws.Bounds.{Bounded, AdmittedBound, NumberBound, CharacterWithin}
+use Rattle.utf8.specs.laws.Characters.{FirstCharacter, StandsAt, CharacterStands}
+use Rattle.utf8.specs.laws.Encode.{ByteScalar, FewBytes}
 use Rattle.utf8.specs.Answers.{validityOf, admittedAs, admitted, characterAt}
 use Rattle.scan.specs.Byte.{end, peekAt}
 use Rattle.proving.proofs.Choice.{either}
-use Rattle.scan.proofs.Runs.{peek-inside}
+use Rattle.scan.proofs.Edges.{ascii-inside}
 use Rattle.utf8.proofs.Chars.{char-bound, chars-some}
 use Rattle.utf8.proofs.Texts.{Filled, filled, prefix-bound}
 use Rattle.utf8.proofs.Laws.{none-empty, rest-text, ascii-length, ascii-code}
@@ -42,21 +42,11 @@ begun-bound to [] = omega arith
 begun-bound to (c ∷ cs) =
     either (λ n. n ≤ suc (length cs)) (eqb to 0) (λ e. omega arith) (λ e. omega (arith, begun-bound (to - c .size) cs))
 
-pub number-bound : (xs : List ℕ) (to : ℕ) → charNumber xs to ≤ length xs
+pub number-bound : NumberBound
 unfolding charNumber
 number-bound xs to = omega (arith, begun-bound to (charsOf xs), count-bound xs)
 
--- within a limit an admission counts no more than that, and its refusals are 1 and 2, at places no further
-pub record Placed (most limit : ℕ) (r : Refusal) : Type 0 where
-  pub number : r .number ≤ most
-  pub byte : r .place .byte .0 ≤ limit
-  pub character : r .place .character .0 ≤ limit
-
-abbrev pub Bounded : ℕ → Admission → Type 0
-Bounded limit (Admitted n) = n .0 ≤ limit
-Bounded limit (Refused r) = Placed 2 limit r
-
-pub admitted-bound : (limit : ℕ) (xs : List ℕ) → Bounded limit (admitted limit xs)
+pub admitted-bound : AdmittedBound
 unfolding admitted validityOf
 admitted-bound limit xs =
     either (Bounded limit) (ltb limit (length xs)) (λ e. omega arith)
@@ -66,18 +56,21 @@ admitted-bound limit xs =
     (λ t. omega (arith, number-bound xs (prefixEnd xs), prefix-bound xs)))
 
 -- a character is no longer than the text, and what begins none stands within it
-abbrev pub Within : List ℕ → ℕ → Character → Type 0
+abbrev Within : List ℕ → ℕ → Character → Type 0
 Within xs at (Scalar c n) = n ≤ length xs
 Within xs at Nothing = Unit {0}
 Within xs at IllFormed = at < length xs
 
-pub character-within : (xs : List ℕ) (at : ℕ) → Within xs at (characterAt xs at)
+lies-within : (xs : List ℕ) (at : ℕ) → Within xs at (characterAt xs at)
 unfolding characterAt
-character-within xs at =
+lies-within xs at =
     either (Within xs at) (leb (length xs) at) (λ e. tt)
     (λ e. either (Within xs at) (eqb (charLength (drop at xs)) 0)
     (λ t. leb-false (length xs) at e)
     (λ t. omega (arith, char-bound (drop at xs), length-drop at xs)))
+
+pub character-within : CharacterWithin
+character-within xs at = ((λ c n e. subst (Within xs at) e (lies-within xs at)), λ e. subst (Within xs at) e (lies-within xs at))
 
 -- text is empty where no character begins; so before its end one does
 pub character-stands : CharacterStands
@@ -113,7 +106,7 @@ pub ascii-at : AsciiAt
 unfolding characterAt
 ascii-at xs at h =
     let x = peekAt xs at in
-    let l : at < length xs = peek-inside xs at (ne-eqb x end (λ e. omega arith)) in
+    let l : at < length xs = ascii-inside xs at h in
     rw (lt-leb (length xs) at l, drop-cons xs at end l, ascii-length x (drop (suc at) xs) h, ascii-code x (drop (suc at) xs) h)
 
 pub byte-scalar : ByteScalar

@@ -12,9 +12,10 @@ use Rattle.scan.proofs.byte.Classes.{within-bounds}
 use Rattle.utf8.specs.Table.{charLength}
 use Rattle.utf8.specs.steps.Lead.{sizeBy}
 use Rattle.utf8.specs.Text.{WellFormed}
-use Rattle.utf8.specs.laws.Characters.{TextBytes}
+use Rattle.utf8.specs.laws.Characters.{One}
+use Rattle.utf8.specs.laws.Texts.{TextBytes}
 use Rattle.utf8.proofs.Lead.{second, sized, char-by}
-use Rattle.utf8.proofs.Texts.{One, by-characters}
+use Rattle.utf8.proofs.Texts.{by-characters}
 use Rattle.utf8.proofs.Laws.{none-empty, rest-well, tail-inside}
 use Rattle.utf8.proofs.Inverse.{Range, size-range}
 

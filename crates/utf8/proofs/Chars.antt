@@ -6,8 +6,7 @@ use mathlib.Core.Bool.{true, cond}
 use mathlib.Core.List.{List, [], _∷_}
 use mathlib.Core.Path.{_≡_, refl, ap, ap₂, _∙_}
 use lib.Dec.{eqb}
-use lib.ListN.{length, take, drop, length-drop}
-use lib.Seq.{take-all}
+use lib.ListN.{length, take, drop}
 use borrow.Author.Tests.{eq-eqb, ne-eqb}
 use Rattle.scan.specs.Byte.{isWithin}
 use Rattle.utf8.specs.declared.Place.{Place}
@@ -66,10 +65,6 @@ chars-none xs e = chars-are xs ∙ rw e
 
 pub chars-some : (xs : List ℕ) → 0 < charLength xs → charsOf xs ≡ charOf (charLength xs) xs ∷ charsOf (drop (charLength xs) xs)
 chars-some xs h = chars-are xs ∙ rw (ne-eqb (charLength xs) 0 (λ e. omega arith))
-
--- the part of a slice from an offset to its end
-pub rest-of : (q : List ℕ) (at : ℕ) → take (length q - at) (drop at q) ≡ drop at q
-rest-of q at = take-all (length q - at) (drop at q) (omega (arith, length-drop at q))
 
 -- the place at which characters stop that begin before an offset, counted from a place before them
 abbrev pub stop : ℕ → ℕ → ℕ → List Char → Place

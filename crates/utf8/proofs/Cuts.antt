@@ -11,11 +11,13 @@ use lib.ListN.{length, take, drop, length-append, length-take, length-drop, take
 use lib.Seq.{take-append-add, drop-append-add, length-take-le, take-length, getD-append-add}
 use borrow.Author.Tests.{ne-eqb}
 use Rattle.scan.specs.Byte.{end, peekAt}
+use Rattle.utf8.specs.declared.Place.{Place}
 use Rattle.utf8.specs.Table.{isTail, charLength}
 use Rattle.utf8.specs.Text.{Char, charOf, charsPast, charsOf, sizeOf, WellFormed, startOf, begunIn, charNumber}
-use Rattle.utf8.specs.laws.Characters.{Longest, Cut, TextCut, Boundary, AsciiBoundary}
+use Rattle.utf8.specs.laws.Characters.{One}
+use Rattle.utf8.specs.laws.Texts.{Longest, Cut, TextCut, Boundary, AsciiBoundary, TextEnds}
 use Rattle.utf8.proofs.Chars.{chars-none}
-use Rattle.utf8.proofs.Texts.{One, chars-one, by-characters, Filled, filled, prefix-bound}
+use Rattle.utf8.proofs.Texts.{chars-one, by-characters, Filled, filled, prefix-bound, start-all}
 use Rattle.utf8.proofs.Laws.{size-join, begun-none, begun-join, rest-well, prefix-join, none-ascii, tail-inside}
 
 abbrev CutAt : List ℕ → ℕ → Type 0
@@ -143,3 +145,6 @@ behind-more bs ys o ih w at h t = go (decLe (length bs) at)
 
 pub ascii-boundary : AsciiBoundary
 ascii-boundary = by-characters BoundedBehind behind-none behind-more
+
+pub text-ends : TextEnds
+text-ends xs w = (start-zero xs, ap (λ (p : Place). p .byte .0) (start-all xs) ∙ w)

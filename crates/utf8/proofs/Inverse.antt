@@ -17,14 +17,17 @@ use Rattle.proving.proofs.Choice.{either, and-left, and-right}
 use Rattle.utf8.specs.declared.Character.the-variants.{Scalar, IllFormed}
 use Rattle.utf8.specs.Table.{tail, isTail, fits, charLength}
 use Rattle.utf8.specs.steps.Lead.{sizeBy, lowSecond, highSecond, withTails}
-use Rattle.utf8.specs.Code.{codeOf, isScalar, sixBits, encoded}
+use Rattle.utf8.specs.Code.{codeOf, isScalar, sixBits, encoded, textOf}
 use Rattle.utf8.specs.Text.{charsPast, codesOf, sizeOf, WellFormed}
 use Rattle.utf8.specs.Answers.{characterOf}
-use Rattle.utf8.specs.laws.Characters.{EncodeDecode, DecodeEncode, LongCode, textOf, AllScalar, TextIs, CodesText}
+use Rattle.utf8.specs.laws.Ascii.{LongCode}
+use Rattle.utf8.specs.laws.Characters.{One}
+use Rattle.utf8.specs.laws.Encode.{EncodeDecode, DecodeEncode}
+use Rattle.utf8.specs.laws.Texts.{AllScalar, TextIs, CodesText}
 use Rattle.utf8.proofs.Lead.{second, sized, char-by, char-tests}
 use Rattle.utf8.proofs.Chars.{char-bound}
 use Rattle.utf8.proofs.Codes.{one-byte, two-bytes, three-bytes, four-bytes}
-use Rattle.utf8.proofs.Texts.{One, chars-one, by-characters}
+use Rattle.utf8.proofs.Texts.{chars-one, by-characters}
 use Rattle.utf8.proofs.Laws.{none-empty, rest-well, ascii-length, ascii-code}
 
 -- the sizes by a first byte, each within its bounds
@@ -327,7 +330,7 @@ size-told xs c n = go (eqb (charLength xs) 0)
     go true e = cc
     go false e = cc
 
-encoded-some : (c : ℕ) → 0 < length (encoded c)
+pub encoded-some : (c : ℕ) → 0 < length (encoded c)
 unfolding encoded
 encoded-some c =
     let P : List ℕ → Type 0 = λ bs. 0 < length bs in

@@ -15,17 +15,18 @@ use Rattle.proving.proofs.Choice.{and-left, and-right}
 use Rattle.utf8.specs.Table.{Bounds, isTail, rows, fits, sizeIn, charLength}
 use Rattle.utf8.specs.Code.{codeOf}
 use Rattle.utf8.specs.Text.{Char, charOf, charsPast, charsOf, sizeOf, prefixEnd, WellFormed, begunIn, charNumber}
-use Rattle.utf8.specs.laws.Characters.{Steps, AsciiAlone, AsciiHead, NoneAscii, CharsJoin, PrefixJoin, NumberJoin, TextJoin}
+use Rattle.utf8.specs.laws.Ascii.{AsciiCode, AsciiHead, NoneAscii}
+use Rattle.utf8.specs.laws.Characters.{Steps, NoneEmpty, RestText, OneText, RestWell}
+use Rattle.utf8.specs.laws.Texts.{PrefixJoin, NumberJoin, TextJoin}
 use Rattle.utf8.proofs.Chars.{EachRow, of-size, char-bound, chars-none, chars-some}
-use Rattle.utf8.proofs.Texts.{One, chars-one, by-characters, Filled, filled}
+use Rattle.utf8.proofs.Texts.{chars-one, by-characters, Filled, filled}
 
 -- a length of 0 is that of no bytes
 empty : {A : Type 0} (xs : List A) → length xs ≡ 0 → xs ≡ []
 empty [] e = refl
 empty (x ∷ xs) e = let f : ⊥ = omega arith in absurd f
 
--- a well-formed text of which no character begins is empty
-pub none-empty : (xs : List ℕ) → charLength xs ≡ 0 → WellFormed xs → xs ≡ []
+pub none-empty : NoneEmpty
 unfolding sizeOf
 none-empty xs e w = empty xs (sym w ∙ rw (chars-none xs e))
 
@@ -34,24 +35,22 @@ unfolding sizeOf
 size-join [] ds = omega arith
 size-join (c ∷ cs) ds = omega (arith, size-join cs ds)
 
--- what follows a well-formed text's first character is well-formed
-pub rest-well : (bs ys : List ℕ) → One bs → WellFormed (bs ++ ys) → WellFormed ys
+pub rest-well : RestWell
 unfolding sizeOf
 rest-well bs ys o w = omega (arith, sym (ap sizeOf (chars-one bs ys o)) ∙ w, length-append bs ys)
 
--- and what a character leaves of a text
-pub rest-text : (xs : List ℕ) → 0 < charLength xs → WellFormed xs → WellFormed (drop (charLength xs) xs)
+pub rest-text : RestText
 unfolding sizeOf
 rest-text xs h w =
     let e = ap sizeOf (chars-some xs h) in
     omega (arith, sym e ∙ w, char-bound xs, length-drop (charLength xs) xs)
 
--- the bytes of one character are text
-pub one-text : (bs : List ℕ) → One bs → WellFormed bs
+pub one-text : OneText
 unfolding sizeOf charsPast
 one-text bs o = let e = chars-one bs [] o in omega (arith, ap sizeOf (sym (ap charsOf (append-nil bs)) ∙ e))
 
-pub chars-join : CharsJoin
+-- after a well-formed text the characters of any bytes are what they are by themselves
+chars-join : (xs ys : List ℕ) → WellFormed xs → charsOf (xs ++ ys) ≡ charsOf xs ++ charsOf ys
 chars-join xs ys =
     by-characters (λ xs. WellFormed xs → charsOf (xs ++ ys) ≡ charsOf xs ++ charsOf ys)
     (λ xs e w. rw (none-empty xs e w) (unfold charsPast in refl))
@@ -166,17 +165,18 @@ pub ascii-length : (x : ℕ) (xs : List ℕ) → x < 0x80 → charLength (x ∷ 
 unfolding charLength sizeIn fits
 ascii-length x xs h = rw (within-yes 0 0x7f x (omega arith) (omega arith))
 
-pub ascii-code : (x : ℕ) (xs : List ℕ) → x < 0x80 → codeOf 1 (x ∷ xs) ≡ x
+pub ascii-code : AsciiCode
 unfolding codeOf
 ascii-code x xs h = omega arith
 
-pub ascii-alone : AsciiAlone
-ascii-alone x xs h =
+-- an ASCII byte is a character by itself
+pub ascii-char : (x : ℕ) (xs : List ℕ) → x < 0x80 → charsOf (x ∷ xs) ≡ record { code = x; size = 1 } ∷ charsOf xs
+ascii-char x xs h =
     let e = ascii-length x xs h in
     chars-some (x ∷ xs) (omega (arith, e)) ∙ rw (e, ascii-code x xs h)
 
 pub ascii-head : AsciiHead
 unfolding sizeOf charNumber begunIn
 ascii-head x xs h =
-    let e = ascii-alone x xs h in
+    let e = ascii-char x xs h in
     (ap sizeOf e ∙ omega arith, λ to. rw (e, ne-eqb (suc to) 0 (λ z. omega arith)) (ap (λ (n : ℕ). suc (begunIn n (charsOf xs))) (omega arith)))

@@ -13,17 +13,12 @@ use Rattle.scan.specs.Byte.{end, peekAt, isWithin}
 use Rattle.utf8.specs.Table.{Bounds, tail, fits, charLength}
 use Rattle.utf8.specs.steps.Lead.{sizeBy}
 use Rattle.utf8.specs.Code.{codeOf}
-use Rattle.utf8.specs.Text.{Char, charOf, charsOf, sizeOf, prefixEnd, begunIn, charNumber}
-use Rattle.utf8.specs.declared.Character.the-variants.{Scalar}
+use Rattle.utf8.specs.Text.{Char, charsOf, sizeOf, prefixEnd, begunIn, charNumber}
 use Rattle.utf8.specs.Answers.{place, nextStart, characterAt}
+use Rattle.utf8.specs.laws.Characters.{One, OneByOne, CharsOne, CharacterOne}
 use Rattle.proving.proofs.Choice.{either-same, and-left, and-right}
 use Rattle.utf8.proofs.Lead.{second, sized, char-by}
 use Rattle.utf8.proofs.Chars.{char-bound, chars-none, chars-some}
-
--- the bytes of one character
-pub record One (bs : List ℕ) : Type 0 where
-  pub some : 0 < length bs
-  pub whole : charLength bs ≡ length bs
 
 -- bytes that fit go on to fit with more behind them, and fit without what is behind them
 fits-append : (r : List Bounds) (xs ys : List ℕ) → fits r xs ≡ true → fits r (xs ++ ys) ≡ true
@@ -89,21 +84,20 @@ code-append n bs ys h z =
     at-append : (i : ℕ) → i < length bs → peekAt (bs ++ ys) i ≡ peekAt bs i
     at-append i l = List·getD-append bs ys end i l
 
--- a character's bytes and what follows them
-pub chars-one : (bs ys : List ℕ) → One bs → charsOf (bs ++ ys) ≡ charOf (length bs) bs ∷ charsOf ys
+pub chars-one : CharsOne
 chars-one bs ys o =
     let h : 0 < charLength bs = omega (arith, o .some, o .whole) in
     let e : charLength (bs ++ ys) ≡ length bs = char-append bs ys h ∙ o .whole in
     chars-some (bs ++ ys) (omega (arith, e, o .some))
     ∙ rw (e, code-append (length bs) bs ys (omega arith) (o .some), drop-append-seam bs ys)
 
-pub character-one : (bs ys : List ℕ) → One bs → characterAt (bs ++ ys) 0 ≡ Scalar (codeOf (length bs) bs) (length bs)
+pub character-one : CharacterOne
 unfolding characterAt
 character-one bs ys o =
     let e : charLength (bs ++ ys) ≡ length bs = char-append bs ys (omega (arith, o .some, o .whole)) ∙ o .whole in
     rw (lt-leb (length (bs ++ ys)) 0 (omega (arith, length-append bs ys, o .some)), e, ne-eqb (length bs) 0 (λ z. omega (arith, o .some)), code-append (length bs) bs ys (omega arith) (o .some))
 
--- what holds where no character begins, and goes over from a rest to the whole, holds of any bytes
+-- by the number of bytes
 module _ (P : List ℕ → Type 0) (none : (xs : List ℕ) → charLength xs ≡ 0 → P xs) (more : (bs ys : List ℕ) → One bs → P ys → P (bs ++ ys)) where
   up-to : (m : ℕ) (xs : List ℕ) → length xs ≤ m → P xs
   up-to zero xs h = none xs (omega (arith, char-bound xs))
@@ -115,8 +109,8 @@ module _ (P : List ℕ → Type 0) (none : (xs : List ℕ) → charLength xs ≡
           let o : One (take (suc n) xs) = rw e at (one-take xs (omega arith)) in
           subst P (take-append-drop (suc n) xs) (more (take (suc n) xs) (drop (suc n) xs) o (ih (omega (arith, length-drop (suc n) xs))))
 
-  pub by-characters : (xs : List ℕ) → P xs
-  by-characters xs = up-to (length xs) xs (omega arith)
+pub by-characters : OneByOne
+by-characters P none more xs = up-to P none more (length xs) xs (omega arith)
 
 -- every character has bytes, and all of them together are within the text
 abbrev pub Filled : List Char → Type 0

@@ -5,8 +5,8 @@ use Rattle.utf8.proofs.validate.Kinds as validate
 use Rattle.utf8.proofs.validate.Reads as validate-reads
 use Rattle.utf8.proofs.admit.Kinds as admit
 use Rattle.utf8.proofs.admit.Reads as admit-reads
-use Rattle.utf8.proofs.refused_by.Kinds as refused-by
-use Rattle.utf8.proofs.refused_by.Reads as refused-by-reads
+use Rattle.utf8.proofs.not_admitted.Kinds as not-admitted
+use Rattle.utf8.proofs.not_admitted.Reads as not-admitted-reads
 use Rattle.utf8.proofs.not_written.Kinds as not-written
 use Rattle.utf8.proofs.not_written.Reads as not-written-reads
 use Rattle.utf8.proofs.char_number.Kinds as char-number
@@ -22,8 +22,8 @@ same-validate κs a x y e f p q = p ∙ sym q
 pub same-admit : OneAnswer admit.ps admit.r admit-reads.Post
 same-admit κs a x y e f p q = p ∙ sym q
 
-pub same-refused-by : OneAnswer refused-by.ps refused-by.r refused-by-reads.Post
-same-refused-by κs a x y e f p q = p ∙ sym q
+pub same-not-admitted : OneAnswer not-admitted.ps not-admitted.r not-admitted-reads.Post
+same-not-admitted κs a x y e f p q = p ∙ sym q
 
 pub same-not-written : OneAnswer not-written.ps not-written.r not-written-reads.Post
 same-not-written κs a x y e f p q = p ∙ sym q

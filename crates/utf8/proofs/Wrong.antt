@@ -21,7 +21,7 @@ use Rattle.utf8.specs.Code.{codeOf}
 use Rattle.utf8.specs.Text.{charsPast, sizeOf, begunIn, charNumber}
 use Rattle.utf8.specs.declared.Writing.{Writing}
 use Rattle.utf8.specs.declared.Writing.the-variants as writing
-use Rattle.utf8.specs.Answers.{count, place, validityOf, atStart, admitted, characterAt, notUtf8, refusedBy}
+use Rattle.utf8.specs.Answers.{count, place, validityOf, atStart, admitted, characterAt, notUtf8, notAdmitted}
 use Rattle.utf8.specs.Writing.{notWritten}
 use Rattle.utf8.proofs.validate.Kinds as validate
 use Rattle.utf8.proofs.validate.Reads as validate-reads
@@ -33,8 +33,8 @@ use Rattle.utf8.proofs.char_number.Kinds as char-number
 use Rattle.utf8.proofs.char_number.Reads as char-number-reads
 use Rattle.utf8.proofs.char_at.Kinds as char-at
 use Rattle.utf8.proofs.char_at.Reads as char-at-reads
-use Rattle.utf8.proofs.refused_by.Kinds as refused-by
-use Rattle.utf8.proofs.refused_by.Reads as refused-by-reads
+use Rattle.utf8.proofs.not_admitted.Kinds as not-admitted
+use Rattle.utf8.proofs.not_admitted.Reads as not-admitted-reads
 use Rattle.utf8.proofs.not_written.Kinds as not-written
 use Rattle.utf8.proofs.not_written.Reads as not-written-reads
 
@@ -145,17 +145,17 @@ pub character-of-two-bytes-has-eleven-bits : char-at-gives (0xdf ∷ 0xbf ∷ []
 unfolding char-at-at
 character-of-two-bytes-has-eleven-bits = char-at-at _ _
 
-abbrev refused-by-gives : Admission → Refusal → Type 0
-refused-by-gives t v = Answers refused-by.ps refused-by.r refused-by-reads.Post (λ κs a. a .0 ≡ t) (λ κs. v)
+abbrev not-admitted-gives : Admission → Refusal → Type 0
+not-admitted-gives t v = Answers not-admitted.ps not-admitted.r not-admitted-reads.Post (λ κs a. a .0 ≡ t) (λ κs. v)
 
-refused-by-at : (t : Admission) → refused-by-gives t (refusedBy t)
-refused-by-at t κs a x e p h = p ∙ ap refusedBy h
+not-admitted-at : (t : Admission) → not-admitted-gives t (notAdmitted t)
+not-admitted-at t κs a x e p h = p ∙ ap notAdmitted h
 
-pub refusal-is-told-with-its-place : refused-by-gives (Refused (notUtf8 (place 3 2))) (notUtf8 (place 3 2))
-refusal-is-told-with-its-place = refused-by-at _
+pub refusal-is-told-with-its-place : not-admitted-gives (Refused (notUtf8 (place 3 2))) (notUtf8 (place 3 2))
+refusal-is-told-with-its-place = not-admitted-at _
 
-pub admitted-text-has-no-refusal : refused-by-gives (Admitted (count 1)) (atStart 0)
-admitted-text-has-no-refusal = refused-by-at _
+pub admitted-text-has-no-refusal : not-admitted-gives (Admitted (count 1)) (atStart 0)
+admitted-text-has-no-refusal = not-admitted-at _
 
 abbrev not-written-gives : Writing → Refusal → Type 0
 not-written-gives t v = Answers not-written.ps not-written.r not-written-reads.Post (λ κs a. a .0 ≡ t) (λ κs. v)

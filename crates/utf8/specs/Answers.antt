@@ -70,9 +70,9 @@ unfoldable pub admitted : ℕ → List ℕ → Admission
 admitted limit xs = cond (ltb limit (length xs)) (Refused tooLong) (admittedAs (validityOf xs))
 
 -- why a text is not taken up
-abbrev pub refusedBy : Admission → Refusal
-refusedBy (Admitted n) = noRefusal
-refusedBy (Refused r) = r
+abbrev pub notAdmitted : Admission → Refusal
+notAdmitted (Admitted n) = noRefusal
+notAdmitted (Refused r) = r
 
 -- the character that a list begins with, and the one that the bytes from an offset on begin with
 abbrev pub characterOf : List ℕ → Character

@@ -1,7 +1,7 @@
 -- Code points and their bytes: RFC 3629, section 3, "UTF-8 definition".
 use Prim.Native.Nat.{ℕ, _+_, _*_, _/_, _%_, _^_}
 use mathlib.Core.Bool.{Bool, cond, _&&_, _||_}
-use mathlib.Core.List.{List, [], _∷_}
+use mathlib.Core.List.{List, [], _∷_, _++_}
 use lib.Dec.{leb, ltb}
 use Rattle.scan.specs.Byte.{peekAt}
 
@@ -33,3 +33,8 @@ encoded c =
     (cond (leb c 0x7ff) ((0xc0 + c / 64) ∷ sixBits c ∷ [])
     (cond (leb c 0xffff) ((0xe0 + c / 64 ^ 2) ∷ sixBits (c / 64) ∷ sixBits c ∷ [])
     ((0xf0 + c / 64 ^ 3) ∷ sixBits (c / 64 ^ 2) ∷ sixBits (c / 64) ∷ sixBits c ∷ [])))
+
+-- and those of code points, one after the other
+abbrev pub textOf : List ℕ → List ℕ
+textOf [] = []
+textOf (c ∷ cs) = encoded c ++ textOf cs

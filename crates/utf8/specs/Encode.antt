@@ -1,21 +1,17 @@
--- What writing a code point answers, and what it leaves in the buffer: whether it is a character's is asked before the room is.
-use Prim.Native.Nat.{ℕ, _+_}
+-- What writing a code point at an offset of a lent buffer answers: whether it is a character's is asked before the room is.
+use Prim.Native.Nat.{ℕ, _-_}
 use mathlib.Core.Bool.{cond}
-use mathlib.Core.List.{List, _++_}
-use lib.Dec.{leb}
-use lib.ListN.{length, take, drop}
-use Rattle.utf8.specs.declared.encode.Encoding.{Encoding}
-use Rattle.utf8.specs.declared.encode.Encoding.the-variants.{Written, NotScalar, NoRoom}
+use Rattle.utf8.specs.declared.Refusal.{Refusal}
+use Rattle.utf8.specs.declared.Writing.{Writing}
+use Rattle.utf8.specs.declared.Writing.the-variants.{Refused}
 use Rattle.utf8.specs.Code.{isScalar, encoded}
+use Rattle.utf8.specs.Answers.{atStart}
+use Rattle.utf8.specs.Writing.{fitted}
 
--- how many bytes of a code point a buffer takes at an offset
-unfoldable pub encodingOf : ℕ → ℕ → ℕ → Encoding
-encodingOf c room at =
-    let n = length (encoded c) in
-    cond (isScalar c) (cond (leb (at + n) room) (Written n) NoRoom) NotScalar
+-- document 01 has no row for a code point that is no character's: it has the number of a bad literal, which an escape of one makes
+abbrev pub notScalar : Refusal
+notScalar = atStart 40
 
--- what the buffer holds then
-abbrev pub leftBy : Encoding → ℕ → ℕ → List ℕ → List ℕ
-leftBy (Written n) c at d = take at d ++ encoded c ++ drop (at + n) d
-leftBy NotScalar c at d = d
-leftBy NoRoom c at d = d
+-- 40, or what the room from the offset on takes of its bytes
+unfoldable pub encodingOf : ℕ → ℕ → ℕ → Writing
+encodingOf c room at = cond (isScalar c) (fitted (room - at) (encoded c)) (Refused notScalar)

@@ -8,7 +8,7 @@ ghost use Rattle.utf8.specs.Table.{isTail, charLength};
 ghost use Rattle.utf8.specs.steps.Lead.{sizeBy, lowSecond, highSecond, withTails};
 ghost use Rattle.utf8.specs.Text.{charNumber};
 ghost use Rattle.utf8.specs.Code.{codeOf};
-ghost use Rattle.utf8.specs.Answers.{count, nextStart, validityOf, atStart, notUtf8By, admitted, refusedBy, characterAt};
+ghost use Rattle.utf8.specs.Answers.{count, nextStart, validityOf, atStart, notUtf8By, admitted, notAdmitted, characterAt};
 ghost use Rattle.utf8.specs.Writing.{notWritten};
 
 // How many bytes come before a place.
@@ -54,7 +54,7 @@ pub enum Admission {
     Refused(Refusal),
 }
 
-// How many bytes of a text were written at the front of a lent buffer, or why none were.
+// How many bytes of a text were written to a lent buffer, or why none were.
 pub enum Writing {
     Written(usize),
     Refused(Refusal),
@@ -73,50 +73,101 @@ pub enum Reading {
     Documented,
 }
 
+// The last bytes that begin a character of one byte, none, and one of two, of three and of four.
+const LAST_OF_ONE: usize = 0x7f;
+
+const LAST_OF_NONE: usize = 0xc1;
+
+const LAST_OF_TWO: usize = 0xdf;
+
+const LAST_OF_THREE: usize = 0xef;
+
+const LAST_OF_FOUR: usize = 0xf4;
+
+// The first bytes besides LAST_OF_FOUR whose second byte has bounds of its own, and those bounds: no character is written in more bytes
+// than it needs, none is a surrogate, and none is above 10FFFF.
+const FIRST_OF_THREE: usize = 0xe0;
+
+const BEFORE_SURROGATES: usize = 0xed;
+
+const FIRST_OF_FOUR: usize = 0xf0;
+
+const LOW_OF_THREE: u8 = 0xa0;
+
+const HIGH_BEFORE_SURROGATES: u8 = 0x9f;
+
+const LOW_OF_FOUR: u8 = 0x90;
+
+const HIGH_OF_FOUR: u8 = 0x8f;
+
+// The least and the greatest byte that goes on with a character.
+const LOW_TAIL: u8 = 0x80;
+
+const HIGH_TAIL: u8 = 0xbf;
+
+// How many values the bits have that a byte gives to a code point: one that goes on, and the first of one, two, three and four.
+const TAIL_BITS: usize = 64;
+
+const BITS_OF_ONE: usize = 128;
+
+const BITS_OF_TWO: usize = 32;
+
+const BITS_OF_THREE: usize = 16;
+
+const BITS_OF_FOUR: usize = 8;
+
 // How many bytes a character has that begins with a, or 0 where none does.
 fn size_by(a: usize) -> usize
     ensures { λ r. ⌜ r ≡ sizeBy a ⌝ }
 {
-    if a <= 0x7f {
+    if a <= LAST_OF_ONE {
         return 1;
     }
-    if a <= 0xc1 {
+    if a <= LAST_OF_NONE {
         return 0;
     }
-    if a <= 0xdf {
+    if a <= LAST_OF_TWO {
         return 2;
     }
-    if a <= 0xef {
+    if a <= LAST_OF_THREE {
         return 3;
     }
-    if a <= 0xf4 { 4 } else { 0 }
+    if a <= LAST_OF_FOUR { 4 } else { 0 }
 }
 
 // The least second byte after the first byte a.
 fn low_second(a: usize) -> u8
     ensures { λ r. ⌜ r ≡ lowSecond a ⌝ }
 {
-    if a == 0xe0 {
-        return 0xa0;
+    if a == FIRST_OF_THREE {
+        return LOW_OF_THREE;
     }
-    if a == 0xf0 { 0x90 } else { 0x80 }
+    if a == FIRST_OF_FOUR {
+        LOW_OF_FOUR
+    } else {
+        LOW_TAIL
+    }
 }
 
 // The greatest second byte after the first byte a.
 fn high_second(a: usize) -> u8
     ensures { λ r. ⌜ r ≡ highSecond a ⌝ }
 {
-    if a == 0xed {
-        return 0x9f;
+    if a == BEFORE_SURROGATES {
+        return HIGH_BEFORE_SURROGATES;
     }
-    if a == 0xf4 { 0x8f } else { 0xbf }
+    if a == LAST_OF_FOUR {
+        HIGH_OF_FOUR
+    } else {
+        HIGH_TAIL
+    }
 }
 
 // A byte that goes on with a character.
 fn is_tail(c: usize) -> bool
     ensures { λ r. ⌜ r ≡ isTail c ⌝ }
 {
-    byte::is_within(0x80, 0xbf, c)
+    byte::is_within(LOW_TAIL, HIGH_TAIL, c)
 }
 
 // The size n of a character where its third byte and its fourth, so far as it has them, go on with it, else 0.
@@ -224,8 +275,8 @@ pub fn admit(text: &[u8], limit: usize) -> Admission
 }
 
 // Why a text is not taken up; where it is, a refusal of no number.
-pub fn refused_by(a: Admission) -> Refusal
-    ensures { λ r. ⌜ r ≡ refusedBy a ⌝ }
+pub fn not_admitted(a: Admission) -> Refusal
+    ensures { λ r. ⌜ r ≡ notAdmitted a ⌝ }
 {
     let Admission::Refused(r) = a else {
         return at_start(NO_REFUSAL);
@@ -257,18 +308,19 @@ fn code_of(s: &[u8], n: usize) -> u32
 {
     let a = byte::peek(s, 0);
     if n <= 1 {
-        return (a % 128) as u32;
+        return (a % BITS_OF_ONE) as u32;
     }
     let b = byte::peek(s, 1);
     if n <= 2 {
-        return (a % 32 * 64 + b % 64) as u32;
+        return (a % BITS_OF_TWO * TAIL_BITS + b % TAIL_BITS) as u32;
     }
     let c = byte::peek(s, 2);
     if n <= 3 {
-        return ((a % 16 * 64 + b % 64) * 64 + c % 64) as u32;
+        return ((a % BITS_OF_THREE * TAIL_BITS + b % TAIL_BITS) * TAIL_BITS + c % TAIL_BITS) as u32;
     }
     let d = byte::peek(s, 3);
-    (((a % 8 * 64 + b % 64) * 64 + c % 64) * 64 + d % 64) as u32
+    (((a % BITS_OF_FOUR * TAIL_BITS + b % TAIL_BITS) * TAIL_BITS + c % TAIL_BITS) * TAIL_BITS
+        + d % TAIL_BITS) as u32
 }
 
 // The character that the bytes from an offset on begin with, whatever stands before it.

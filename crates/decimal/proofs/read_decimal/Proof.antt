@@ -11,7 +11,7 @@ use borrow.Author.Tests.{lt-ltb, not-true, not-false}
 use Rattle.scan.specs.Ascii.{ascii}
 use Rattle.scan.specs.Byte.{lowered}
 use Rattle.scan.specs.Text.{sameText}
-use Rattle.utf8.proofs.Chars.{rest-of}
+use Rattle.proving.proofs.Lists.{rest-of}
 use Rattle.decimal.specs.declared.Decimal.the-variants.{NotDecimal, Named}
 use Rattle.scan.specs.Sign.{isMinus}
 use Rattle.decimal.specs.Grammar.{wholeFrom, isNumeral, isInfinite, isNan}

@@ -5,7 +5,7 @@ use lib.Dec.{leb}
 use lib.ListN.{length}
 use borrow.Author.Tests.{leb-true}
 use Rattle.proving.proofs.Choice.{either}
-use Rattle.utf8.proofs.Bounds as within
+use Rattle.utf8.specs.laws.Bounds as within
 use Rattle.duration.specs.declared.span.Duration.{Duration}
 use Rattle.duration.specs.Unit.{nanosASecond}
 use Rattle.duration.specs.declared.display.Displaying.{Displaying}

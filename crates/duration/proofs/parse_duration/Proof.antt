@@ -9,7 +9,7 @@ use borrow.Author.Tests.{eq-eqb, ne-eqb}
 use Rattle.scan.specs.Ascii.{ascii}
 use Rattle.scan.specs.Text.{sameText}
 use Rattle.utf8.specs.declared.Admission.{Admission}
-use Rattle.utf8.specs.Answers.{admitted, refusedBy}
+use Rattle.utf8.specs.Answers.{admitted, notAdmitted}
 use Rattle.decimal.specs.Value.{longest, decimalOf}
 use Rattle.duration.specs.declared.Timing.the-variants.{Refused}
 use Rattle.duration.specs.Duration.{emptyText, zeroDuration, decimalRead, durationRead, timingFor, timingOf}
@@ -26,8 +26,8 @@ enum-told c = search needs
 enum-told-2 : tie.Need-enum-told-2
 enum-told-2 c = search needs
 
-refused-by-requires : tie.Need-refused-by-requires
-refused-by-requires c κs = search needs
+not-admitted-requires : tie.Need-not-admitted-requires
+not-admitted-requires c κs = search needs
 
 module _ (xs : List ℕ) where
   by-admission : (a : Admission) → admitted longest xs ≡ a → timingFor a xs ≡ timingOf xs
@@ -51,7 +51,7 @@ returns : tie.Need-returns
 returns c =
     let x = now (c .before .before .before .before .before .args .s) in
     let e = c .before .enum-told2 .given .1 in
-    ap Refused (c .refused-by .ensures ∙ ap refusedBy e) ∙ by-admission x _ (sym (c .before .before .before .admit .ensures) ∙ e)
+    ap Refused (c .not-admitted .ensures ∙ ap notAdmitted e) ∙ by-admission x _ (sym (c .before .before .before .admit .ensures) ∙ e)
 
 module _ (c : tie.After-enum-told) where
   abbrev text : List ℕ
@@ -91,7 +91,7 @@ parse-duration-spec =
     admit-requires
     enum-told
     enum-told-2
-    refused-by-requires
+    not-admitted-requires
     returns
     refused-requires
     returns-2

@@ -7,7 +7,7 @@ use mathlib.Core.Path.{_≡_}
 use borrow.Author.Tests.{le-leb, lt-leb}
 use Rattle.utf8.specs.declared.Refusal.{Refusal}
 use Rattle.utf8.specs.Answers.{textLimit}
-use Rattle.utf8.proofs.Bounds.{Placed}
+use Rattle.utf8.specs.laws.Bounds.{Placed}
 use Rattle.exports.specs.Packed.{refusedFrom, numberLimit, packedOf, Packable}
 use Rattle.exports.specs.laws.Codes.{NothingLost, looksRefused, PackedTold}
 

@@ -16,7 +16,7 @@ use Rattle.utf8.specs.Table.{fits, sizeIn, charLength}
 use Rattle.utf8.specs.Code.{isScalar, codeOf, sixBits, encoded}
 use Rattle.utf8.specs.Text.{charsPast, sizeOf}
 use Rattle.utf8.specs.Answers.{textLimit, validityOf, admitted, characterAt}
-use Rattle.utf8.specs.laws.Characters.{isAscii}
+use Rattle.utf8.specs.laws.Ascii.{isAscii}
 use Rattle.utf8.proofs.Ascii.{ascii-text}
 use Rattle.string.specs.declared.escape.Escaping.the-variants.{Written}
 use Rattle.string.specs.Escape.{letterOf, orLetter, escapedCodes, escaped, escapingOf, leftBy}

@@ -1,4 +1,4 @@
--- The laws of texts in `specs/Laws`: an accepted answer is at most a text's bytes, well below bit 63, and a refusal's place lies within
+-- The laws of texts in `specs/laws/Codes`: an accepted answer is at most a text's bytes, well below bit 63, and a refusal's place lies within
 -- the text, by the bounds of the answers of `utf8` and `encode`.
 use Prim.Native.Nat.{_<_}
 use native.Mathlib.Omega.{arith}
@@ -11,15 +11,17 @@ use Rattle.utf8.specs.declared.Admission.{Admission}
 use Rattle.utf8.specs.declared.Admission.the-variants.{Admitted, Refused}
 use Rattle.utf8.specs.declared.Character.{Character}
 use Rattle.utf8.specs.declared.Character.the-variants.{Scalar, Nothing, IllFormed}
-use Rattle.utf8.specs.declared.encode.Encoding.{Encoding}
-use Rattle.utf8.specs.declared.encode.Encoding.the-variants.{Written, NotScalar, NoRoom}
+use Rattle.utf8.specs.declared.Writing.{Writing}
+use Rattle.utf8.specs.declared.Writing.the-variants as writing
 use Rattle.utf8.specs.Answers.{placeAt, textLimit, tooLong, notUtf8, admitted, characterAt}
 use Rattle.utf8.specs.Encode.{encodingOf}
-use Rattle.utf8.proofs.Bounds.{Bounded, admitted-bound, Within, character-within, number-bound}
-use Rattle.utf8.proofs.encode.Bounds.{AtMostFour, encoding-bound}
+use Rattle.utf8.specs.laws.Bounds.{Bounded}
+use Rattle.utf8.proofs.Bounds.{admitted-bound, character-within, number-bound}
+use Rattle.utf8.proofs.encode.Bounds.{encoding-bound}
 use Rattle.exports.specs.Packed.{packedOf}
-use Rattle.exports.specs.Utf8.{validateCode, characterCode, charAtCode, encodeCode}
-use Rattle.exports.specs.laws.Codes.{looksRefused, isNotAdmitted, ValidateTold, ValidateKept, isIllFormed, CharAtTold, CharAtKept, isUnwritten, EncodeTold, EncodeKept}
+use Rattle.exports.specs.Utf8.{validateCode, characterCode, charAtCode}
+use Rattle.exports.specs.Written.{writtenCode}
+use Rattle.exports.specs.laws.Codes.{looksRefused, isNotAdmitted, ValidateTold, ValidateKept, isIllFormed, CharAtTold, CharAtKept, isNotWritten, EncodeTold, EncodeKept}
 use Rattle.exports.proofs.packing.Laws.{small, packed-told, placed-kept}
 
 pub validate-told : ValidateTold
@@ -34,11 +36,11 @@ validate-kept xs r e = placed-kept (omega arith) (omega arith) (subst (Bounded t
 
 pub char-at-told : CharAtTold
 unfolding charAtCode
-char-at-told xs at = go (ltb textLimit (length xs)) refl (characterAt xs at) (character-within xs at)
+char-at-told xs at = go (ltb textLimit (length xs)) refl (characterAt xs at) refl
   where
-    go : (t : Bool) → ltb textLimit (length xs) ≡ t → (k : Character) → Within xs at k → looksRefused (cond t (packedOf tooLong) (characterCode xs at k)) ≡ t || isIllFormed k
+    go : (t : Bool) → ltb textLimit (length xs) ≡ t → (k : Character) → characterAt xs at ≡ k → looksRefused (cond t (packedOf tooLong) (characterCode xs at k)) ≡ t || isIllFormed k
     go true e k h = refl
-    go false e (Scalar c n) h = small n (omega (arith, ltb-false textLimit (length xs) e))
+    go false e (Scalar c n) h = small n (omega (arith, ltb-false textLimit (length xs) e, character-within xs at .0 c n h))
     go false e Nothing h = refl
     go false e IllFormed h = packed-told (notUtf8 (placeAt xs at))
 
@@ -46,17 +48,16 @@ pub char-at-kept : CharAtKept
 char-at-kept = (
   omega arith,
   λ xs at h e.
-      let inside : at < length xs = subst (Within xs at) e (character-within xs at) in
+      let inside : at < length xs = character-within xs at .1 e in
       omega (arith, number-bound xs at),
 )
 
 pub encode-told : EncodeTold
-encode-told c room at = go (encodingOf c room at) (encoding-bound c room at)
+encode-told c room at = go (encodingOf c room at) refl
   where
-    go : (k : Encoding) → AtMostFour k → looksRefused (encodeCode k) ≡ isUnwritten k
-    go (Written n) h = small n (omega arith)
-    go NotScalar h = refl
-    go NoRoom h = refl
+    go : (k : Writing) → encodingOf c room at ≡ k → looksRefused (writtenCode k) ≡ isNotWritten k
+    go (writing.Written n) e = small n (omega (arith, encoding-bound c room at n e))
+    go (writing.Refused r) e = packed-told r
 
 pub encode-kept : EncodeKept
 encode-kept = (omega arith, omega arith)

@@ -16,9 +16,11 @@ use Rattle.utf8.specs.Code.{isScalar, codeOf, sixBits, encoded}
 use Rattle.utf8.specs.Text.{charsPast, sizeOf, begunIn, charNumber}
 use Rattle.utf8.specs.Answers.{textLimit, validityOf, admitted, characterAt}
 use Rattle.utf8.proofs.Given.{given-exactly}
-use Rattle.utf8.specs.Encode.{encodingOf, leftBy}
+use Rattle.utf8.specs.Encode.{encodingOf}
+use Rattle.utf8.specs.Writing.{leftAt}
 use Rattle.exports.specs.Packed.{packedAs}
-use Rattle.exports.specs.Utf8.{validateCode, charAtCode, charAtLeft, encodeCode}
+use Rattle.exports.specs.Utf8.{validateCode, charAtCode, charAtLeft}
+use Rattle.exports.specs.Written.{writtenCode}
 use Rattle.exports.proofs.text.simmerpath_utf8_validate.Kinds as simmerpath-utf8-validate
 use Rattle.exports.proofs.text.simmerpath_utf8_validate.Reads as simmerpath-utf8-validate-reads
 use Rattle.exports.proofs.text.simmerpath_utf8_char_number.Kinds as simmerpath-utf8-char-number
@@ -115,7 +117,7 @@ abbrev simmerpath-utf8-encode-gives : ℕ → ℕ → ℕ → ℕ → Type 0
 simmerpath-utf8-encode-gives c room at v =
     Answers simmerpath-utf8-encode.ps simmerpath-utf8-encode.r simmerpath-utf8-encode-reads.Post (λ κs a. (a .0 ≡ c) × (length (now (a .1 .0)) ≡ room) × (a .1 .1 .0 ≡ at)) (λ κs. v)
 
-simmerpath-utf8-encode-at : (c room at : ℕ) → simmerpath-utf8-encode-gives c room at (encodeCode (encodingOf c room at))
+simmerpath-utf8-encode-at : (c room at : ℕ) → simmerpath-utf8-encode-gives c room at (writtenCode (encodingOf c room at))
 simmerpath-utf8-encode-at c room at κs a x e p h = cc (p .0, h .0, h .1, h .2)
 
 pub code-point-fits-just-its-bytes : simmerpath-utf8-encode-gives 0xe9 3 1 2
@@ -134,7 +136,7 @@ abbrev simmerpath-utf8-encode-leaves-out : ℕ → List ℕ → ℕ → List ℕ
 simmerpath-utf8-encode-leaves-out c out at v =
     Leaves simmerpath-utf8-encode.ps simmerpath-utf8-encode.r simmerpath-utf8-encode-reads.Post (λ κs a. (a .0 ≡ c) × (now (a .1 .0) ≡ out) × (a .1 .1 .0 ≡ at)) (λ κs e. now (e .1 .0)) v
 
-simmerpath-utf8-encode-left-out : (c : ℕ) (out : List ℕ) (at : ℕ) → simmerpath-utf8-encode-leaves-out c out at (leftBy (encodingOf c (length out) at) c at out)
+simmerpath-utf8-encode-left-out : (c : ℕ) (out : List ℕ) (at : ℕ) → simmerpath-utf8-encode-leaves-out c out at (leftAt at (encodingOf c (length out) at) (encoded c) out)
 simmerpath-utf8-encode-left-out c out at κs a x e p h = cc (p .1, h .0, h .1, h .2)
 
 pub bytes-go-where-they-were-to-go : simmerpath-utf8-encode-leaves-out (code "a") (ascii "...") 1 (ascii ".a.")

@@ -12,12 +12,14 @@ use Rattle.scan.specs.Text.{sameText}
 use Rattle.utf8.specs.Table.{fits, sizeIn, charLength}
 use Rattle.utf8.specs.Code.{codeOf}
 use Rattle.utf8.specs.Text.{charsPast, sizeOf}
+use Rattle.utf8.specs.Writing.{leftBy}
 use Rattle.token.specs.Kinds.{leftParen, eqlc, lor, topk, fill}
 use Rattle.token.specs.Words.{words, kindIn, keywordOf}
-use Rattle.token.specs.Display.{displays, textIn, displayOf, fitted, displayed, leftBy}
+use Rattle.token.specs.Display.{signs, ownKinds, displays, textIn, displayOf, displayed}
 use Rattle.token.specs.Label.{isLabel}
 use Rattle.exports.specs.Packed.{packedAs}
-use Rattle.exports.specs.Token.{keywordCode, displayCode, flag, classesCode}
+use Rattle.exports.specs.Token.{keywordCode, flag, classesCode}
+use Rattle.exports.specs.Written.{writtenCode}
 use Rattle.exports.proofs.tokens.simmerpath_get_keyword_token.Kinds as simmerpath-get-keyword-token
 use Rattle.exports.proofs.tokens.simmerpath_get_keyword_token.Reads as simmerpath-get-keyword-token-reads
 use Rattle.exports.proofs.tokens.simmerpath_token_display.Kinds as simmerpath-token-display
@@ -46,15 +48,15 @@ abbrev simmerpath-token-display-gives : ℕ → ℕ → ℕ → Type 0
 simmerpath-token-display-gives kind room v =
     Answers simmerpath-token-display.ps simmerpath-token-display.r simmerpath-token-display-reads.Post (λ κs a. (a .0 ≡ kind) × (length (now (a .1 .0)) ≡ room)) (λ κs. v)
 
-simmerpath-token-display-at : (kind room : ℕ) → simmerpath-token-display-gives kind room (displayCode (displayed room kind))
+simmerpath-token-display-at : (kind room : ℕ) → simmerpath-token-display-gives kind room (writtenCode (displayed room kind))
 simmerpath-token-display-at kind room κs a x e p h = cc (p .0, h .0, h .1)
 
 pub kind-fits-just-its-length : simmerpath-token-display-gives leftParen 1 1
-unfolding fitted textIn displays
+unfolding textIn displays signs ownKinds words
 kind-fits-just-its-length = simmerpath-token-display-at _ _
 
 pub no-room-is-refused : simmerpath-token-display-gives leftParen 0 (packedAs 3 0 0)
-unfolding fitted textIn displays
+unfolding textIn displays signs ownKinds words
 no-room-is-refused = simmerpath-token-display-at _ _
 
 abbrev simmerpath-token-display-leaves-out : ℕ → List ℕ → List ℕ → Type 0
@@ -65,11 +67,11 @@ simmerpath-token-display-left-out : (kind : ℕ) (out : List ℕ) → simmerpath
 simmerpath-token-display-left-out kind out κs a x e p h = cc (p .1, h .0, h .1)
 
 pub paren-is-not-shown-as-the-end : simmerpath-token-display-leaves-out leftParen (ascii "......") (ascii "(.....")
-unfolding fitted textIn displays
+unfolding textIn displays signs ownKinds words
 paren-is-not-shown-as-the-end = simmerpath-token-display-left-out _ _
 
 pub kind-without-room-leaves-the-buffer : simmerpath-token-display-leaves-out fill (ascii "...") (ascii "...")
-unfolding fitted textIn displays
+unfolding textIn displays signs ownKinds words
 kind-without-room-leaves-the-buffer = simmerpath-token-display-left-out _ _
 
 abbrev simmerpath-token-classes-gives : ℕ → ℕ → Type 0

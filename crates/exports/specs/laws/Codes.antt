@@ -13,11 +13,9 @@ use Rattle.utf8.specs.declared.Admission.the-variants as admission
 use Rattle.utf8.specs.declared.Character.{Character}
 use Rattle.utf8.specs.declared.Character.the-variants as character
 use Rattle.utf8.specs.Answers.{placeAt, textLimit, tooLong, noRoom, notUtf8, admitted, characterAt}
-use Rattle.utf8.specs.declared.encode.Encoding.{Encoding}
-use Rattle.utf8.specs.declared.encode.Encoding.the-variants as encoding
-use Rattle.utf8.specs.Encode.{encodingOf}
-use Rattle.token.specs.declared.Display.{Display}
-use Rattle.token.specs.declared.Display.the-variants as display
+use Rattle.utf8.specs.declared.Writing.{Writing}
+use Rattle.utf8.specs.declared.Writing.the-variants as writing
+use Rattle.utf8.specs.Encode.{notScalar, encodingOf}
 use Rattle.token.specs.Display.{displayed}
 use Rattle.string.specs.declared.escape.Escaping.{Escaping}
 use Rattle.string.specs.declared.escape.Escaping.the-variants as escaping
@@ -25,7 +23,7 @@ use Rattle.string.specs.Escape.{escapingOf}
 use Rattle.string.specs.declared.Unquoting.{Unquoting}
 use Rattle.string.specs.declared.Unquoting.the-variants as unquoting
 use Rattle.string.specs.laws.ReadBack.{isRead}
-use Rattle.string.specs.Literal.{unquotingOf, badLiteral}
+use Rattle.string.specs.Literal.{unquotingOf}
 use Rattle.number.specs.declared.Parsing.{Parsing}
 use Rattle.number.specs.declared.Parsing.the-variants as parsing
 use Rattle.number.specs.Number.{parsingOf}
@@ -40,12 +38,12 @@ use Rattle.lex.specs.declared.Lexing.{Lexing}
 use Rattle.lex.specs.declared.Lexing.the-variants as lexing
 use Rattle.lex.specs.Lex.{lexed}
 use Rattle.exports.specs.Packed.{refusedFrom, packedOf, Packable}
-use Rattle.exports.specs.Utf8.{validateCode, charAtCode, encodeCode}
-use Rattle.exports.specs.Token.{displayCode}
+use Rattle.exports.specs.Utf8.{validateCode, charAtCode}
 use Rattle.exports.specs.String.{escapeCode, innerFrom, unquoteCode}
 use Rattle.exports.specs.Number.{parseCode}
 use Rattle.exports.specs.Duration.{durationCode, displayingCode}
 use Rattle.exports.specs.Lexer.{lexerCode}
+use Rattle.exports.specs.Written.{writtenCode}
 
 -- packing loses nothing: refusals that fit their bits and are packed alike are one
 abbrev pub NothingLost : Type 0
@@ -84,25 +82,21 @@ CharAtKept =
     Packable tooLong
     × ((xs : List ℕ) (at : ℕ) → length xs ≤ textLimit → characterAt xs at ≡ character.IllFormed → Packable (notUtf8 (placeAt xs at)))
 
--- of `simmerpath_utf8_encode`
-abbrev pub isUnwritten : Encoding → Bool
-isUnwritten (encoding.Written n) = false
-isUnwritten encoding.NotScalar = true
-isUnwritten encoding.NoRoom = true
+-- of a text that is written
+abbrev pub isNotWritten : Writing → Bool
+isNotWritten (writing.Written n) = false
+isNotWritten (writing.Refused r) = true
 
+-- of `simmerpath_utf8_encode`
 abbrev pub EncodeTold : Type 0
-EncodeTold = (c room at : ℕ) → let e = encodingOf c room at in looksRefused (encodeCode e) ≡ isUnwritten e
+EncodeTold = (c room at : ℕ) → let e = encodingOf c room at in looksRefused (writtenCode e) ≡ isNotWritten e
 
 abbrev pub EncodeKept : Type 0
-EncodeKept = Packable badLiteral × Packable noRoom
+EncodeKept = Packable notScalar × Packable noRoom
 
 -- of `simmerpath_token_display`
-abbrev pub isNotShown : Display → Bool
-isNotShown (display.Length n) = false
-isNotShown display.NoRoom = true
-
 abbrev pub TokenDisplayTold : Type 0
-TokenDisplayTold = (room k : ℕ) → let d = displayed room k in looksRefused (displayCode d) ≡ isNotShown d
+TokenDisplayTold = (room k : ℕ) → let d = displayed room k in looksRefused (writtenCode d) ≡ isNotWritten d
 
 abbrev pub TokenDisplayKept : Type 0
 TokenDisplayKept = Packable noRoom

@@ -6,7 +6,7 @@ use mathlib.Core.Path.{_≡_, refl, sym, ap, ap₂, _∙_}
 use denote.Ref.{now}
 use lib.ListN.{length, drop, length-drop}
 use Rattle.scan.proofs.Edges.{edge-within}
-use Rattle.utf8.proofs.Chars.{rest-of}
+use Rattle.proving.proofs.Lists.{rest-of}
 use Rattle.token.specs.steps.WordRows.{keywordIn}
 use Rattle.munch.specs.declared.Mode.{Mode}
 use Rattle.munch.specs.declared.Step.{Step}
@@ -118,7 +118,7 @@ enum-known-s-4 : tie.Need-enum-known-s-4 Inv-loop μ-loop
 enum-known-s-4 c = search needs
 
 add-place : tie.Need-add-place Inv-loop μ-loop
-add-place c = omega (arith, edge-within (goes (c .before .before .before) (c .before .s4 .given .1)), length-drop (from (c .before .before .before)) (bytes (c .before .before .before)), c .before .before .before .before .before .loop .inv .0)
+add-place c = omega (arith, edge-within _ _ (goes (c .before .before .before) (c .before .s4 .given .1)), length-drop (from (c .before .before .before)) (bytes (c .before .before .before)), c .before .before .before .before .before .loop .inv .0)
 
 returns : tie.Need-returns Inv-loop μ-loop
 unfolding readFrom tallied

@@ -2,7 +2,7 @@
 use native.Mathlib.Omega.{arith}
 use mathlib.Core.Path.{_≡_, sym, ap, _∙_}
 use denote.Ref.{now}
-use Rattle.utf8.specs.Answers.{textLimit, refusedBy}
+use Rattle.utf8.specs.Answers.{textLimit, notAdmitted}
 use Rattle.utf8.proofs.Given.{admitted-text}
 use Rattle.lex.specs.declared.Tally.{Tally}
 use Rattle.lex.specs.declared.Lexing.the-variants.{Refused}
@@ -20,14 +20,14 @@ enum-told c = search needs
 enum-told-2 : tie.Need-enum-told-2
 enum-told-2 c = search needs
 
-refused-by-requires : tie.Need-refused-by-requires
-refused-by-requires c κs = search needs
+not-admitted-requires : tie.Need-not-admitted-requires
+not-admitted-requires c κs = search needs
 
 returns : tie.Need-returns
 unfolding measured
 returns c =
     let e = c .before .enum-told2 .given .1 in
-    rw (← c .before .before .before .admit .ensures, e) (ap Refused (c .refused-by .ensures ∙ ap refusedBy e))
+    rw (← c .before .before .before .admit .ensures, e) (ap Refused (c .not-admitted .ensures ∙ ap notAdmitted e))
 
 words-requires : tie.Need-words-requires
 words-requires c κs = search needs
@@ -70,7 +70,7 @@ measure-spec =
     admit-requires
     enum-told
     enum-told-2
-    refused-by-requires
+    not-admitted-requires
     returns
     words-requires
     slice-aggregate-count-lexemes

@@ -7,7 +7,7 @@ use mathlib.Core.Path.{_≡_, sym, _∙_}
 use lib.ListN.{length, drop, length-drop}
 use borrow.Author.Needs.{needs}
 use denote.Ref.{now}
-use Rattle.utf8.proofs.Chars.{rest-of}
+use Rattle.proving.proofs.Lists.{rest-of}
 use Rattle.munch.specs.declared.Mode.{Mode}
 use Rattle.munch.specs.declared.Step.{Step}
 use Rattle.munch.specs.Munch.{munched}

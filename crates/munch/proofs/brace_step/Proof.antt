@@ -1,9 +1,10 @@
 -- Each arm is the clause of the definition for what begins here.
 use native.Mathlib.Omega.{arith}
-use mathlib.Core.Path.{_≡_, sym, ap, subst, _∙_}
+use mathlib.Core.Path.{_≡_, refl, sym, ap, subst, _∙_}
 use denote.Ref.{now}
-use Rattle.scan.specs.Byte.{peekAt, isAlpha}
-use Rattle.scan.proofs.Edges.{ascii-inside, alpha-ascii}
+use Rattle.scan.specs.declared.byte.Class.the-variants.{Alpha}
+use Rattle.scan.specs.Byte.{peekAt, isAlpha, isIn}
+use Rattle.scan.proofs.Edges.{ascii-inside, class-ascii}
 use Rattle.munch.specs.declared.lead.BraceLead.{BraceLead}
 use Rattle.munch.specs.Lead.{braceLeadOf}
 use Rattle.munch.specs.laws.Lead.{BraceBegun}
@@ -36,7 +37,7 @@ enum-told : tie.Need-enum-told
 enum-told c = search needs
 
 brace-word-requires : tie.Need-brace-word-requires
-brace-word-requires c κs = begun-inside isAlpha alpha-ascii (now (c .before .before .before .before .before .before .args .s)) (known (c .before .before) (c .enum-told .given .1))
+brace-word-requires c κs = unfold isIn in begun-inside isAlpha (class-ascii Alpha refl) (now (c .before .before .before .before .before .before .args .s)) (known (c .before .before) (c .enum-told .given .1))
 
 enum-told-2 : tie.Need-enum-told-2
 enum-told-2 c = search needs

@@ -3,7 +3,7 @@ use native.Mathlib.Omega.{arith}
 use mathlib.Core.Path.{_≡_, ap, _∙_}
 use denote.Ref.{now}
 use lib.ListN.{drop, length-drop}
-use Rattle.utf8.proofs.Chars.{rest-of}
+use Rattle.proving.proofs.Lists.{rest-of}
 use Rattle.quoted.specs.Quoted.{commentEnd}
 use Rattle.quoted.proofs.Comments.{comment-few}
 use Rattle.munch.specs.declared.Step.the-variants.{Comment}

@@ -8,10 +8,11 @@ use mathlib.Core.Logic.{_⊎_, inl, inr}
 use mathlib.Core.Path.{_≡_, refl, ap, _∙_}
 use lib.Dec.{eqb}
 use borrow.Author.Tests.{eqb-true, ne-eqb}
-use Rattle.scan.specs.Byte.{end, peekAt, isWithin, isSpace, isAlpha, isDigit}
+use Rattle.scan.specs.declared.byte.Class.the-variants.{Alpha}
+use Rattle.scan.specs.Byte.{end, peekAt, isWithin, isSpace, isAlpha, isDigit, isIn}
 use Rattle.proving.proofs.Choice.{either}
 use Rattle.scan.proofs.byte.Classes.{within-bounds, below-not}
-use Rattle.scan.proofs.Edges.{ascii-inside, one-ascii, or-ascii, alpha-ascii}
+use Rattle.scan.proofs.Edges.{ascii-inside, class-ascii, one-ascii, or-ascii}
 use Rattle.proving.proofs.Tests.{tests-or, tests-eq}
 use Rattle.munch.specs.Lead.{isQuote, symbolOf, leadOf, braceSymbolOf, braceLeadOf, bracketSymbolOf, bracketLeadOf}
 use Rattle.munch.specs.laws.Lead.{isWordStart, Begun, BraceBegun, BracketBegun, LeadBegun, BraceLeadBegun, BracketLeadBegun, DigitLead, QuoteLead, QuoteBraceLead, StartAscii, QuoteAscii, BegunInside}
@@ -108,10 +109,11 @@ digit-lead c e =
     (rw (ne-eqb c 9 (omega arith), ne-eqb c 10 (omega arith), ne-eqb c 12 (omega arith), ne-eqb c 13 (omega arith), ne-eqb c 32 (omega arith), e))
 
 pub start-ascii : StartAscii
-start-ascii = or-ascii alpha-ascii (one-ascii (code ":") (omega arith))
+unfolding isIn
+start-ascii = or-ascii _ _ (class-ascii Alpha refl) (one-ascii (code ":") (omega arith))
 
 pub quote-ascii : QuoteAscii
-quote-ascii = or-ascii (one-ascii (code "\"") (omega arith)) (or-ascii (one-ascii (code "'") (omega arith)) (one-ascii (code "`") (omega arith)))
+quote-ascii = or-ascii _ _ (one-ascii (code "\"") (omega arith)) (or-ascii _ _ (one-ascii (code "'") (omega arith)) (one-ascii (code "`") (omega arith)))
 
 pub begun-inside : BegunInside
 begun-inside p a xs e = ascii-inside xs 0 (a (peekAt xs 0) e)

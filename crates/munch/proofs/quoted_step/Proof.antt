@@ -5,9 +5,9 @@ use mathlib.Core.Path.{_≡_, sym, ap, ap₂, subst, _∙_}
 use denote.Ref.{now}
 use lib.ListN.{drop, length-drop}
 use Rattle.scan.specs.Byte.{end, peekAt}
-use Rattle.scan.proofs.byte.Classes.{getD-any}
+use Rattle.proving.proofs.Lists.{getD-any}
 use Rattle.scan.proofs.Edges.{edge-within}
-use Rattle.utf8.proofs.Chars.{rest-of}
+use Rattle.proving.proofs.Lists.{rest-of}
 use Rattle.token.specs.Kinds.{string}
 use Rattle.quoted.specs.declared.Quoted.{Quoted}
 use Rattle.quoted.specs.Quoted.{quotedOf}
@@ -55,7 +55,7 @@ enum-told c = search needs
 
 string-refused-requires : tie.Need-string-refused-requires
 string-refused-requires c κs =
-    λ r n e. omega (arith, edge-within (lies (c .before .before) e), length-drop 1 (now (c .before .before .before .before .before .before .args .s)))
+    λ r n e. omega (arith, edge-within _ _ (lies (c .before .before) e), length-drop 1 (now (c .before .before .before .before .before .before .args .s)))
 
 returns : tie.Need-returns
 unfolding quotedStep
@@ -64,7 +64,7 @@ returns c =
     c .string-refused .ensures ∙ rw (e, ← there (c .before .before .before), e)
 
 add-lexeme : tie.Need-add-lexeme
-add-lexeme c = omega (arith, edge-within (lies (c .before .before .before) (c .before .q .given .1) .1), length-drop 1 (now (c .before .before .before .before .before .before .before .args .s)))
+add-lexeme c = omega (arith, edge-within _ _ (lies (c .before .before .before) (c .before .q .given .1) .1), length-drop 1 (now (c .before .before .before .before .before .before .before .args .s)))
 
 lexeme-requires : tie.Need-lexeme-requires
 lexeme-requires c κs = search needs

@@ -5,7 +5,7 @@ use mathlib.Core.List.{List}
 use Rattle.proving.proofs.Choice.{either}
 use Rattle.token.specs.declared.Keyword.{Keyword}
 use Rattle.token.specs.declared.Keyword.the-variants.{Kind, Nothing}
-use Rattle.token.proofs.Fits.{Fits}
+use Rattle.token.specs.laws.Words.{KindFits}
 use Rattle.munch.specs.declared.word.Rule.{Rule}
 use Rattle.munch.specs.Word.{isFill, hasColon, isCalled, ruleBy, isOr, braceRule, kindBy}
 
@@ -14,7 +14,7 @@ abbrev Small : Rule → Type 0
 Small r = kindBy r < 2 ^ 16
 
 module _ (xs : List ℕ) (n : ℕ) where
-  pub word-fits : (k : Keyword) → Fits k → Small (ruleBy k xs n)
+  pub word-fits : (k : Keyword) → KindFits k → Small (ruleBy k xs n)
   unfolding kindBy ruleBy
   word-fits (Kind k) h = either Small (isFill k) (λ e. either Small (isCalled xs n) (λ f. h) (λ f. omega arith)) (λ e. h)
   word-fits Nothing h = either Small (hasColon xs n) (λ e. omega arith) (λ e. omega arith)

@@ -12,7 +12,7 @@ use denote.Enum.Declared.{tagOf}
 use denote.Ref.{now}
 use borrow.Author.Needs.{needs}
 use Rattle.scan.specs.Byte.{end, peekAt}
-use Rattle.scan.proofs.byte.Classes.{getD-any}
+use Rattle.proving.proofs.Lists.{getD-any}
 use Rattle.proving.proofs.Stores.{sets-join}
 use Rattle.utf8.specs.declared.Character.{Character}
 use Rattle.utf8.specs.declared.Character.the-variants.{Scalar, Nothing, IllFormed}

@@ -12,7 +12,7 @@ use denote.Ref.{now}
 use borrow.Author.Tests.{eq-eqb, ne-eqb, not-true, not-false}
 use Rattle.scan.specs.Byte.{peekAt}
 use Rattle.scan.proofs.Runs.{peek-inside}
-use Rattle.utf8.proofs.Chars.{rest-of}
+use Rattle.proving.proofs.Lists.{rest-of}
 use Rattle.decimal.specs.declared.Notation.the-variants.{Hex, Octal}
 use Rattle.scan.specs.Sign.{isMinus}
 use Rattle.number.specs.declared.Parsing.the-variants.{Refused}

@@ -8,7 +8,7 @@ use lib.Seq.{sets, length-sets}
 use denote.Ref.{now}
 use Rattle.proving.proofs.Stores.{written-front}
 use Rattle.utf8.specs.declared.Admission.{Admission}
-use Rattle.utf8.specs.Answers.{admitted, refusedBy}
+use Rattle.utf8.specs.Answers.{admitted, notAdmitted}
 use Rattle.utf8.specs.laws.Refusals.{Taken}
 use Rattle.utf8.proofs.Given.{admitted-text}
 use Rattle.decimal.specs.Value.{longest}
@@ -29,8 +29,8 @@ enum-told c = search needs
 enum-told-2 : tie.Need-enum-told-2
 enum-told-2 c = search needs
 
-refused-by-requires : tie.Need-refused-by-requires
-refused-by-requires c κs = search needs
+not-admitted-requires : tie.Need-not-admitted-requires
+not-admitted-requires c κs = search needs
 
 by-admission : (xs : List ℕ) (a : Admission) → admitted longest xs ≡ a → parsingBy a (plainText xs) ≡ parsingOf xs
 unfolding parsingOf
@@ -40,7 +40,7 @@ returns : tie.Need-returns
 returns c =
     let x = now (c .before .before .before .before .before .args .s) in
     let e = c .before .enum-told2 .given .1 in
-    ap Refused (c .refused-by .ensures ∙ ap refusedBy e) ∙ by-admission x _ (sym (c .before .before .before .admit .ensures) ∙ e)
+    ap Refused (c .not-admitted .ensures ∙ ap notAdmitted e) ∙ by-admission x _ (sym (c .before .before .before .admit .ensures) ∙ e)
 
 module _ (c : tie.After-enum-told) where
   abbrev text : List ℕ
@@ -99,7 +99,7 @@ parse-str-radix-spec =
     admit-requires
     enum-told
     enum-told-2
-    refused-by-requires
+    not-admitted-requires
     returns
     keep-requires
     array-share-prefix-buf

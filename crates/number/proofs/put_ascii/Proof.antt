@@ -5,7 +5,7 @@ use mathlib.Core.List.{[], _∷_}
 use mathlib.Core.Path.{_≡_, refl, sym, ap, _∙_}
 use lib.ListN.{length}
 use borrow.Author.Needs.{needs}
-use Rattle.scan.proofs.byte.Classes.{lowered-ascii}
+use Rattle.scan.proofs.byte.Classes.{lowered-below}
 use Rattle.number.specs.White.{keptBytes}
 use Rattle.number.proofs.Kept.{white-kept, ascii-kept}
 use Rattle.number.proofs.put_ascii.Statement.{statement}
@@ -32,7 +32,7 @@ module _ (c : tie.After-lowered) where
       ∙ ap (λ (x : ℕ). x ∷ []) (sym (c .lowered .ensures))
 
 cast-out : tie.Need-cast-out
-cast-out c = omega (arith, c .lowered .ensures, lowered-ascii (a c .args .byte) (a c .pre .0))
+cast-out c = omega (arith, c .lowered .ensures, lowered-below (a c .args .byte) 0x80 (omega arith) (a c .pre .0))
 
 slice-write-out : tie.Need-slice-write-out
 slice-write-out c = omega (arith, a c .pre .1, ap length (kept c))

@@ -1,24 +1,19 @@
 -- Nothing is written of white space. Any other character has room in lower case, and so is encoded.
 use Prim.Native.Nat.{ℕ, _+_, _^_, _≤_}
 use native.Mathlib.Omega.{arith}
-use mathlib.Core.List.{[], _∷_}
-use mathlib.Core.Logic.{⊎-elim}
-use mathlib.Core.Path.{_≡_, refl, sym, ap, subst, _∙_}
+use mathlib.Core.Path.{_≡_, refl, sym, ap, _∙_}
 use lib.ListN.{length}
-use lib.Seq.{sets-eq}
-use types.Run.{OneOf}
-use denote.Enum.Declared.{tagOf}
 use denote.Ref.{now}
 use borrow.Author.Needs.{needs}
 use Rattle.scan.specs.Byte.{lowered}
-use Rattle.utf8.specs.declared.encode.Encoding.{Encoding}
-use Rattle.utf8.specs.declared.encode.Encoding.the-variants.{Written}
+use Rattle.scan.proofs.byte.Classes.{lowered-below}
+use Rattle.utf8.specs.declared.Writing.{Writing}
+use Rattle.utf8.specs.declared.Writing.the-variants.{Written}
 use Rattle.utf8.specs.Code.{isScalar, encoded}
-use Rattle.utf8.specs.Encode.{leftBy}
-use Rattle.utf8.proofs.encode.Bounds.{encoding-fits}
-use Rattle.utf8.proofs.encode.Encoding as encoding
+use Rattle.utf8.specs.Writing.{leftAt}
+use Rattle.utf8.proofs.encode.Bounds.{encoding-fits, written-sets}
 use Rattle.number.specs.White.{keptBytes}
-use Rattle.number.proofs.Kept.{white-kept, other-kept, lowered-scalar, lowered-below}
+use Rattle.number.proofs.Kept.{white-kept, other-kept, lowered-scalar}
 use Rattle.number.proofs.put_kept.Statement.{statement}
 use Rattle.number.proofs.put_kept.Tie as tie
 
@@ -43,6 +38,9 @@ encode-requires c κs = search needs
 
 enum-known-e : tie.Need-enum-known-e
 enum-known-e c = search needs
+
+enum-told : tie.Need-enum-told
+enum-told c = search needs
 
 same-length : tie.Need-same-length
 same-length c = search needs
@@ -71,8 +69,8 @@ module _ (c : tie.After-encode) where
 
 returns-2 : tie.Need-returns-2
 returns-2 c =
-    let other = subst (λ (e : Encoding). OneOf (1 ∷ 2 ∷ []) (tagOf encoding.the-type e)) (written (c .before .before .before)) (c .match .keys2) in
-    absurd (⊎-elim (λ e. omega arith) (λ e. omega arith) other)
+    let e = sym (c .enum-told .given .1) ∙ written (c .before .before .before .before) in
+    let z : _≡_ {A = ℕ} 0 1 = cc in absurd (omega arith)
 
 size : (c : tie.After-known-told) → c .before .e .given .0 .0 ≡ length (encoded (small (c .before .before .before .before .before)))
 size c = let e = sym (c .before .e .given .1) ∙ written (c .before .before .before .before .before) in cc
@@ -87,7 +85,7 @@ returns-3 : tie.Need-returns-3
 returns-3 c =
     let d = c .before .before .before .before .before in
     let out = now (a d .args .out) in
-    rw (size c, its d) (refl, d .encode .ensures .1 ∙ ap (λ (e : Encoding). leftBy e (small d) (a d .args .at) out) (written d) ∙ sym (sets-eq (encoded (small d)) out (a d .args .at) (fits d)))
+    rw (size c, its d) (refl, d .encode .ensures .1 ∙ ap (λ (e : Writing). leftAt (a d .args .at) e (encoded (small d)) out) (written d) ∙ written-sets (encoded (small d)) out (a d .args .at) (fits d))
 
 pub put-kept-spec : {M : Type 1} → statement M
 put-kept-spec =
@@ -99,6 +97,7 @@ put-kept-spec =
     cast-encode
     encode-requires
     enum-known-e
+    enum-told
     same-length
     returns-2
     add-result

@@ -7,7 +7,7 @@ use mathlib.Core.Path.{_≡_, sym, ap, ap₂, _∙_}
 use lib.ListN.{length, take, drop, length-drop}
 use denote.Ref.{now}
 use borrow.Author.Tests.{lt-ltb, le-ltb, not-true, not-false}
-use Rattle.utf8.proofs.Chars.{rest-of}
+use Rattle.proving.proofs.Lists.{rest-of}
 use Rattle.decimal.specs.declared.Notation.{Notation}
 use Rattle.scan.specs.Sign.{isMinus}
 use Rattle.decimal.specs.Value.{radixOf, valueIn, mostTold}

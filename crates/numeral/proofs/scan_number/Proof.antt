@@ -6,10 +6,11 @@ use mathlib.Core.Path.{_≡_, sym, ap, _∙_}
 use denote.Ref.{now}
 use borrow.Author.Tests.{ne-eqb, not-true, not-false}
 use Rattle.scan.specs.Byte.{isAlpha}
-use Rattle.scan.proofs.Edges.{ascii-inside, alpha-ascii}
+use Rattle.scan.proofs.Edges.{ascii-inside}
 use Rattle.proving.proofs.Ways.{ways}
 use Rattle.numeral.specs.Numeral.{isFirstUnit, numeralOf}
 use borrow.Author.Needs.{needs}
+use Rattle.numeral.proofs.Within.{alpha-ascii}
 use Rattle.numeral.proofs.scan_number.Statement.{statement}
 use Rattle.numeral.proofs.scan_number.Tie as tie
 

@@ -1,26 +1,18 @@
--- Laws of what stands at a place and of classes: which default a read takes does not matter within the list, no class has the end,
--- and a digit stands for less than 16, by the bounds of each test.
-use Prim.Native.Nat.{ℕ, zero, suc, _<_, _≤_}
+-- Laws of the tests of bytes: no class has the end, and a digit stands for less than 16, by the bounds of each test.
+use Prim.Native.Nat.{ℕ, _<_, _≤_}
 use Prim.Native.Char.{code}
-use native.Mathlib.Nat.{le-of-suc-le-suc, not-suc-le-zero}
 use native.Mathlib.Omega.{arith}
 use mathlib.Core.Bool.{Bool, true, false, _||_, and-false}
-use mathlib.Core.List.{List, [], _∷_, map}
 use mathlib.Core.Path.{_≡_, refl}
 use lib.Dec.{leb, ltb}
-use lib.ListN.{length, getD, List·getD-map}
+use lib.ListN.{List·getD-map}
 use borrow.Author.Tests.{le-leb, lt-leb, leb-true}
-use Rattle.scan.specs.declared.byte.Class.{Class}
 use Rattle.scan.specs.declared.byte.Class.the-variants.{Space, Alpha, Digit, HexDigit, AlphaNumeric, Word, Line}
-use Rattle.scan.specs.Byte.{end, isWithin, isSpace, isAlpha, isDigit, isHexDigit, digitOf, isDigitIn, lowered, isAlphaNumeric, isWord, isLine, isIn}
+use Rattle.scan.specs.Byte.{isWithin, isSpace, isAlpha, isDigit, isHexDigit, digitOf, isDigitIn, lowered, isAlphaNumeric, isWord, isLine, isIn}
+use Rattle.scan.specs.laws.Classes.{EndInNone, WithinBounds, WithinYes, BelowNot, AboveNot, DigitBound, DigitBounds, LoweredAbove, LoweredBelow, LoweredAt}
 use Rattle.proving.proofs.Choice.{either, and-left, and-right}
 
-pub getD-any : (xs : List ℕ) (i a b : ℕ) → i < length xs → getD xs i a ≡ getD xs i b
-getD-any [] i a b h = absurd (not-suc-le-zero h)
-getD-any (x ∷ xs) zero a b h = refl
-getD-any (x ∷ xs) (suc i) a b h = getD-any xs i a b (le-of-suc-le-suc h)
-
-pub end-in-none : (k : Class) → isIn k end ≡ false
+pub end-in-none : EndInNone
 unfolding isIn isWithin isSpace isAlpha isHexDigit isAlphaNumeric isWord isLine
 end-in-none Space = refl
 end-in-none Alpha = refl
@@ -31,24 +23,24 @@ end-in-none Word = refl
 end-in-none Line = refl
 
 -- what is between bounds, and what is above them
-pub within-yes : (lo hi c : ℕ) → lo ≤ c → c ≤ hi → isWithin lo hi c ≡ true
+pub within-yes : WithinYes
 unfolding isWithin
 within-yes lo hi c l h = rw (le-leb lo c l, le-leb c hi h)
 
-pub above-not : (lo hi c : ℕ) → hi < c → isWithin lo hi c ≡ false
+pub above-not : AboveNot
 unfolding isWithin
 above-not lo hi c h = rw (lt-leb c hi h) (and-false (leb lo c))
 
-pub below-not : (lo hi c : ℕ) → c < lo → isWithin lo hi c ≡ false
+pub below-not : BelowNot
 unfolding isWithin
 below-not lo hi c h = rw (lt-leb lo c h)
 
-pub within-bounds : (lo hi c : ℕ) → isWithin lo hi c ≡ true → (lo ≤ c) × (c ≤ hi)
+pub within-bounds : WithinBounds
 unfolding isWithin
 within-bounds lo hi c h =
     (leb-true lo c (and-left (leb lo c) (leb c hi) h), leb-true c hi (and-right (leb lo c) (leb c hi) h))
 
-pub digit-bound : (c : ℕ) → digitOf c < 16
+pub digit-bound : DigitBound
 unfolding digitOf
 digit-bound c =
     let P : ℕ → Type 0 = λ n. n < 16 in
@@ -58,7 +50,7 @@ digit-bound c =
     (λ e. omega arith)))
 
 -- a digit of any radix is between 0 and f
-pub digit-bounds : (radix c : ℕ) → isDigitIn radix c ≡ true → (code "0" ≤ c) × (c ≤ code "f")
+pub digit-bounds : DigitBounds
 unfolding isDigitIn isHexDigit
 digit-bounds radix c d =
     go (isDigit c) refl (isWithin (code "a") (code "f") c) refl (and-left (isDigit c || (isWithin (code "a") (code "f") c || isWithin (code "A") (code "F") c)) (ltb (digitOf c) radix) d)
@@ -69,19 +61,14 @@ digit-bounds radix c d =
     go false a true b e = let h = within-bounds (code "a") (code "f") c b in (omega (arith, h .0), h .1)
     go false a false b e = let h = within-bounds (code "A") (code "F") c e in (omega (arith, h .0), omega (arith, h .1))
 
--- lowering keeps within a byte, and leaves what is not ASCII as it is
-pub lowered-byte : (c : ℕ) → c ≤ 0xff → lowered c ≤ 0xff
-unfolding lowered
-lowered-byte c h = either (λ n. n ≤ 0xff) (isWithin (code "A") (code "Z") c) (λ e. omega (arith, within-bounds (code "A") (code "Z") c e)) (λ e. h)
-
-pub lowered-above : (c : ℕ) → 0x80 ≤ c → lowered c ≡ c
+pub lowered-above : LoweredAbove
 unfolding lowered
 lowered-above c h = rw (above-not (code "A") (code "Z") c (omega arith))
 
-pub lowered-ascii : (c : ℕ) → c < 0x80 → lowered c < 0x80
+pub lowered-below : LoweredBelow
 unfolding lowered
-lowered-ascii c h = either (λ n. n < 0x80) (isWithin (code "A") (code "Z") c) (λ e. omega (arith, within-bounds (code "A") (code "Z") c e)) (λ e. h)
+lowered-below c m l h = either (λ n. n < m) (isWithin (code "A") (code "Z") c) (λ e. omega (arith, within-bounds (code "A") (code "Z") c e)) (λ e. h)
 
-pub lowered-at : (xs : List ℕ) (i : ℕ) → getD (map lowered xs) i 0 ≡ lowered (getD xs i 0)
+pub lowered-at : LoweredAt
 unfolding lowered isWithin
 lowered-at xs i = List·getD-map lowered xs i 0

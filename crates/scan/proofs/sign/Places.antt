@@ -11,7 +11,8 @@ use borrow.Author.Tests.{eqb-true}
 use Rattle.scan.specs.Byte.{end, peekAt}
 use Rattle.proving.proofs.Choice.{either}
 use Rattle.scan.proofs.Runs.{inside}
-use Rattle.scan.specs.Sign.{isSign, pastSign}
+use Rattle.scan.specs.Sign.{isSign}
+use Rattle.scan.specs.laws.Sign.{SignAscii, SignWithin}
 
 no-sign : isSign end ≡ false
 unfolding isSign
@@ -20,10 +21,10 @@ no-sign = refl
 pub sign-inside : (xs : List ℕ) (at : ℕ) → isSign (peekAt xs at) ≡ true → at < length xs
 sign-inside xs at e = inside isSign no-sign xs at e
 
-pub sign-within : (xs : List ℕ) (at : ℕ) → at ≤ length xs → pastSign xs at ≤ length xs
+pub sign-within : SignWithin
 sign-within xs at h = either (λ n. n ≤ length xs) (isSign (peekAt xs at)) (sign-inside xs at) (λ e. h)
 
-pub sign-ascii : (c : ℕ) → isSign c ≡ true → c < 0x80
+pub sign-ascii : SignAscii
 unfolding isSign
 sign-ascii c e = go (eqb c (code "+")) refl e
   where

@@ -9,7 +9,8 @@ use Rattle.proving.proofs.Choice.{either}
 use Rattle.utf8.specs.declared.Admission.{Admission}
 use Rattle.utf8.specs.declared.Admission.the-variants as admission
 use Rattle.utf8.specs.Answers.{textLimit, admitted}
-use Rattle.utf8.proofs.Bounds as within
+use Rattle.utf8.specs.laws.Bounds as within
+use Rattle.utf8.proofs.Bounds.{admitted-bound}
 use Rattle.utf8.proofs.Given.{admitted-text}
 use Rattle.string.specs.declared.escape.Escaping.{Escaping}
 use Rattle.string.specs.declared.escape.Escaping.the-variants.{Written, Refused}
@@ -28,7 +29,7 @@ Bounded (Refused r) = within.Placed 3 textLimit r
 
 pub escaping-bound : (room : ℕ) (xs : List ℕ) → Bounded (escapingOf room xs)
 unfolding escapingOf
-escaping-bound room xs = go (admitted textLimit xs) refl (within.admitted-bound textLimit xs)
+escaping-bound room xs = go (admitted textLimit xs) refl (admitted-bound textLimit xs)
   where
     go : (a : Admission) → admitted textLimit xs ≡ a → within.Bounded textLimit a → Bounded (escapingAs room xs a)
     go (admission.Admitted n) e h =

@@ -22,9 +22,9 @@ use Rattle.utf8.specs.declared.Refusal.{Refusal}
 use Rattle.utf8.specs.declared.Admission.{Admission}
 use Rattle.utf8.specs.declared.Admission.the-variants as admission
 use Rattle.utf8.specs.Answers.{textLimit, noRoom, admitted}
-use Rattle.utf8.proofs.Chars.{chars-none}
-use Rattle.utf8.proofs.Texts.{One, chars-one, by-characters}
-use Rattle.utf8.proofs.Laws.{none-empty, rest-well, none-ascii, ascii-code, one-text, text-join}
+use Rattle.utf8.specs.laws.Characters.{One}
+use Rattle.utf8.proofs.Texts.{chars-one, by-characters}
+use Rattle.utf8.proofs.Laws.{steps, none-empty, rest-well, none-ascii, ascii-code, one-text, text-join}
 use Rattle.utf8.proofs.Ascii.{ascii-text, one-ascii}
 use Rattle.utf8.proofs.Given.{admitted-text}
 use Rattle.utf8.proofs.Inverse.{decode-encode, long-code}
@@ -110,7 +110,7 @@ escaped-one bs o = go (decLt 1 (length bs))
 pub by-characters-escaped : (xs : List ℕ) → WellFormed xs → escaped xs ≡ escapedBytes xs
 by-characters-escaped =
     by-characters (λ xs. WellFormed xs → escaped xs ≡ escapedBytes xs)
-    (λ xs e w. rw (chars-none xs e) (sym (ap escapedBytes (none-empty xs e w) ∙ none)))
+    (λ xs e w. rw (steps xs .1 e) (sym (ap escapedBytes (none-empty xs e w) ∙ none)))
     (λ bs ys o ih w. rw (chars-one bs ys o, escaped-one bs o, ih (rest-well bs ys o w), bytes-join bs ys))
 
 pub escape-join : EscapeJoin

@@ -5,7 +5,7 @@ use lib.ListN.{length}
 use denote.Ref.{now}
 use borrow.Author.Tests.{le-leb, lt-leb, eq-eqb, ne-eqb}
 use Rattle.scan.specs.Byte.{end}
-use Rattle.scan.proofs.byte.Classes.{getD-any}
+use Rattle.proving.proofs.Lists.{getD-any}
 use Rattle.string.specs.Literal.{isEnclosed}
 use borrow.Author.Needs.{needs}
 use Rattle.string.proofs.is_enclosed.Statement.{statement}

@@ -7,7 +7,7 @@ use lib.ListN.{length, drop, length-append}
 use denote.Ref.{now}
 use borrow.Author.Needs.{needs}
 use Rattle.utf8.specs.declared.Reading.{Reading}
-use Rattle.utf8.proofs.Chars.{rest-of}
+use Rattle.proving.proofs.Lists.{rest-of}
 use Rattle.string.specs.declared.tile.Form.{Form}
 use Rattle.string.specs.declared.tile.Tile.the-variants.{Piece}
 use Rattle.string.specs.Tile.{tileOf}

@@ -4,25 +4,19 @@ use Prim.Native.Nat.{ℕ, _+_, _≤_}
 use native.Mathlib.Omega.{arith}
 use mathlib.Core.Bool.{Bool, true, false, _||_, true≢false}
 use mathlib.Core.List.{[], _∷_}
-use mathlib.Core.Logic.{inl, inr}
 use mathlib.Core.Path.{_≡_, refl, sym, ap, _∙_}
 use lib.ListN.{length}
-use lib.Seq.{sets-eq}
-use types.Run.{OneOf}
-use denote.Enum.Declared.{tagOf}
 use denote.Ref.{now}
 use lib.Dec.{leb}
 use borrow.Author.Tests.{leb-true}
-use Rattle.proving.proofs.Choice.{told}
-use Rattle.utf8.specs.declared.encode.Encoding.{Encoding}
-use Rattle.utf8.specs.declared.encode.Encoding.the-variants.{Written, NotScalar, NoRoom}
+use Rattle.utf8.specs.declared.Writing.{Writing}
+use Rattle.utf8.specs.declared.Writing.the-variants.{Written}
 use Rattle.utf8.specs.declared.Reading.{Reading}
 use Rattle.utf8.specs.declared.Reading.the-variants.{Crate, Documented}
 use Rattle.utf8.specs.Code.{isScalar, encoded}
-use Rattle.utf8.specs.Encode.{leftBy}
+use Rattle.utf8.specs.Writing.{leftAt}
 use Rattle.utf8.proofs.Bounds.{byte-scalar}
-use Rattle.utf8.proofs.encode.Bounds.{encoding-fits}
-use Rattle.utf8.proofs.encode.Encoding as encoding
+use Rattle.utf8.proofs.encode.Bounds.{encoding-fits, written-sets}
 use Rattle.string.specs.declared.tile.Form.{Form}
 use Rattle.string.specs.Tile.{isByte, isAllowed}
 use Rattle.string.specs.Tiles.{givesByte, pieceBytes}
@@ -49,16 +43,6 @@ module _ (f : Form) (v : ℕ) (a : isAllowed f v ≡ true) where
       go : (t : Bool) → isByte f ≡ t → isScalar v ≡ true
       go true e = byte-scalar v (leb-true v 0xff (rw e at a))
       go false e = rw e at a
-
-abbrev tag : Encoding → ℕ
-tag (Written n) = 0
-tag NotScalar = 1
-tag NoRoom = 2
-
-abbrev sizeOf : Encoding → ℕ
-sizeOf (Written n) = n
-sizeOf NotScalar = 0
-sizeOf NoRoom = 0
 
 is-single-requires : tie.Need-is-single-requires
 is-single-requires c κs = search needs
@@ -92,6 +76,9 @@ encode-requires c κs = search needs
 enum-known-e : tie.Need-enum-known-e
 enum-known-e c = search needs
 
+enum-told : tie.Need-enum-told
+enum-told c = search needs
+
 same-length-2 : tie.Need-same-length-2
 same-length-2 c = search needs
 
@@ -109,17 +96,13 @@ module _ (c : tie.After-encode) where
   written : c .encode .result ≡ Written (length (encoded (a .args .value)))
   written = c .encode .ensures .0 ∙ encoding-fits (a .args .value) (length (now (a .args .out))) (a .args .at) (scalar (a .args .form) (a .args .value) (a .pre .0)) fits
 
-no-other : (e : Encoding) (n : ℕ) → e ≡ Written n → OneOf (1 ∷ 2 ∷ []) (tagOf encoding.the-type e) → ⊥
-no-other (Written m) n e (inl t) = omega arith
-no-other (Written m) n e (inr t) = omega arith
-no-other NotScalar n e t = told tag e refl (λ z. omega arith)
-no-other NoRoom n e t = told tag e refl (λ z. omega arith)
-
 returns-2 : tie.Need-returns-2
-returns-2 c = absurd (no-other _ _ (written (c .before .before .before)) (c .match .keys2))
+returns-2 c =
+    let e = sym (c .enum-told .given .1) ∙ written (c .before .before .before .before) in
+    let z : _≡_ {A = ℕ} 0 1 = cc in absurd (omega arith)
 
 size : (c : tie.After-known-told) → c .before .e .given .0 .0 ≡ length (encoded (a (c .before .before .before .before .before) .args .value))
-size c = ap sizeOf (sym (c .before .e .given .1) ∙ written (c .before .before .before .before .before))
+size c = let e = sym (c .before .e .given .1) ∙ written (c .before .before .before .before .before) in cc
 
 add-result-2 : tie.Need-add-result-2
 add-result-2 c = omega (arith, size c, fits (c .before .before .before .before .before))
@@ -131,7 +114,7 @@ returns-3 : tie.Need-returns-3
 returns-3 c =
     let d = c .before .before .before .before .before in
     let out = now (a d .args .out) in
-    rw (size c, its d) (refl, d .encode .ensures .1 ∙ ap (λ (e : Encoding). leftBy e (a d .args .value) (a d .args .at) out) (written d) ∙ sym (sets-eq (encoded (a d .args .value)) out (a d .args .at) (fits d)))
+    rw (size c, its d) (refl, d .encode .ensures .1 ∙ ap (λ (e : Writing). leftAt (a d .args .at) e (encoded (a d .args .value)) out) (written d) ∙ written-sets (encoded (a d .args .value)) out (a d .args .at) (fits d))
 
 pub put-piece-spec : {M : Type 1} → statement M
 put-piece-spec =
@@ -145,6 +128,7 @@ put-piece-spec =
     returns
     encode-requires
     enum-known-e
+    enum-told
     same-length-2
     returns-2
     add-result-2

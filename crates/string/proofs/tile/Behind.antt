@@ -17,7 +17,7 @@ use Rattle.scan.proofs.byte.Classes.{digit-bounds}
 use Rattle.utf8.specs.declared.Character.the-variants.{Nothing, IllFormed}
 use Rattle.utf8.specs.Table.{charLength}
 use Rattle.utf8.specs.Text.{WellFormed}
-use Rattle.utf8.specs.laws.Characters.{isAscii}
+use Rattle.utf8.specs.laws.Ascii.{isAscii}
 use Rattle.utf8.specs.Answers.{characterAt}
 use Rattle.utf8.proofs.Bounds.{first-character}
 use Rattle.utf8.proofs.Laws.{ascii-head, rest-text}

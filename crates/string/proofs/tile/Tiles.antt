@@ -17,7 +17,7 @@ use Rattle.utf8.specs.Table.{charLength}
 use Rattle.utf8.specs.Code.{codeOf}
 use Rattle.utf8.specs.declared.Character.the-variants.{Nothing, IllFormed}
 use Rattle.utf8.specs.Answers.{characterAt}
-use Rattle.utf8.proofs.Chars.{char-bound}
+use Rattle.utf8.proofs.Laws.{steps}
 use Rattle.utf8.proofs.Ascii.{ascii-bytes}
 use Rattle.utf8.proofs.Bounds.{first-character, byte-scalar, encoded-bound}
 use Rattle.utf8.proofs.Inverse.{decode-encode}
@@ -37,8 +37,8 @@ module _ (xs : List ℕ) where
   character-fair : (n ≡ 0 → ⊥) → Fair (length xs) Plain (codeOf n xs) n
   character-fair z =
       let d = decode-encode xs (omega arith) in
-      let t = ap length (d .1) ∙ length-take-le n xs (char-bound xs) in
-      record { some = omega arith; within = char-bound xs; allowed = unfold isAllowed in d .0; few = omega (arith, t) }
+      let t = ap length (d .1) ∙ length-take-le n xs (steps xs .0) in
+      record { some = omega arith; within = steps xs .0; allowed = unfold isAllowed in d .0; few = omega (arith, t) }
 
   plain-fair : FairTile (length xs) (plainOf (characterAt xs 0))
   plain-fair = go (ℕ-discrete n 0)

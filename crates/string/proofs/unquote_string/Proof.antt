@@ -11,7 +11,7 @@ use denote.Ref.{now}
 use borrow.Author.Tests.{not-true, not-false}
 use Rattle.utf8.specs.declared.Admission.the-variants as admission
 use Rattle.utf8.specs.declared.Reading.{Reading}
-use Rattle.utf8.specs.Answers.{textLimit, admitted, refusedBy}
+use Rattle.utf8.specs.Answers.{textLimit, admitted, notAdmitted}
 use Rattle.utf8.proofs.Given.{admitted-text}
 use Rattle.string.specs.declared.Extent.{Extent}
 use Rattle.string.specs.declared.Extent.the-variants as extent
@@ -32,14 +32,14 @@ enum-told c = search needs
 enum-told-2 : tie.Need-enum-told-2
 enum-told-2 c = search needs
 
-refused-by-requires : tie.Need-refused-by-requires
-refused-by-requires c κs = search needs
+not-admitted-requires : tie.Need-not-admitted-requires
+not-admitted-requires c κs = search needs
 
 returns : tie.Need-returns
 returns c =
     let a = c .before .before .before .before .before .before .args in
     let e = c .before .enum-told2 .given .1 in
-    (ap Refused (c .refused-by .ensures ∙ ap refusedBy e) ∙ literals.refused-first (a .reading) (length (now (a .text))) (now (a .literal)) _ (sym (c .before .before .before .admit .ensures) ∙ e), refl)
+    (ap Refused (c .not-admitted .ensures ∙ ap notAdmitted e) ∙ literals.refused-first (a .reading) (length (now (a .text))) (now (a .literal)) _ (sym (c .before .before .before .admit .ensures) ∙ e), refl)
 
 extent-of-requires : tie.Need-extent-of-requires
 extent-of-requires c κs = admitted-text textLimit (now (c .before .before .before .before .before .args .literal)) _ (sym (c .before .before .admit .ensures) ∙ c .enum-told .given .1) .1
@@ -154,7 +154,7 @@ unquote-string-spec =
     admit-requires
     enum-told
     enum-told-2
-    refused-by-requires
+    not-admitted-requires
     returns
     extent-of-requires
     enum-known-e

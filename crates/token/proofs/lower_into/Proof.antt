@@ -9,7 +9,7 @@ use borrow.Author.Needs.{needs}
 use denote.Ref.{now}
 use lib.ListN.{length, getD, drop, length-map, drop-of-length-le}
 use lib.Seq.{drop-cons, sets}
-use Rattle.scan.proofs.byte.Classes.{lowered-byte, lowered-at}
+use Rattle.scan.proofs.byte.Classes.{lowered-below, lowered-at}
 use Rattle.scan.specs.Byte.{lowered}
 use Rattle.token.proofs.lower_into.Statement.{statement}
 use Rattle.token.proofs.lower_into.Tie as tie
@@ -33,7 +33,7 @@ lowered-requires : tie.Need-lowered-requires Inv-loop μ-loop
 lowered-requires c κs = search needs
 
 cast-buf : tie.Need-cast-buf Inv-loop μ-loop
-cast-buf c = omega (arith, c .lowered .ensures, lowered-byte (getD (now (c .before .before .before .before .before .args .word)) (c .before .before .before .loop .i) 0) (omega (arith, c .before .shared-slice-known2 .given (c .before .before .before .loop .i))))
+cast-buf c = omega (arith, c .lowered .ensures, lowered-below (getD (now (c .before .before .before .before .before .args .word)) (c .before .before .before .loop .i) 0) 0x100 (omega arith) (omega (arith, c .before .shared-slice-known2 .given (c .before .before .before .loop .i))))
 
 element-write-buf : tie.Need-element-write-buf Inv-loop μ-loop
 element-write-buf c = omega arith

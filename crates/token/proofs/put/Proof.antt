@@ -9,8 +9,10 @@ use lib.ListN.{length, getD, set, take, drop}
 use lib.Seq.{take-length, length-take-le, length-front, paste-suc}
 use borrow.Author.Tests.{le-leb, lt-leb}
 use denote.Ref.{now}
-use Rattle.token.specs.declared.Display.the-variants.{Length, NoRoom}
-use Rattle.token.specs.Display.{fitted}
+use borrow.Author.Needs.{needs}
+use Rattle.utf8.specs.declared.Writing.the-variants.{Written, Refused}
+use Rattle.utf8.specs.Answers.{noRoom}
+use Rattle.utf8.specs.Writing.{fitted}
 use Rattle.token.proofs.put.Statement.{statement}
 use Rattle.token.proofs.put.Tie as tie
 
@@ -27,12 +29,10 @@ module _ (xs d : List ℕ) (room : length xs ≤ length d) where
   front-more i h =
       rw add-one (simp zero-add at (paste-suc d 0 xs i 0 (omega arith) h))
 
-  fits : fitted (length d) xs ≡ Length (length xs)
-  unfolding fitted
+  fits : fitted (length d) xs ≡ Written (length xs)
   fits = rw (le-leb (length xs) (length d) room)
 
-no-room : (xs d : List ℕ) → length d < length xs → fitted (length d) xs ≡ NoRoom
-unfolding fitted
+no-room : (xs d : List ℕ) → length d < length xs → fitted (length d) xs ≡ Refused noRoom
 no-room xs d h = rw (lt-leb (length xs) (length d) h)
 
 abbrev Inv-loop : tie.InvT-loop
@@ -41,15 +41,18 @@ Inv-loop text out₀ n i₀ out i = (i ≤ length text) × (out ≡ front text o
 abbrev μ-loop : tie.MeasureT-loop
 μ-loop text out₀ n i₀ out i = n - i
 
-same-size : (c : tie.At-loop Inv-loop μ-loop) → length (c .loop .out) ≡ length (now (c .before .before .args .out))
+same-size : (c : tie.At-loop Inv-loop μ-loop) → length (c .loop .out) ≡ length (now (c .before .before .before .before .args .out))
 same-size c =
-    let a = c .before .before .args in
+    let a = c .before .before .before .before .args in
     ap length (c .loop .inv .1) ∙ front-same (now (a .text)) (now (a .out)) (c .before .if1 .left) (c .loop .i) (c .loop .inv .0)
+
+at-start-requires : tie.Need-at-start-requires Inv-loop μ-loop
+at-start-requires c κs = search needs
 
 returns : tie.Need-returns Inv-loop μ-loop
 returns c =
-    let a = c .before .args in
-    (sym (no-room (now (a .text)) (now (a .out)) (c .if1 .taken)), refl)
+    let a = c .before .before .before .before .args in
+    (ap Refused (c .at-start .ensures) ∙ sym (no-room (now (a .text)) (now (a .out)) (c .before .if1 .taken)), refl)
 
 loop-holds : tie.Need-loop-holds Inv-loop μ-loop
 loop-holds c = (omega arith, refl)
@@ -68,7 +71,7 @@ loop-less c = omega arith
 
 loop-again : tie.Need-loop-again Inv-loop μ-loop
 loop-again c =
-    let a = c .before .before .before .before .args in
+    let a = c .before .before .before .before .before .before .args in
     (omega arith, rw (c .before .before .loop .inv .1) (front-more (now (a .text)) (now (a .out)) (c .before .before .before .if1 .left) (c .before .before .loop .i) (omega arith)))
 
 same-length : tie.Need-same-length Inv-loop μ-loop
@@ -76,7 +79,7 @@ same-length c = same-size (c .before)
 
 returns-2 : tie.Need-returns-2 Inv-loop μ-loop
 returns-2 c =
-    let a = c .before .before .before .args in
+    let a = c .before .before .before .before .before .args in
     let e : c .before .loop .i ≡ length (now (a .text)) = omega arith in
     (sym (fits (now (a .text)) (now (a .out)) (c .before .before .if1 .left)), c .before .loop .inv .1 ∙ rw (e, take-length))
 
@@ -86,6 +89,7 @@ put-spec =
     (tie.spec
     Inv-loop
     μ-loop
+    at-start-requires
     returns
     loop-holds
     shared-slice-read-out

@@ -6,7 +6,8 @@ use mathlib.Core.List.{List}
 use lib.ListN.{length, getD, take, drop}
 use denote.Ref.{now}
 use borrow.Author.Needs.{needs}
-use Rattle.token.specs.Display.{displayOf, fitted, leftBy}
+use Rattle.utf8.specs.Writing.{fitted, leftBy}
+use Rattle.token.specs.Display.{displayOf}
 use Rattle.token.specs.steps.DisplayRows.{textSize, rowSize}
 use Rattle.token.proofs.Displays.{short}
 use Rattle.token.proofs.DisplayRows.{size-at, text-at}

@@ -17,13 +17,13 @@ abbrev pub rowSize : ℕ
 rowSize = suc textSize
 
 -- a row: a text, padded, and its length
-unfoldable pub rowOf : ℕ → List ℕ
-rowOf k = padded textSize (displayOf k) ++ (length (displayOf k) ∷ [])
+unfoldable pub shownRow : ℕ → List ℕ
+shownRow k = padded textSize (displayOf k) ++ (length (displayOf k) ∷ [])
 
 -- the rows of n numbers from k on
 unfoldable pub rowsFrom : ℕ → ℕ → List ℕ
 rowsFrom zero k = []
-rowsFrom (suc n) k = rowOf k ++ rowsFrom n (suc k)
+rowsFrom (suc n) k = shownRow k ++ rowsFrom n (suc k)
 
 -- the rows of all numbers that have one
 unfoldable pub table : List ℕ

@@ -1,5 +1,5 @@
 -- The table of words as the code has it: rows of the padded word, its length and its kind, one after the other; and what a search of
--- any such table finds. That the search of the table of `words` finds what `keywordOf` says is a law (`specs/Laws`).
+-- any such table finds. That the search of the table of `words` finds what `keywordOf` says is a law (`specs/laws/Words`).
 use Prim.Native.Nat.{ℕ, zero, suc}
 use mathlib.Core.Bool.{Bool, cond, _&&_}
 use mathlib.Core.List.{List, [], _∷_, _++_, map}
@@ -10,7 +10,7 @@ use Rattle.scan.specs.Text.{sameText}
 use Rattle.token.specs.declared.Keyword.{Keyword}
 use Rattle.token.specs.declared.Keyword.the-variants.{Kind, Nothing}
 use Rattle.token.specs.steps.Padded.{padded}
-use Rattle.token.specs.Words.{Entry, words}
+use Rattle.token.specs.Words.{KindText, words}
 
 -- how many words there are, the bytes of the longest, and those of a row
 abbrev pub wordCount : ℕ
@@ -22,12 +22,12 @@ widestWord = 12
 abbrev pub wordRow : ℕ
 wordRow = 14
 
-abbrev pub rowOf : Entry → List ℕ
-rowOf e = padded widestWord (e .text) ++ (length (e .text) ∷ e .kind ∷ [])
+abbrev pub rowOfWord : KindText → List ℕ
+rowOfWord e = padded widestWord (e .text) ++ (length (e .text) ∷ e .kind ∷ [])
 
-unfoldable pub tableOf : List Entry → List ℕ
+unfoldable pub tableOf : List KindText → List ℕ
 tableOf [] = []
-tableOf (e ∷ es) = rowOf e ++ tableOf es
+tableOf (e ∷ es) = rowOfWord e ++ tableOf es
 
 unfoldable pub wordTable : List ℕ
 wordTable = tableOf words

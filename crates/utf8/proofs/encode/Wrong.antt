@@ -10,9 +10,11 @@ use denote.Ref.{now}
 use Rattle.scan.specs.Ascii.{ascii}
 use Rattle.proving.proofs.One.{Answers, Leaves}
 use Rattle.utf8.specs.Code.{isScalar, sixBits, encoded}
-use Rattle.utf8.specs.declared.encode.Encoding.{Encoding}
-use Rattle.utf8.specs.declared.encode.Encoding.the-variants.{Written, NotScalar, NoRoom}
-use Rattle.utf8.specs.Encode.{encodingOf, leftBy}
+use Rattle.utf8.specs.declared.Writing.{Writing}
+use Rattle.utf8.specs.declared.Writing.the-variants.{Written, Refused}
+use Rattle.utf8.specs.Answers.{atStart}
+use Rattle.utf8.specs.Encode.{encodingOf}
+use Rattle.utf8.specs.Writing.{leftAt}
 use Rattle.utf8.proofs.encode.is_scalar.Kinds as is-scalar
 use Rattle.utf8.proofs.encode.is_scalar.Reads as is-scalar-reads
 use Rattle.utf8.proofs.encode.encoded_size.Kinds as encoded-size
@@ -53,7 +55,7 @@ unfolding encoded
 first-past-ffff-has-four-bytes = encoded-size-at _
 
 -- of a code point, with a buffer of so many bytes, at an offset
-abbrev encode-gives : ℕ → ℕ → ℕ → Encoding → Type 0
+abbrev encode-gives : ℕ → ℕ → ℕ → Writing → Type 0
 encode-gives c room at v =
     Answers encode.ps encode.r encode-reads.Post (λ κs a. (a .0 ≡ c) × (length (now (a .1 .0)) ≡ room) × (a .1 .1 .0 .0 ≡ at)) (λ κs. v)
 
@@ -61,7 +63,7 @@ encode-at : (c room at : ℕ) → encode-gives c room at (encodingOf c room at)
 unfolding encodingOf isScalar encoded sixBits
 encode-at c room at κs a x e p h = cc (p .0, h .0, h .1, h .2)
 
-pub surrogate-is-not-written : encode-gives 0xdbff 3 0 NotScalar
+pub surrogate-is-not-written : encode-gives 0xdbff 3 0 (Refused (atStart 40))
 unfolding encode-at
 surrogate-is-not-written = encode-at _ _ _
 
@@ -69,7 +71,7 @@ pub room-of-just-the-length-is-enough : encode-gives 0xe9 3 1 (Written 2)
 unfolding encode-at
 room-of-just-the-length-is-enough = encode-at _ _ _
 
-pub bytes-before-the-offset-are-no-room : encode-gives 0xe9 3 2 NoRoom
+pub bytes-before-the-offset-are-no-room : encode-gives 0xe9 3 2 (Refused (atStart 3))
 unfolding encode-at
 bytes-before-the-offset-are-no-room = encode-at _ _ _
 
@@ -78,7 +80,7 @@ abbrev encode-leaves-out : ℕ → List ℕ → ℕ → List ℕ → Type 0
 encode-leaves-out c d at v =
     Leaves encode.ps encode.r encode-reads.Post (λ κs a. (a .0 ≡ c) × (now (a .1 .0) ≡ d) × (a .1 .1 .0 .0 ≡ at)) (λ κs e. now (e .1 .0)) v
 
-encode-left-out : (c : ℕ) (d : List ℕ) (at : ℕ) → encode-leaves-out c d at (leftBy (encodingOf c (length d) at) c at d)
+encode-left-out : (c : ℕ) (d : List ℕ) (at : ℕ) → encode-leaves-out c d at (leftAt at (encodingOf c (length d) at) (encoded c) d)
 encode-left-out c d at κs a x e p h = cc (p .0, p .1, h .0, h .1, h .2)
 
 pub each-code-point-has-its-own-byte : encode-leaves-out (code "b") (ascii "xyz") 0 (ascii "byz")

@@ -11,7 +11,8 @@ use lib.Seq.{drop-drop}
 use Rattle.utf8.specs.Table.{charLength}
 use Rattle.utf8.specs.Text.{charOf, charsOf}
 use Rattle.utf8.specs.Answers.{nextStart}
-use Rattle.utf8.proofs.Chars.{char-bound, chars-none, chars-some, rest-of, stop, stop-start, stop-out, stop-more, stop-none}
+use Rattle.proving.proofs.Lists.{rest-of}
+use Rattle.utf8.proofs.Chars.{char-bound, chars-none, chars-some, stop, stop-start, stop-out, stop-more, stop-none}
 use Rattle.utf8.proofs.next_start.Statement.{statement}
 use Rattle.utf8.proofs.next_start.Tie as tie
 

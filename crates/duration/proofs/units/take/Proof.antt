@@ -13,7 +13,7 @@ use Rattle.scan.specs.declared.byte.Class.the-variants.{Digit, Alpha}
 use Rattle.scan.specs.Byte.{isIn}
 use Rattle.scan.specs.Run.{runEnd}
 use Rattle.scan.specs.Text.{sameText}
-use Rattle.utf8.proofs.Chars.{rest-of}
+use Rattle.proving.proofs.Lists.{rest-of}
 use Rattle.duration.specs.Unit.{second}
 use Rattle.decimal.specs.Grammar.{between}
 use Rattle.decimal.specs.Value.{valueOf, mostTold}

@@ -1,19 +1,14 @@
 -- `exports::text::simmerpath_utf8_encode` meets its contract: it is what `encode` says, and leaves in the buffer what that leaves.
-use native.Mathlib.Omega.{arith}
-use Prim.Native.Nat.{ℕ}
-use mathlib.Core.List.{[], _∷_}
-use mathlib.Core.Logic.{⊎-elim}
-use mathlib.Core.Path.{_≡_, refl, sym, ap, _∙_}
-use types.Run.{OneOf}
+use mathlib.Core.Path.{_≡_, sym, ap, _∙_}
 use denote.Ref.{now}
-use denote.Enum.Declared.{tagOf}
 use borrow.Author.Needs.{needs}
 use lib.ListN.{length}
-use Rattle.utf8.specs.declared.encode.Encoding.{Encoding}
-use Rattle.utf8.specs.declared.encode.Encoding.the-variants.{Written}
-use Rattle.utf8.specs.Encode.{encodingOf, leftBy}
-use Rattle.utf8.proofs.encode.Encoding as encoding
-use Rattle.exports.specs.Utf8.{encodeCode}
+use Rattle.utf8.specs.declared.Writing.{Writing}
+use Rattle.utf8.specs.Code.{encoded}
+use Rattle.utf8.specs.Writing.{leftAt, notWritten}
+use Rattle.utf8.specs.Encode.{encodingOf}
+use Rattle.exports.specs.Packed.{packedOf}
+use Rattle.exports.specs.Written.{writtenCode}
 use Rattle.exports.proofs.text.simmerpath_utf8_encode.Statement.{statement}
 use Rattle.exports.proofs.text.simmerpath_utf8_encode.Tie as tie
 
@@ -23,30 +18,36 @@ encode-requires c κs = search needs
 enum-known-e : tie.Need-enum-known-e
 enum-known-e c = search needs
 
-unwritten : (e : Encoding) → OneOf (1 ∷ 2 ∷ []) (tagOf encoding.the-type e) → (n : ℕ) → e ≡ Written n → ⊥
-unwritten e t n w = let k = ap (tagOf encoding.the-type) w in ⊎-elim (λ z. omega arith) (λ z. omega arith) t
+enum-told : tie.Need-enum-told
+enum-told c = search needs
 
 not-written-requires : tie.Need-not-written-requires
-not-written-requires c κs = unwritten _ (c .match .keys2)
+not-written-requires c κs = search needs
+
+packed-requires : tie.Need-packed-requires
+packed-requires c κs = search needs
 
 module _ (c : tie.After-encode) where
-  abbrev answer : Encoding
+  abbrev answer : Writing
   answer = let a = c .before .before .before .args in encodingOf (a .code) (length (now (a .out))) (a .at)
 
   -- the code of the answer in whose arm we are
-  code-is : (k : Encoding) → c .encode .result ≡ k → encodeCode k ≡ encodeCode answer
-  code-is k e = ap encodeCode (sym e ∙ c .encode .ensures .0)
+  code-is : (k : Writing) → c .encode .result ≡ k → writtenCode k ≡ writtenCode answer
+  code-is k e = ap writtenCode (sym e ∙ c .encode .ensures .0)
 
-  left-is : let a = c .before .before .before .args in c .encode .last .1 .0 ≡ leftBy answer (a .code) (a .at) (now (a .out))
+  left-is : let a = c .before .before .before .args in c .encode .last .1 .0 ≡ leftAt (a .at) answer (encoded (a .code)) (now (a .out))
   left-is =
       let a = c .before .before .before .args in
-      c .encode .ensures .1 ∙ ap (λ (k : Encoding). leftBy k (a .code) (a .at) (now (a .out))) (c .encode .ensures .0)
+      c .encode .ensures .1 ∙ ap (λ (k : Writing). leftAt (a .at) k (encoded (a .code)) (now (a .out))) (c .encode .ensures .0)
 
 same-length : tie.Need-same-length
 same-length c = search needs
 
 returns : tie.Need-returns
-returns c = let d = c .before .before .before .before in (c .not-written .ensures ∙ code-is d _ refl, left-is d)
+returns c =
+    let d = c .before .before .before .before .before .before in
+    let e = c .before .before .enum-told .given .1 in
+    (c .packed .ensures ∙ ap packedOf (c .before .not-written .ensures ∙ ap notWritten e) ∙ code-is d _ e, left-is d)
 
 same-length-2 : tie.Need-same-length-2
 same-length-2 c = search needs
@@ -60,7 +61,9 @@ simmerpath-utf8-encode-spec =
     (tie.spec
     encode-requires
     enum-known-e
+    enum-told
     not-written-requires
+    packed-requires
     same-length
     returns
     same-length-2

@@ -1,7 +1,7 @@
 -- `exports::text::simmerpath_utf8_validate` meets its contract: it is the code of what `admit` says.
 use mathlib.Core.Path.{sym, ap, _∙_}
 use borrow.Author.Needs.{needs}
-use Rattle.utf8.specs.Answers.{refusedBy}
+use Rattle.utf8.specs.Answers.{notAdmitted}
 use Rattle.exports.specs.Packed.{packedOf}
 use Rattle.exports.specs.Utf8.{validateCode}
 use Rattle.exports.proofs.text.simmerpath_utf8_validate.Statement.{statement}
@@ -16,8 +16,8 @@ enum-known-a c = search needs
 enum-told : tie.Need-enum-told
 enum-told c = search needs
 
-refused-by-requires : tie.Need-refused-by-requires
-refused-by-requires c κs = search needs
+not-admitted-requires : tie.Need-not-admitted-requires
+not-admitted-requires c κs = search needs
 
 packed-requires : tie.Need-packed-requires
 packed-requires c κs = search needs
@@ -26,7 +26,7 @@ returns : tie.Need-returns
 returns c =
     let e = c .before .before .enum-told .given .1 in
     c .packed .ensures
-    ∙ ap packedOf (c .before .refused-by .ensures ∙ ap refusedBy e)
+    ∙ ap packedOf (c .before .not-admitted .ensures ∙ ap notAdmitted e)
     ∙ ap validateCode (sym e ∙ c .before .before .before .before .admit .ensures)
 
 returns-2 : tie.Need-returns-2
@@ -35,4 +35,4 @@ returns-2 c = ap validateCode (sym (c .before .a .given .1) ∙ c .before .befor
 pub simmerpath-utf8-validate-spec : {M : Type 1} → statement M
 simmerpath-utf8-validate-spec =
     tie.close
-    (tie.spec admit-requires enum-known-a enum-told refused-by-requires packed-requires returns returns-2)
+    (tie.spec admit-requires enum-known-a enum-told not-admitted-requires packed-requires returns returns-2)

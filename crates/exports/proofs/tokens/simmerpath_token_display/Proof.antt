@@ -2,9 +2,11 @@
 use mathlib.Core.Path.{_≡_, sym, ap, _∙_}
 use denote.Ref.{now}
 use lib.ListN.{length}
-use Rattle.token.specs.declared.Display.{Display}
-use Rattle.token.specs.Display.{displayOf, displayed, leftBy}
-use Rattle.exports.specs.Token.{displayCode}
+use Rattle.utf8.specs.declared.Writing.{Writing}
+use Rattle.utf8.specs.Writing.{leftBy, notWritten}
+use Rattle.token.specs.Display.{displayOf, displayed}
+use Rattle.exports.specs.Packed.{packedOf}
+use Rattle.exports.specs.Written.{writtenCode}
 use borrow.Author.Needs.{needs}
 use Rattle.exports.proofs.tokens.simmerpath_token_display.Statement.{statement}
 use Rattle.exports.proofs.tokens.simmerpath_token_display.Tie as tie
@@ -18,29 +20,33 @@ enum-known-d c = search needs
 enum-told : tie.Need-enum-told
 enum-told c = search needs
 
-packed-at-start-requires : tie.Need-packed-at-start-requires
-packed-at-start-requires c κs = search needs
+not-written-requires : tie.Need-not-written-requires
+not-written-requires c κs = search needs
+
+packed-requires : tie.Need-packed-requires
+packed-requires c κs = search needs
 
 module _ (c : tie.After-token-display) where
-  abbrev answer : Display
+  abbrev answer : Writing
   answer = let a = c .before .before .before .args in displayed (length (now (a .out))) (a .kind)
 
   -- the code of the answer in whose arm we are
-  code-is : (d : Display) → c .token-display .result ≡ d → displayCode d ≡ displayCode answer
-  code-is d e = ap displayCode (sym e ∙ c .token-display .ensures .0)
+  code-is : (d : Writing) → c .token-display .result ≡ d → writtenCode d ≡ writtenCode answer
+  code-is d e = ap writtenCode (sym e ∙ c .token-display .ensures .0)
 
   left-is : let a = c .before .before .before .args in c .token-display .last .1 .0 ≡ leftBy answer (displayOf (a .kind)) (now (a .out))
   left-is =
       let a = c .before .before .before .args in
-      c .token-display .ensures .1 ∙ ap (λ (d : Display). leftBy d (displayOf (a .kind)) (now (a .out))) (c .token-display .ensures .0)
+      c .token-display .ensures .1 ∙ ap (λ (d : Writing). leftBy d (displayOf (a .kind)) (now (a .out))) (c .token-display .ensures .0)
 
 same-length : tie.Need-same-length
 same-length c = search needs
 
 returns : tie.Need-returns
 returns c =
-    let d = c .before .before .before .before .before in
-    (c .packed-at-start .ensures ∙ code-is d _ (c .before .enum-told .given .1), left-is d)
+    let d = c .before .before .before .before .before .before in
+    let e = c .before .before .enum-told .given .1 in
+    (c .packed .ensures ∙ ap packedOf (c .before .not-written .ensures ∙ ap notWritten e) ∙ code-is d _ e, left-is d)
 
 same-length-2 : tie.Need-same-length-2
 same-length-2 c = search needs
@@ -55,7 +61,8 @@ simmerpath-token-display-spec =
     token-display-requires
     enum-known-d
     enum-told
-    packed-at-start-requires
+    not-written-requires
+    packed-requires
     same-length
     returns
     same-length-2

@@ -5,7 +5,7 @@ use borrow.Author.Needs.{needs}
 use denote.Ref.{now}
 use lib.ListN.{List·getD-eq-default}
 use Rattle.scan.specs.Byte.{end}
-use Rattle.scan.proofs.byte.Classes.{getD-any}
+use Rattle.proving.proofs.Lists.{getD-any}
 use Rattle.scan.proofs.byte.peek.Statement.{statement}
 use Rattle.scan.proofs.byte.peek.Tie as tie
 

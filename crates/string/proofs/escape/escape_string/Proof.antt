@@ -3,7 +3,7 @@ use mathlib.Core.Path.{refl, sym, ap, _∙_}
 use native.Mathlib.Omega.{arith}
 use denote.Ref.{now}
 use borrow.Author.Needs.{needs}
-use Rattle.utf8.specs.Answers.{refusedBy}
+use Rattle.utf8.specs.Answers.{notAdmitted}
 use Rattle.string.specs.declared.escape.Escaping.the-variants.{Refused}
 use Rattle.string.proofs.escape.Escapes.{refused-first, not-fitted, written, left}
 use Rattle.string.proofs.escape.escape_string.Statement.{statement}
@@ -18,14 +18,14 @@ enum-told c = search needs
 enum-told-2 : tie.Need-enum-told-2
 enum-told-2 c = search needs
 
-refused-by-requires : tie.Need-refused-by-requires
-refused-by-requires c κs = search needs
+not-admitted-requires : tie.Need-not-admitted-requires
+not-admitted-requires c κs = search needs
 
 returns : tie.Need-returns
 returns c =
     let d = now (c .before .before .before .before .before .before .args .out) in
     let e = c .before .enum-told2 .given .1 in
-    (ap Refused (c .refused-by .ensures ∙ ap refusedBy e) ∙ refused-first _ d _ (sym (c .before .before .before .admit .ensures) ∙ e), refl)
+    (ap Refused (c .not-admitted .ensures ∙ ap notAdmitted e) ∙ refused-first _ d _ (sym (c .before .before .before .admit .ensures) ∙ e), refl)
 
 escaped-length-requires : tie.Need-escaped-length-requires
 escaped-length-requires c κs = search needs
@@ -59,7 +59,7 @@ escape-string-spec =
     admit-requires
     enum-told
     enum-told-2
-    refused-by-requires
+    not-admitted-requires
     returns
     escaped-length-requires
     at-start-requires

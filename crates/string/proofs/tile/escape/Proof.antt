@@ -6,7 +6,7 @@ use mathlib.Core.Path.{_≡_, sym, ap, _∙_}
 use lib.ListN.{getD}
 use denote.Ref.{now}
 use Rattle.scan.specs.Byte.{end, peekAt}
-use Rattle.scan.proofs.byte.Classes.{getD-any}
+use Rattle.proving.proofs.Lists.{getD-any}
 use Rattle.string.specs.Tile.{noValue, letterValue, numbered}
 use borrow.Author.Needs.{needs}
 use Rattle.string.proofs.tile.Forms.{none, letter, hex, short, long, octal}
