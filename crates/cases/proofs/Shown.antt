@@ -16,7 +16,7 @@ use Rattle.string.specs.Tiles.{tilesPast, hasBad, pieceBytes, bytesOf}
 use Rattle.string.specs.Literal.{isQuote, isEnclosed, hasNewline}
 use Rattle.scan.specs.Sign.{isSign}
 use Rattle.decimal.specs.Grammar.{hasDigits, exponentHasDigits, isNumeral, isInfinite, isNan}
-use Rattle.decimal.specs.Value.{valueFrom, isZeros, trailing, isExact, nearest, scaledBy, decimalIn, decimalOf}
+use Rattle.decimal.specs.Value.{valueFrom, isScaled, isSome, isExactRange, isInExact, numeralRead, decimalIn, decimalOf}
 use Rattle.duration.specs.Units.{isPart, behind, sumBy, counted, isUnitText, unitsOf}
 use Rattle.duration.specs.declared.Timing.the-variants.{Lasts, Refused}
 use Rattle.duration.specs.Duration.{durationRead, timingOf}
@@ -44,11 +44,11 @@ unfolding timingOf durationRead admitted validityOf charsPast sizeOf charLength 
 timed-zero = refl
 
 timed-none : timingOf (ascii "00") ≡ Lasts (duration 0 0)
-unfolding timingOf durationRead admitted validityOf charsPast sizeOf charLength sizeIn fits codeOf isWithin sameText decimalOf decimalIn isInfinite isNan isNumeral hasDigits exponentHasDigits isSign lowered isIn runLength digitOf valueFrom isZeros trailing isExact nearest scaledBy lt le
+unfolding timingOf durationRead admitted validityOf charsPast sizeOf charLength sizeIn fits codeOf isWithin sameText decimalOf decimalIn isInfinite isNan isNumeral hasDigits exponentHasDigits isSign lowered isIn runLength digitOf valueFrom numeralRead isInExact isExactRange isSome isScaled lt le
 timed-none = refl
 
 timed-decimal : timingOf (ascii "0.0009765625") ≡ Lasts (duration 0 976562)
-unfolding timingOf durationRead admitted validityOf charsPast sizeOf charLength sizeIn fits codeOf isWithin sameText decimalOf decimalIn isInfinite isNan isNumeral hasDigits exponentHasDigits isSign lowered isIn runLength digitOf valueFrom isZeros trailing isExact nearest scaledBy round size span climb floatUnits odd trailingZeros lt le
+unfolding timingOf durationRead admitted validityOf charsPast sizeOf charLength sizeIn fits codeOf isWithin sameText decimalOf decimalIn isInfinite isNan isNumeral hasDigits exponentHasDigits isSign lowered isIn runLength digitOf valueFrom numeralRead isInExact isExactRange isSome isScaled round size span climb floatUnits odd trailingZeros lt le
 timed-decimal = refl
 
 timed-units : timingOf (ascii "1d5000000000ms") ≡ Lasts (days 1)

@@ -8,7 +8,8 @@ use mathlib.Core.Path.{_≡_}
 use borrow.Author.Tests.{eq-eqb, ne-eqb}
 use Rattle.proving.proofs.Tests.{Tests, affirmed, decided, tests-and, tests-le}
 use Rattle.decimal.specs.laws.Decimal.{InRange}
-use Rattle.decimal.specs.Value.{mostTold, longest, mostExact, mostExponent, isExact, scaledBy}
+use Rattle.decimal.specs.Value.{mostTold, longest, mostExact, mostExponent}
+use Rattle.decimal.specs.steps.Scale.{isExact, scaledBy}
 
 pub tests-exact : (w up down : ℕ) → Tests (isExact w up down) (InRange w up down)
 unfolding isExact

@@ -17,8 +17,8 @@ ghost use Rattle.scan.specs.Byte.{lowered};
 ghost use Rattle.scan.specs.Text.{sameText};
 ghost use Rattle.scan.specs.Sign.{isMinus};
 ghost use Rattle.decimal.specs.Grammar.{pastPoint, isExponent, pastExponent, between, partsOf, hasDigits, exponentHasDigits, isNumeral, digitsOf, exponentOf};
-ghost use Rattle.decimal.specs.Value.{bitsOf, radixOf, valueFrom, valueOf, mostTold, trailing, significand, mostExact, mostExponent, longest, isExact, nearest, plain, scaledBy, numeralRead, decimalOf};
-ghost use Rattle.decimal.specs.Value.{tenTo};
+ghost use Rattle.decimal.specs.Value.{bitsOf, radixOf, valueFrom, valueOf, mostTold, mostExact, mostExponent, longest, plain, numeralRead, decimalOf};
+ghost use Rattle.decimal.specs.steps.Scale.{trailing, significand, isExact, nearest, scaledBy, tenTo};
 
 // How a number was written.
 pub enum Notation {

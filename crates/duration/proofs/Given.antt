@@ -25,9 +25,10 @@ use Rattle.scan.specs.Sign.{isMinus}
 use Rattle.decimal.specs.declared.Decimal.{Decimal}
 use Rattle.decimal.specs.declared.Decimal.the-variants.{NotDecimal, Named, Exact, Outside}
 use Rattle.decimal.specs.Grammar.{isNumeral, isInfinite, isNan}
-use Rattle.decimal.specs.Value.{plain, longest, decimalOf}
-use Rattle.decimal.specs.laws.Decimal.{nearestOf, Infinite, Nan, Numeral, Spelled, InExact}
-use Rattle.decimal.proofs.Given.{decimal-given, decided-exact}
+use Rattle.decimal.specs.Value.{plain, longest, decimalOf, nearestOf}
+use Rattle.decimal.specs.laws.Decimal.{Infinite, Nan, Numeral, Spelled, InExact}
+use Rattle.decimal.proofs.Given.{decimal-given}
+use Rattle.decimal.proofs.Ranges.{exact-told}
 use Rattle.duration.specs.declared.span.Duration.{Duration}
 use Rattle.duration.specs.Unit.{second, nanosAMilli}
 use Rattle.duration.specs.Spans.{isZero, twoTo64, nanosOf, durationAt}
@@ -173,7 +174,7 @@ module _ (xs : List ℕ) where
   read-row : Read xs → Dec (Infinite xs) → Dec (Nan xs) → Dec (Numeral xs) → (w : Row) × Holds w
   read-row r (yes i) a n = (beyond, (r, inl (inl i)))
   read-row r (no i) (yes a) n = (beyond, (r, inl (inr a)))
-  read-row r (no i) (no a) (yes n) = decimal-row r n (decided-exact xs) (decided (tests-time xs)) (decided (itself (isMinus xs 0)))
+  read-row r (no i) (no a) (yes n) = decimal-row r n (decided (exact-told xs)) (decided (tests-time xs)) (decided (itself (isMinus xs 0)))
   read-row r (no i) (no a) (no n) = unit-row r (⊎-elim i (⊎-elim a n)) (decided (itself (isUnitText xs))) (ℕ-discrete (unitSum xs) 0)
 
   row : Dec (TooLong longest xs) → Dec (WellFormed xs) → Dec (Empty xs) → Dec (ZeroText xs) → (w : Row) × Holds w

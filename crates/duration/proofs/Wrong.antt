@@ -17,7 +17,7 @@ use Rattle.utf8.specs.Text.{charsPast, sizeOf}
 use Rattle.utf8.specs.Answers.{validityOf, admitted, atStart, place, notUtf8}
 use Rattle.utf8.specs.Code.{codeOf}
 use Rattle.decimal.specs.Grammar.{hasDigits, exponentHasDigits, isNumeral, isInfinite, isNan}
-use Rattle.decimal.specs.Value.{valueFrom, isZeros, trailing, isExact, nearest, scaledBy, decimalIn, decimalOf}
+use Rattle.decimal.specs.Value.{valueFrom, isScaled, isSome, isExactRange, isInExact, numeralRead, decimalIn, decimalOf}
 use Rattle.duration.specs.declared.span.Duration.{Duration}
 use Rattle.duration.specs.Units.{isPart, behind, sumBy, counted, isUnitText, unitsOf}
 use Rattle.duration.specs.declared.Timing.{Timing}
@@ -36,7 +36,7 @@ abbrev parse-duration-gives : List ℕ → Timing → Type 0
 parse-duration-gives s v = Answers parse-duration.ps parse-duration.r parse-duration-reads.Post (λ κs a. now (a .0) ≡ s) (λ κs. v)
 
 parse-duration-at : (s : List ℕ) → parse-duration-gives s (timingOf s)
-unfolding timingOf durationRead admitted validityOf charsPast sizeOf charLength sizeIn fits codeOf isWithin sameText decimalOf decimalIn isInfinite isNan isNumeral hasDigits exponentHasDigits isSign lowered isIn runLength digitOf valueFrom isZeros trailing isExact nearest scaledBy round size span climb floatUnits odd trailingZeros lt le unitsOf isUnitText behind sumBy isPart counted isAlpha
+unfolding timingOf durationRead admitted validityOf charsPast sizeOf charLength sizeIn fits codeOf isWithin sameText decimalOf decimalIn isInfinite isNan isNumeral hasDigits exponentHasDigits isSign lowered isIn runLength digitOf valueFrom numeralRead isInExact isExactRange isSome isScaled round size span climb floatUnits odd trailingZeros lt le unitsOf isUnitText behind sumBy isPart counted isAlpha
 parse-duration-at s κs a x e p h = p ∙ ap timingOf h
 
 pub empty-text-is-refused-with-fifty : parse-duration-gives [] (Refused (atStart 50))

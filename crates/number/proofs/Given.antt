@@ -24,9 +24,10 @@ use Rattle.decimal.specs.declared.Decimal.{Decimal}
 use Rattle.decimal.specs.declared.Decimal.the-variants.{NotDecimal, Named, Exact, Outside}
 use Rattle.scan.specs.Sign.{pastSign, isMinus}
 use Rattle.decimal.specs.Grammar.{isNumeral, isInfinite, isNan}
-use Rattle.decimal.specs.Value.{radixOf, plain, longest, decimalOf}
-use Rattle.decimal.specs.laws.Decimal.{nearestOf, Infinite, Nan, Numeral, InExact}
-use Rattle.decimal.proofs.Given.{decimal-given, decided-exact}
+use Rattle.decimal.specs.Value.{radixOf, plain, longest, decimalOf, nearestOf}
+use Rattle.decimal.specs.laws.Decimal.{Infinite, Nan, Numeral, InExact}
+use Rattle.decimal.proofs.Given.{decimal-given}
+use Rattle.decimal.proofs.Ranges.{exact-told}
 use Rattle.number.specs.declared.Integer.the-variants as integer
 use Rattle.number.specs.declared.Parsing.{Parsing}
 use Rattle.number.specs.declared.Parsing.the-variants.{Value, Refused}
@@ -173,7 +174,7 @@ module _ (xs : List ℕ) where
   row (no l) (no w) m = (broken, (l, w))
   row (no l) (yes w) (yes m) = marked-row (l, w) m (decided (tests-whole t)) (decided (tests-i64 t))
   row (no l) (yes w) (no m) =
-      decimal-row (l, w) m (decided (itself (isInfinite t))) (decided (itself (isNan t))) (decided (itself (isNumeral t))) (decided-exact t)
+      decimal-row (l, w) m (decided (itself (isInfinite t))) (decided (itself (isNan t))) (decided (itself (isNumeral t))) (decided (exact-told t))
 
   some : (w : Row) × Holds w
   some = row (decLt longest (length xs)) (ℕ-discrete (prefixEnd xs) (length xs)) (decided (tests-marked t))

@@ -22,7 +22,7 @@ use Rattle.decimal.specs.declared.Notation.{Notation}
 use Rattle.decimal.specs.declared.Notation.the-variants.{Hex, Octal}
 use Rattle.decimal.specs.declared.Number.{Number}
 use Rattle.decimal.specs.Grammar.{hasDigits, exponentHasDigits, isNumeral, isInfinite, isNan}
-use Rattle.decimal.specs.Value.{valueFrom, isZeros, trailing, isExact, nearest, plain, scaledBy, decimalIn, decimalOf}
+use Rattle.decimal.specs.Value.{valueFrom, plain, isScaled, isSome, isExactRange, isInExact, numeralRead, decimalIn, decimalOf}
 use Rattle.number.specs.declared.Parsing.{Parsing}
 use Rattle.number.specs.declared.Parsing.the-variants.{Value, Refused}
 use Rattle.number.specs.White.{isWhite, keptOf}
@@ -42,7 +42,7 @@ abbrev parse-str-radix-gives : List ℕ → Parsing → Type 0
 parse-str-radix-gives s v = Answers parse-str-radix.ps parse-str-radix.r parse-str-radix-reads.Post (λ κs a. now (a .0) ≡ s) (λ κs. v)
 
 parse-str-radix-at : (s : List ℕ) → parse-str-radix-gives s (parsingOf s)
-unfolding parsingOf admitted validityOf charsPast sizeOf charLength sizeIn fits codeOf isWithin keptOf isWhite lowered encoded sixBits numberOf isMarked isZeroLed hasDecimalMark has isSign decimalOf decimalIn isInfinite isNan isNumeral hasDigits exponentHasDigits sameText isIn runLength digitOf valueFrom isZeros trailing isExact nearest scaledBy round size span climb units odd trailingZeros markedRead notationOf followsMark integerOf isWhole isDigits isDigitIn isHexDigit isI64 ofInt
+unfolding parsingOf admitted validityOf charsPast sizeOf charLength sizeIn fits codeOf isWithin keptOf isWhite lowered encoded sixBits numberOf isMarked isZeroLed hasDecimalMark has isSign decimalOf decimalIn isInfinite isNan isNumeral hasDigits exponentHasDigits sameText isIn runLength digitOf valueFrom numeralRead isInExact isExactRange isSome isScaled round size span climb units odd trailingZeros markedRead notationOf followsMark integerOf isWhole isDigits isDigitIn isHexDigit isI64 ofInt
 parse-str-radix-at s κs a x e p h = p ∙ ap parsingOf h
 
 pub one-is-a-number : parse-str-radix-gives (ascii "1") (Value (plain (fin false 1 (pos 0))))

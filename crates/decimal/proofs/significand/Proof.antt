@@ -8,7 +8,8 @@ use lib.ListN.{length}
 use denote.Ref.{now}
 use Rattle.decimal.specs.declared.Parts.{Parts}
 use Rattle.decimal.specs.Grammar.{between}
-use Rattle.decimal.specs.Value.{valueFrom, valueOf, isZeros, trailing, trimmed, mostTold}
+use Rattle.decimal.specs.Value.{valueFrom, valueOf, mostTold}
+use Rattle.decimal.specs.steps.Scale.{isZeros, trailing, trimmed}
 use Rattle.decimal.proofs.Runs.{capped-on, value-join}
 use Rattle.decimal.proofs.Places.{Ordered, ordered, wholeIn, fractionIn, behindIn, whole-long, fraction-long, digits-are}
 use Rattle.decimal.proofs.Zeros.{trailing-few, not-all, trailing-first, trailing-last, trimmed-first, trimmed-both, trimmed-between}

@@ -1,30 +1,18 @@
 -- What the readers of numbers and durations may know of decimals, as statements. `proofs/Characters`, `proofs/Exactness` and
 -- `proofs/Given` have the proofs.
 use Prim.Native.Nat.{ℕ, _+_, _*_, _%_, _^_, _≤_}
-use mathlib.Core.Bool.{true, cond}
+use mathlib.Core.Bool.{true}
 use mathlib.Core.List.{List}
 use mathlib.Core.Logic.{_↔_, _⊎_}
 use mathlib.Core.Path.{_≡_}
 use lib.IntN.{pos}
-use lib.Ieee.{nan, inf, fin, binary64, round}
+use lib.Ieee.{nan, inf, fin}
 use lib.ListN.{length}
 use Rattle.decimal.specs.declared.Number.{Number}
 use Rattle.decimal.specs.declared.Decimal.the-variants.{NotDecimal, Named, Exact, Outside}
 use Rattle.scan.specs.Sign.{isMinus}
-use Rattle.decimal.specs.Grammar.{isNumeral, isInfinite, isNan, fractionOf, digitsOf, exponentOf, isNegativeExponent}
-use Rattle.decimal.specs.Value.{valueOf, mostExact, mostExponent, plain, longest, decimalIn, decimalOf}
-
--- the value that a numeral stands for, as a fraction: all its digits as one whole number, times ten to the power of its exponent, over ten
--- to the power of the number of digits behind the point
-abbrev pub numerator : List ℕ → ℕ
-numerator xs = valueOf (digitsOf xs) * 10 ^ cond (isNegativeExponent xs) 0 (valueOf (exponentOf xs))
-
-abbrev pub denominator : List ℕ → ℕ
-denominator xs = 10 ^ (length (fractionOf xs) + cond (isNegativeExponent xs) (valueOf (exponentOf xs)) 0)
-
--- and the f64 nearest to it, with the text's sign
-abbrev pub nearestOf : List ℕ → Number
-nearestOf xs = plain (round binary64 (isMinus xs 0) (numerator xs) (denominator xs))
+use Rattle.decimal.specs.Grammar.{isNumeral, isInfinite, isNan}
+use Rattle.decimal.specs.Value.{numerator, denominator, nearestOf, mostExact, mostExponent, isInExact, plain, longest, decimalIn, decimalOf}
 
 -- "duration and number text 256"; and what the grammar has, which `specs/Spelling` spells out
 abbrev pub Short : List ℕ → Type 0
@@ -71,6 +59,10 @@ ExactRange xs = (w up down : ℕ) × Scaled xs w up down × InRange w up down
 -- "Zero is accepted with any exponent"
 abbrev pub InExact : List ℕ → Type 0
 InExact xs = Zero xs ⊎ ExactRange xs
+
+-- and this is what the definition tests
+abbrev pub ExactTold : Type 0
+ExactTold = (xs : List ℕ) → isInExact xs ≡ true ↔ InExact xs
 
 -- when each answer is given
 abbrev pub DecimalGiven : Type 0

@@ -13,8 +13,8 @@ use Rattle.utf8.specs.Text.{prefixEnd}
 use Rattle.utf8.specs.Answers.{placeAt, tooLong, notUtf8}
 use Rattle.utf8.specs.laws.Refusals.{TooLong, NotUtf8, Taken}
 use Rattle.scan.specs.Sign.{isMinus}
-use Rattle.decimal.specs.Value.{longest}
-use Rattle.decimal.specs.laws.Decimal.{nearestOf, Infinite, Nan, Numeral, Spelled, InExact}
+use Rattle.decimal.specs.Value.{longest, nearestOf}
+use Rattle.decimal.specs.laws.Decimal.{Infinite, Nan, Numeral, Spelled, InExact}
 use Rattle.duration.specs.declared.span.Duration.{Duration}
 use Rattle.duration.specs.Spans.{twoTo64, nanosOf, durationAt}
 use Rattle.duration.specs.Units.{isUnitText, unitSum, lasting}

@@ -15,8 +15,8 @@ use Rattle.utf8.specs.Answers.{placeAt, tooLong, notUtf8}
 use Rattle.utf8.specs.laws.Refusals.{TooLong, NotUtf8, Taken}
 use Rattle.decimal.specs.declared.Number.{Number}
 use Rattle.scan.specs.Sign.{pastSign, isMinus}
-use Rattle.decimal.specs.Value.{radixOf, plain, longest}
-use Rattle.decimal.specs.laws.Decimal.{nearestOf, Infinite, Nan, Numeral, Spelled, InExact}
+use Rattle.decimal.specs.Value.{radixOf, plain, longest, nearestOf}
+use Rattle.decimal.specs.laws.Decimal.{Infinite, Nan, Numeral, Spelled, InExact}
 use Rattle.number.specs.declared.Parsing.the-variants.{Value, Refused}
 use Rattle.number.specs.White.{plainText}
 use Rattle.number.specs.Signed.{mostOf}
