@@ -16,10 +16,11 @@ use borrow.Author.Tests.{eqb-true}
 use Rattle.scan.specs.declared.byte.Class.the-variants.{Digit}
 use Rattle.scan.specs.Byte.{peekAt, digitOf, isIn}
 use Rattle.scan.specs.Run.{runEnd}
+use Rattle.scan.specs.Digits.{valueFrom, valueOf}
 use Rattle.scan.proofs.byte.Classes.{within-bounds}
 use Rattle.scan.proofs.Runs.{run-passes}
 use Rattle.decimal.specs.Grammar.{between, wholeFrom, wholeTo, fractionFrom, fractionOf, digitsOf, exponentOf, isNegativeExponent}
-use Rattle.decimal.specs.Value.{valueFrom, valueOf, numerator, denominator}
+use Rattle.decimal.specs.Value.{numerator, denominator}
 use Rattle.decimal.specs.steps.Scale.{isZeros, trailing, trimmed, significand, raised, reduced}
 use Rattle.decimal.specs.laws.Decimal.{Scaled, SomeScale, OneScale, InRange, ExactRange}
 use Rattle.decimal.proofs.Values.{ten-pos}
@@ -117,7 +118,7 @@ digits-below xs = below-join (between xs (wholeFrom xs) (wholeTo xs)) (fractionO
 -- the value is w times ten to the power of the zeros and the exponent
 pub numerator-is : (xs : List ℕ) → numerator xs ≡ significand xs * 10 ^ raised xs
 numerator-is xs =
-    let e = cond (isNegativeExponent xs) 0 (valueOf (exponentOf xs)) in
+    let e = cond (isNegativeExponent xs) 0 (valueOf 10 (exponentOf xs)) in
     ap (λ (n : ℕ). n * 10 ^ e) (split 0 (digitsOf xs))
     ∙ mul-assoc (significand xs) (10 ^ trailing (digitsOf xs)) (10 ^ e)
     ∙ ap (λ (n : ℕ). significand xs * n) (sym (pow-add 10 (trailing (digitsOf xs)) e))

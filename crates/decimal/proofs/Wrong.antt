@@ -15,6 +15,7 @@ use Rattle.proving.proofs.One.{Answers}
 use Rattle.scan.specs.Run.{runLength}
 use Rattle.scan.specs.Text.{sameText}
 use Rattle.scan.specs.Sign.{isSign}
+use Rattle.scan.specs.Digits.{valueFrom}
 use Rattle.utf8.specs.Table.{fits, sizeIn, charLength}
 use Rattle.utf8.specs.Text.{charsPast, sizeOf}
 use Rattle.utf8.specs.Code.{codeOf}
@@ -23,7 +24,7 @@ use Rattle.decimal.specs.declared.Notation.the-variants as notation
 use Rattle.decimal.specs.declared.Decimal.{Decimal}
 use Rattle.decimal.specs.declared.Decimal.the-variants.{NotDecimal, Named, Exact, Outside}
 use Rattle.decimal.specs.Grammar.{hasDigits, exponentHasDigits, isNumeral, isInfinite, isNan}
-use Rattle.decimal.specs.Value.{bitsOf, radixOf, valueFrom, mostTold, plain, isScaled, isSome, isExactRange, isInExact, numeralRead, decimalIn, decimalOf}
+use Rattle.decimal.specs.Value.{bitsOf, radixOf, mostTold, plain, isScaled, isSome, isExactRange, isInExact, numeralRead, decimalIn, decimalOf}
 use Rattle.decimal.specs.steps.Scale.{tenTo}
 use Rattle.decimal.proofs.bits_of.Kinds as bits-of
 use Rattle.decimal.proofs.bits_of.Reads as bits-of-reads

@@ -2,12 +2,12 @@
 -- divisible by ten; it is exact if w is at most 2^53 and E lies in -22 to 22".
 use Prim.Native.Nat.{ℕ, zero, suc, _+_, _*_, _/_, _%_, _^_}
 use mathlib.Core.Bool.{Bool, cond, _&&_, _||_, not}
-use mathlib.Core.List.{List, [], _∷_}
+use mathlib.Core.List.{List}
 use lib.Dec.{eqb, leb, ltb}
 use lib.Ieee as Ieee
 use lib.Ieee.{Float, nan, inf, binary64, round, toBits}
 use lib.ListN.{length}
-use Rattle.scan.specs.Byte.{digitOf}
+use Rattle.scan.specs.Digits.{valueOf}
 use Rattle.utf8.specs.Text.{codesOf, isWellFormed}
 use Rattle.decimal.specs.declared.Notation.{Notation}
 use Rattle.decimal.specs.declared.Notation.the-variants as notation
@@ -27,17 +27,6 @@ radixOf notation.Decimal = 10
 radixOf notation.Hex = 16
 radixOf notation.Octal = 8
 
--- what digits of a radix amount to, behind those that amount to v
-unfoldable pub valueFrom : ℕ → ℕ → List ℕ → ℕ
-valueFrom radix v [] = v
-valueFrom radix v (x ∷ xs) = valueFrom radix (v * radix + digitOf x) xs
-
-abbrev pub valueIn : Notation → List ℕ → ℕ
-valueIn n xs = valueFrom (radixOf n) 0 xs
-
-abbrev pub valueOf : List ℕ → ℕ
-valueOf xs = valueIn notation.Decimal xs
-
 -- what the reader of digits answers for this and every greater value: no magnitude of a signed 64-bit integer is so great
 abbrev pub mostTold : ℕ
 mostTold = 2 ^ 63 + 1
@@ -45,10 +34,10 @@ mostTold = 2 ^ 63 + 1
 -- the value that a numeral stands for, as a fraction: all its digits as one whole number, times ten to the power of its exponent, over ten
 -- to the power of the number of digits behind the point
 abbrev pub numerator : List ℕ → ℕ
-numerator xs = valueOf (digitsOf xs) * 10 ^ cond (isNegativeExponent xs) 0 (valueOf (exponentOf xs))
+numerator xs = valueOf 10 (digitsOf xs) * 10 ^ cond (isNegativeExponent xs) 0 (valueOf 10 (exponentOf xs))
 
 abbrev pub denominator : List ℕ → ℕ
-denominator xs = 10 ^ (length (fractionOf xs) + cond (isNegativeExponent xs) (valueOf (exponentOf xs)) 0)
+denominator xs = 10 ^ (length (fractionOf xs) + cond (isNegativeExponent xs) (valueOf 10 (exponentOf xs)) 0)
 
 abbrev pub plain : Float → Number
 plain x = record { value = x; notation = notation.Decimal }

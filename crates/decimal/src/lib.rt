@@ -16,8 +16,9 @@ ghost use Rattle.scan.specs.Ascii.{ascii};
 ghost use Rattle.scan.specs.Byte.{lowered};
 ghost use Rattle.scan.specs.Text.{sameText};
 ghost use Rattle.scan.specs.Sign.{isMinus};
+ghost use Rattle.scan.specs.Digits.{valueFrom, valueOf};
 ghost use Rattle.decimal.specs.Grammar.{pastPoint, isExponent, pastExponent, between, partsOf, hasDigits, exponentHasDigits, isNumeral, digitsOf, exponentOf};
-ghost use Rattle.decimal.specs.Value.{bitsOf, radixOf, valueFrom, valueOf, mostTold, mostExact, mostExponent, longest, plain, numeralRead, decimalOf};
+ghost use Rattle.decimal.specs.Value.{bitsOf, radixOf, mostTold, mostExact, mostExponent, longest, plain, numeralRead, decimalOf};
 ghost use Rattle.decimal.specs.steps.Scale.{trailing, significand, isExact, nearest, scaledBy, tenTo};
 
 // How a number was written.
@@ -324,7 +325,7 @@ fn significand(s: &[u8], p: Parts, zeros: usize) -> u64
 // What the exponent of a text amounts to, or the most that is told apart.
 fn exponent(s: &[u8], p: Parts) -> usize
     requires { ⌜ p ≡ partsOf (now s) ⌝ }
-    ensures { λ r. ⌜ r ≡ min mostTold (valueOf (exponentOf (now (s .entry)))) ⌝ }
+    ensures { λ r. ⌜ r ≡ min mostTold (valueOf 10 (exponentOf (now (s .entry)))) ⌝ }
 {
     value_between(s, p.exponent_from, p.exponent_to, 0) as usize
 }

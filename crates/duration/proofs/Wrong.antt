@@ -12,12 +12,13 @@ use Rattle.proving.proofs.One.{Answers}
 use Rattle.scan.specs.Run.{runLength}
 use Rattle.scan.specs.Text.{sameText}
 use Rattle.scan.specs.Sign.{isSign}
+use Rattle.scan.specs.Digits.{valueFrom}
 use Rattle.utf8.specs.Table.{fits, sizeIn, charLength}
 use Rattle.utf8.specs.Text.{charsPast, sizeOf}
 use Rattle.utf8.specs.Answers.{validityOf, admitted, atStart, place, notUtf8}
 use Rattle.utf8.specs.Code.{codeOf}
 use Rattle.decimal.specs.Grammar.{hasDigits, exponentHasDigits, isNumeral, isInfinite, isNan}
-use Rattle.decimal.specs.Value.{valueFrom, isScaled, isSome, isExactRange, isInExact, numeralRead, decimalIn, decimalOf}
+use Rattle.decimal.specs.Value.{isScaled, isSome, isExactRange, isInExact, numeralRead, decimalIn, decimalOf}
 use Rattle.duration.specs.declared.span.Duration.{Duration}
 use Rattle.duration.specs.Units.{isPart, behind, sumBy, counted, isUnitText, unitsOf}
 use Rattle.duration.specs.declared.Timing.{Timing}

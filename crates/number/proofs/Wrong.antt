@@ -14,6 +14,7 @@ use Rattle.proving.proofs.One.{Answers}
 use Rattle.scan.specs.Run.{runLength}
 use Rattle.scan.specs.Text.{has, sameText}
 use Rattle.scan.specs.Sign.{isSign}
+use Rattle.scan.specs.Digits.{valueFrom}
 use Rattle.utf8.specs.Table.{fits, sizeIn, charLength}
 use Rattle.utf8.specs.Text.{charsPast, sizeOf}
 use Rattle.utf8.specs.Answers.{validityOf, admitted, atStart, place, notUtf8}
@@ -22,7 +23,7 @@ use Rattle.decimal.specs.declared.Notation.{Notation}
 use Rattle.decimal.specs.declared.Notation.the-variants.{Hex, Octal}
 use Rattle.decimal.specs.declared.Number.{Number}
 use Rattle.decimal.specs.Grammar.{hasDigits, exponentHasDigits, isNumeral, isInfinite, isNan}
-use Rattle.decimal.specs.Value.{valueFrom, plain, isScaled, isSome, isExactRange, isInExact, numeralRead, decimalIn, decimalOf}
+use Rattle.decimal.specs.Value.{plain, isScaled, isSome, isExactRange, isInExact, numeralRead, decimalIn, decimalOf}
 use Rattle.number.specs.declared.Parsing.{Parsing}
 use Rattle.number.specs.declared.Parsing.the-variants.{Value, Refused}
 use Rattle.number.specs.White.{isWhite, keptOf}

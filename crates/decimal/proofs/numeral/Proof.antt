@@ -8,10 +8,11 @@ use mathlib.Core.Path.{_≡_, sym, ap, _∙_}
 use lib.ListN.{length}
 use denote.Ref.{now}
 use Rattle.scan.specs.Sign.{isMinus}
+use Rattle.scan.specs.Digits.{valueOf}
 use Rattle.decimal.specs.declared.Decimal.{Decimal}
 use Rattle.decimal.specs.declared.Parts.{Parts}
 use Rattle.decimal.specs.Grammar.{isExponent, partsOf, digitsOf, fractionOf, exponentOf, isNegativeExponent}
-use Rattle.decimal.specs.Value.{valueOf, mostTold, longest}
+use Rattle.decimal.specs.Value.{mostTold, longest}
 use Rattle.decimal.specs.steps.Scale.{trailing, significand, scaledBy, scaleRead}
 use Rattle.decimal.proofs.Places.{Ordered, ordered, fractionIn, behindIn, fraction-long, digits-few}
 use Rattle.decimal.proofs.Zeros.{trailing-few}
@@ -34,7 +35,7 @@ module _ (c : tie.Start) where
 -- the value by the parts where they lie
 module _ (xs : List ℕ) where
   abbrev power : ℕ
-  power = valueOf (exponentOf xs)
+  power = valueOf 10 (exponentOf xs)
 
   behind-is : (p : Parts) → p ≡ partsOf xs → behindIn xs p ≡ length (fractionOf xs)
   behind-is p e = sym (fraction-long xs p e) ∙ ap (λ (q : Parts). length (fractionIn xs q)) e

@@ -9,10 +9,11 @@ use lib.Ieee.{Float, fin, binary64, round}
 use lib.ListN.{length, take}
 use Rattle.scan.specs.Byte.{digitOf}
 use Rattle.scan.specs.Sign.{isMinus}
+use Rattle.scan.specs.Digits.{valueOf}
 use Rattle.decimal.specs.declared.Decimal.{Decimal}
 use Rattle.decimal.specs.declared.Decimal.the-variants.{Exact, Outside}
 use Rattle.decimal.specs.Grammar.{fractionOf, digitsOf, exponentOf, isNegativeExponent}
-use Rattle.decimal.specs.Value.{valueOf, mostExact, mostExponent, plain}
+use Rattle.decimal.specs.Value.{mostExact, mostExponent, plain}
 
 -- how many zeros digits end with
 unfoldable pub isZeros : List ℕ → Bool
@@ -29,13 +30,13 @@ trimmed ds = take (length ds - trailing ds) ds
 
 -- w, and the two powers of ten
 abbrev pub significand : List ℕ → ℕ
-significand xs = valueOf (trimmed (digitsOf xs))
+significand xs = valueOf 10 (trimmed (digitsOf xs))
 
 abbrev pub raised : List ℕ → ℕ
-raised xs = trailing (digitsOf xs) + cond (isNegativeExponent xs) 0 (valueOf (exponentOf xs))
+raised xs = trailing (digitsOf xs) + cond (isNegativeExponent xs) 0 (valueOf 10 (exponentOf xs))
 
 abbrev pub reduced : List ℕ → ℕ
-reduced xs = length (fractionOf xs) + cond (isNegativeExponent xs) (valueOf (exponentOf xs)) 0
+reduced xs = length (fractionOf xs) + cond (isNegativeExponent xs) (valueOf 10 (exponentOf xs)) 0
 
 unfoldable pub isExact : ℕ → ℕ → ℕ → Bool
 isExact w up down = leb w mostExact && (leb up (down + mostExponent) && leb down (up + mostExponent))

@@ -17,8 +17,9 @@ use Rattle.utf8.specs.Code.{codeOf, encoded}
 use Rattle.utf8.specs.Text.{charsPast, sizeOf}
 use Rattle.utf8.specs.Answers.{validityOf, admitted}
 use Rattle.scan.specs.Sign.{isSign}
+use Rattle.scan.specs.Digits.{valueFrom}
 use Rattle.decimal.specs.Grammar.{hasDigits, exponentHasDigits, isNumeral, isInfinite, isNan}
-use Rattle.decimal.specs.Value.{bitsOf, valueFrom, isScaled, isSome, isExactRange, isInExact, numeralRead, decimalIn, decimalOf}
+use Rattle.decimal.specs.Value.{bitsOf, isScaled, isSome, isExactRange, isInExact, numeralRead, decimalIn, decimalOf}
 use Rattle.number.specs.White.{isWhite, keptOf}
 use Rattle.number.specs.Signed.{isI64}
 use Rattle.number.specs.Integer.{isDigits, isWhole, integerOf}

@@ -4,16 +4,17 @@ use mathlib.Core.Path.{_≡_}
 use mathlib.Core.List.{List, _++_}
 use lib.Dec.{ltb}
 use lib.ListN.{length, take}
-use Rattle.writing.specs.Decimal.{decimalBase, mostDigits, valueOf, digitsBy, decimalText}
+use Rattle.scan.specs.Digits.{valueOf}
+use Rattle.writing.specs.Decimal.{decimalBase, mostDigits, digitsBy, decimalText}
 use Rattle.writing.specs.Put.{putAt, pastAt}
 
 -- the digits of n are one digit, or those of n / 10 and then n % 10, of every number
-abbrev pub DigitsOf : Type 0
-DigitsOf = (n : ℕ) → decimalText n ≡ digitsBy (ltb n decimalBase) decimalText n
+abbrev pub DecimalDigits : Type 0
+DecimalDigits = (n : ℕ) → decimalText n ≡ digitsBy (ltb n decimalBase) decimalText n
 
 -- their value is the number
 abbrev pub DecimalValue : Type 0
-DecimalValue = (n : ℕ) → valueOf (decimalText n) ≡ n
+DecimalValue = (n : ℕ) → valueOf decimalBase (decimalText n) ≡ n
 
 -- and they are few where it fits
 abbrev pub DigitsFew : Type 0

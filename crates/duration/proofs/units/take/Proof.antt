@@ -13,10 +13,11 @@ use Rattle.scan.specs.declared.byte.Class.the-variants.{Digit, Alpha}
 use Rattle.scan.specs.Byte.{isIn}
 use Rattle.scan.specs.Run.{runEnd}
 use Rattle.scan.specs.Text.{sameText}
+use Rattle.scan.specs.Digits.{valueOf}
 use Rattle.utf8.proofs.Chars.{rest-of}
 use Rattle.duration.specs.Unit.{second}
 use Rattle.decimal.specs.Grammar.{between}
-use Rattle.decimal.specs.Value.{valueOf, mostTold}
+use Rattle.decimal.specs.Value.{mostTold}
 use Rattle.duration.specs.declared.units.Taken.{Taken}
 use Rattle.duration.specs.Units.{digitsEnd, partEnd, isPart, partValue, mostCounted, counted}
 use Rattle.duration.specs.steps.Units.{taken}
@@ -103,7 +104,7 @@ module _ (c : tie.After-counted) where
   counts =
       let s = c .before .before .before .before .before .before .before .before in
       c .counted .ensures
-      ∙ ap counted (c .before .digits-value .ensures ∙ ap₂ (λ (n : ℕ) (zs : List ℕ). min mostTold (valueOf (listn.take n zs))) (digits-is s) (rest-is at-rest))
+      ∙ ap counted (c .before .digits-value .ensures ∙ ap₂ (λ (n : ℕ) (zs : List ℕ). min mostTold (valueOf 10 (listn.take n zs))) (digits-is s) (rest-is at-rest))
       ∙ counted-told (partValue (ys at-rest))
 
   few : c .counted .result ≤ mostCounted
