@@ -24,7 +24,7 @@ use Rattle.decimal.specs.declared.Decimal.{Decimal}
 use Rattle.decimal.specs.declared.Decimal.the-variants.{NotDecimal}
 use Rattle.scan.specs.Sign.{isSign, pastSign}
 use Rattle.decimal.specs.Grammar.{pastPoint, isExponent, pastExponent, wholeFrom, wholeTo, fractionFrom, fractionTo, exponentFrom, exponentTo, partsOf, hasDigits, exponentHasDigits, isNumeral, isNamed, isInfinite, isNan}
-use Rattle.decimal.specs.Value.{longest, decimalIn, decimalOf}
+use Rattle.decimal.specs.Value.{decimalLimit, decimalIn, decimalOf}
 use Rattle.decimal.specs.laws.Decimal.{ByCharacters}
 
 -- the places before n hold ASCII
@@ -113,4 +113,4 @@ other-none xs h =
 
 pub by-characters : ByCharacters
 unfolding decimalOf
-by-characters xs h = rw (le-ltb longest (length xs) h) (by-bytes Decimal NotDecimal decimalIn other-none xs)
+by-characters xs h = rw (le-ltb decimalLimit (length xs) h) (by-bytes Decimal NotDecimal decimalIn other-none xs)

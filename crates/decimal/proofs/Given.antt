@@ -17,8 +17,8 @@ use Rattle.decimal.specs.declared.Decimal.{Decimal}
 use Rattle.decimal.specs.declared.Decimal.the-variants.{NotDecimal, Named, Exact, Outside}
 use Rattle.scan.specs.Sign.{isMinus}
 use Rattle.decimal.specs.Grammar.{isNumeral, isInfinite, isNan}
-use Rattle.decimal.specs.Value.{nearestOf, numeralRead, plain, longest, decimalIn, decimalOf}
-use Rattle.decimal.specs.laws.Decimal.{NearestValue, Short, Infinite, Nan, Numeral, Spelled, InExact, DecimalGiven, ZeroKept}
+use Rattle.decimal.specs.Value.{nearestOf, numeralRead, plain, decimalLimit, decimalIn, decimalOf}
+use Rattle.decimal.specs.laws.Decimal.{NearestValue, Short, Infinite, Nan, Numeric, Spelled, InExact, OutsideExact, DecimalGiven, ZeroKept}
 use Rattle.decimal.proofs.Characters.{by-characters}
 use Rattle.decimal.proofs.Spelling.{spelled-once}
 use Rattle.decimal.proofs.Ranges.{exact-told}
@@ -46,8 +46,8 @@ module _ (xs : List ℕ) where
   abbrev Holds : Row → Type 0
   Holds infinite = Short xs × Infinite xs
   Holds number-less = Short xs × Nan xs
-  Holds exact = Short xs × Numeral xs × InExact xs
-  Holds outside = Short xs × Numeral xs × (InExact xs → ⊥)
+  Holds exact = Short xs × Numeric xs × InExact xs
+  Holds outside = Short xs × OutsideExact xs
   Holds none = Short xs × Spelled xs → ⊥
 
   abbrev given : Row → Decimal
@@ -65,15 +65,15 @@ module _ (xs : List ℕ) where
   back none = refl
 
   -- what is spelled in one way is not spelled in another
-  no-infinite : Nan xs ⊎ Numeral xs → isInfinite xs ≡ false
+  no-infinite : Nan xs ⊎ Numeric xs → isInfinite xs ≡ false
   no-infinite (inl a) = affirmed (itself (isInfinite xs)) (λ i. true≢false (sym a ∙ spelled-once xs .0 i))
   no-infinite (inr n) = affirmed (itself (isInfinite xs)) (λ i. true≢false (sym n ∙ spelled-once xs .1 i))
 
-  no-nan : Numeral xs → isNan xs ≡ false
+  no-nan : Numeric xs → isNan xs ≡ false
   no-nan n = affirmed (itself (isNan xs)) (λ a. true≢false (sym n ∙ spelled-once xs .2 a))
 
   -- what a numeral is read as
-  numeral : Short xs → Numeral xs → decimalOf xs ≡ numeralRead xs
+  numeral : Short xs → Numeric xs → decimalOf xs ≡ numeralRead xs
   unfolding decimalIn
   numeral h n = rw (← by-characters xs h, no-infinite (inr n), no-nan n, n)
 
@@ -87,7 +87,7 @@ module _ (xs : List ℕ) where
 
   refused : Dec (Short xs) → (Short xs × Spelled xs → ⊥) → decimalOf xs ≡ NotDecimal
   unfolding decimalOf decimalIn
-  refused (no l) n = rw (lt-ltb longest (length xs) (omega arith))
+  refused (no l) n = rw (lt-ltb decimalLimit (length xs) (omega arith))
   refused (yes h) n =
       let i : Infinite xs → ⊥ = λ i. n (h, inl i) in
       let a : Nan xs → ⊥ = λ a. n (h, inr (inl a)) in
@@ -98,15 +98,15 @@ module _ (xs : List ℕ) where
   gives infinite h = rw (← by-characters xs (h .0), h .1)
   gives number-less h = rw (← by-characters xs (h .0), no-infinite (inl (h .1)), h .1)
   gives exact h = numeral (h .0) (h .1) ∙ accepted (h .2)
-  gives outside h = numeral (h .0) (h .1) ∙ beyond (h .2)
-  gives none h = refused (decLe (length xs) longest) h
+  gives outside h = numeral (h .0) (h .1 .0) ∙ beyond (h .1 .1)
+  gives none h = refused (decLe (length xs) decimalLimit) h
 
-  some : Dec (Short xs) → Dec (Infinite xs) → Dec (Nan xs) → Dec (Numeral xs) → Dec (InExact xs) → (w : Row) × Holds w
+  some : Dec (Short xs) → Dec (Infinite xs) → Dec (Nan xs) → Dec (Numeric xs) → Dec (InExact xs) → (w : Row) × Holds w
   some (no l) i a m r = (none, λ s. l (s .0))
   some (yes l) (yes i) a m r = (infinite, (l, i))
   some (yes l) (no i) (yes a) m r = (number-less, (l, a))
   some (yes l) (no i) (no a) (yes m) (yes r) = (exact, (l, m, r))
-  some (yes l) (no i) (no a) (yes m) (no r) = (outside, (l, m, r))
+  some (yes l) (no i) (no a) (yes m) (no r) = (outside, (l, (m, r)))
   some (yes l) (no i) (no a) (no m) r = (none, λ s. spelled (s .1))
     where
       spelled : Spelled xs → ⊥
@@ -116,7 +116,7 @@ module _ (xs : List ℕ) where
 
   row : (w : Row) × Holds w
   row =
-      some (decLe (length xs) longest) (decided (itself (isInfinite xs))) (decided (itself (isNan xs))) (decided (itself (isNumeral xs))) (decided (exact-told xs))
+      some (decLe (length xs) decimalLimit) (decided (itself (isInfinite xs))) (decided (itself (isNan xs))) (decided (itself (isNumeral xs))) (decided (exact-told xs))
 
   each : (w : Row) → decimalOf xs ≡ given w → Holds w
   each = exactly rowOf given back Holds (row .0) (row .1) (gives (row .0) (row .1))

@@ -8,6 +8,8 @@ use lib.Ieee as Ieee
 use lib.Ieee.{Float, nan, inf, binary64, round, toBits}
 use lib.ListN.{length}
 use Rattle.scan.specs.Digits.{valueOf}
+use Rattle.utf8.specs.declared.Refusal.{Refusal}
+use Rattle.utf8.specs.Answers.{atStart}
 use Rattle.utf8.specs.Text.{codesOf, isWellFormed}
 use Rattle.decimal.specs.declared.Notation.{Notation}
 use Rattle.decimal.specs.declared.Notation.the-variants as notation
@@ -76,9 +78,13 @@ isInExact xs = eqb (numerator xs) 0 || isExactRange (numerator xs) (denominator 
 unfoldable pub numeralRead : List ℕ → Decimal
 numeralRead xs = cond (isInExact xs) (Exact (nearestOf xs)) (Outside (isMinus xs 0))
 
--- "duration and number text 256": the readers refuse a longer text before
-abbrev pub longest : ℕ
-longest = 256
+-- 53 "decimal outside the exact range", as whoever reads one refuses it
+abbrev pub outsideExact : Refusal
+outsideExact = atStart 53
+
+-- "Limits: .. duration and number text 256": the readers refuse a longer text before
+abbrev pub decimalLimit : ℕ
+decimalLimit = 256
 
 -- what characters are, as a decimal; no rule takes U+0100, whose number stands past the last of them
 unfoldable pub decimalIn : List ℕ → Decimal
@@ -91,6 +97,6 @@ decimalIn cs =
 -- a decimal is a text of characters, of at most so many bytes
 unfoldable pub decimalOf : List ℕ → Decimal
 decimalOf xs =
-    cond (ltb longest (length xs)) NotDecimal
+    cond (ltb decimalLimit (length xs)) NotDecimal
     (cond (isWellFormed xs) (decimalIn (codesOf xs))
     NotDecimal)

@@ -22,7 +22,7 @@ use Rattle.decimal.proofs.Cuts.{there, found, next, sign-cut, sign-told, sign-f
 use Rattle.number.specs.Integer.{unsignedOf}
 use Rattle.number.specs.Number.{behindZero, isHexMark, notationOf, followsMark}
 use Rattle.number.specs.laws.Refusals.{LeadsZero, AllDigits, Whole, own}
-use Rattle.number.specs.laws.Spelling.{mark, IntegerOf, WholeSpelled, PartsSpelled}
+use Rattle.number.specs.laws.Spelling.{mark, IntegerOf, WholeSpelled, PiecesSpelled}
 
 digits-begin : (radix : ℕ) (ds : List ℕ) → AllDigits radix ds → 0 < length ds → (code "0" ≤ peekAt ds 0) × (peekAt ds 0 ≤ code "f")
 digits-begin radix [] d l = let f : ⊥ = omega arith in absurd f
@@ -100,7 +100,7 @@ module _ (t : List ℕ) where
 pub whole-spelled : WholeSpelled
 whole-spelled t = (spelled t, whole t)
 
-pub parts-spelled : PartsSpelled
-parts-spelled n s o ds t i =
+pub pieces-spelled : PiecesSpelled
+pieces-spelled n s o ds t i =
     let ((z, k, f), u, p, q) = cut t n s o ds i in
     (k, rw (u, k), p, q)

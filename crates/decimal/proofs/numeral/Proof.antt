@@ -12,7 +12,7 @@ use Rattle.scan.specs.Digits.{valueOf}
 use Rattle.decimal.specs.declared.Decimal.{Decimal}
 use Rattle.decimal.specs.declared.Parts.{Parts}
 use Rattle.decimal.specs.Grammar.{isExponent, partsOf, digitsOf, fractionOf, exponentOf, isNegativeExponent}
-use Rattle.decimal.specs.Value.{mostTold, longest}
+use Rattle.decimal.specs.Value.{mostTold, decimalLimit}
 use Rattle.decimal.specs.steps.Scale.{trailing, significand, scaledBy, scaleRead}
 use Rattle.decimal.proofs.Places.{Ordered, ordered, fractionIn, behindIn, fraction-long, digits-few}
 use Rattle.decimal.proofs.Zeros.{trailing-few}
@@ -82,13 +82,13 @@ module _ (c : tie.After-is-negative-exponent) where
   abbrev e : ℕ
   e = c .before .before .before .exponent .result
 
-  zeros-few : trailing (digitsOf (xs a)) ≤ longest
+  zeros-few : trailing (digitsOf (xs a)) ≤ decimalLimit
   zeros-few = omega (arith, digits-few (xs a) (p a) (a .pre .0), trailing-few (digitsOf (xs a)), a .pre .1)
 
-  behind-few : behindIn (xs a) (p a) ≤ longest
+  behind-few : behindIn (xs a) (p a) ≤ decimalLimit
   behind-few = omega (arith, in-order a .fraction-in, a .pre .1)
 
-  counted : zeros ≤ longest
+  counted : zeros ≤ decimalLimit
   counted = omega (arith, zeros-few, c .before .before .before .before .before .trailing-zeros .ensures)
 
   capped : e ≤ mostTold

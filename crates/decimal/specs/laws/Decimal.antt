@@ -12,11 +12,11 @@ use Rattle.decimal.specs.declared.Number.{Number}
 use Rattle.decimal.specs.declared.Decimal.the-variants.{NotDecimal, Named, Exact, Outside}
 use Rattle.scan.specs.Sign.{isMinus}
 use Rattle.decimal.specs.Grammar.{isNumeral, isInfinite, isNan}
-use Rattle.decimal.specs.Value.{numerator, denominator, nearestOf, mostExact, mostExponent, isInExact, plain, longest, decimalIn, decimalOf}
+use Rattle.decimal.specs.Value.{numerator, denominator, nearestOf, mostExact, mostExponent, isInExact, plain, decimalLimit, decimalIn, decimalOf}
 
 -- "duration and number text 256"; and what the grammar has, which `specs/Spelling` spells out
 abbrev pub Short : List ℕ → Type 0
-Short xs = length xs ≤ longest
+Short xs = length xs ≤ decimalLimit
 
 -- what is said of a decimal's characters can be read off its bytes
 abbrev pub ByCharacters : Type 0
@@ -28,11 +28,11 @@ Infinite xs = isInfinite xs ≡ true
 abbrev pub Nan : List ℕ → Type 0
 Nan xs = isNan xs ≡ true
 
-abbrev pub Numeral : List ℕ → Type 0
-Numeral xs = isNumeral xs ≡ true
+abbrev pub Numeric : List ℕ → Type 0
+Numeric xs = isNumeral xs ≡ true
 
 abbrev pub Spelled : List ℕ → Type 0
-Spelled xs = Infinite xs ⊎ (Nan xs ⊎ Numeral xs)
+Spelled xs = Infinite xs ⊎ (Nan xs ⊎ Numeric xs)
 
 abbrev pub Zero : List ℕ → Type 0
 Zero xs = numerator xs ≡ 0
@@ -64,6 +64,10 @@ InExact xs = Zero xs ⊎ ExactRange xs
 abbrev pub ExactTold : Type 0
 ExactTold = (xs : List ℕ) → isInExact xs ≡ true ↔ InExact xs
 
+-- 53 "decimal outside the exact range"
+abbrev pub OutsideExact : List ℕ → Type 0
+OutsideExact xs = Numeric xs × (¬ (InExact xs))
+
 -- when each answer is given
 abbrev pub DecimalGiven : Type 0
 DecimalGiven =
@@ -71,8 +75,8 @@ DecimalGiven =
     let d = decimalOf xs in
     (d ≡ Named (plain (inf (isMinus xs 0))) ↔ Short xs × Infinite xs)
     × (d ≡ Named (plain nan) ↔ Short xs × Nan xs)
-    × (d ≡ Exact (nearestOf xs) ↔ Short xs × Numeral xs × InExact xs)
-    × (d ≡ Outside (isMinus xs 0) ↔ Short xs × Numeral xs × (¬ (InExact xs)))
+    × (d ≡ Exact (nearestOf xs) ↔ Short xs × Numeric xs × InExact xs)
+    × (d ≡ Outside (isMinus xs 0) ↔ Short xs × OutsideExact xs)
     × (d ≡ NotDecimal ↔ (¬ (Short xs × Spelled xs)))
 
 -- so whatever is accepted is the nearest f64, and zero "keeps its sign"
@@ -80,4 +84,4 @@ abbrev pub NearestValue : Type 0
 NearestValue = (xs : List ℕ) (n : Number) → decimalOf xs ≡ Exact n → n ≡ nearestOf xs
 
 abbrev pub ZeroKept : Type 0
-ZeroKept = (xs : List ℕ) → Short xs → Numeral xs → Zero xs → decimalOf xs ≡ Exact (plain (fin (isMinus xs 0) 0 (pos 0)))
+ZeroKept = (xs : List ℕ) → Short xs → Numeric xs → Zero xs → decimalOf xs ≡ Exact (plain (fin (isMinus xs 0) 0 (pos 0)))

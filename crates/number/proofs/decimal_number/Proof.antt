@@ -1,7 +1,7 @@
 -- An exact decimal is its value; of any other the answer is that of the definition.
 use mathlib.Core.Path.{sym, ap, _∙_}
 use Rattle.decimal.proofs.Answers.{not-exact}
-use Rattle.number.specs.Number.{decimalRead}
+use Rattle.number.specs.Number.{parsedDecimal}
 use borrow.Author.Needs.{needs}
 use Rattle.number.proofs.decimal_number.Statement.{statement}
 use Rattle.number.proofs.decimal_number.Tie as tie
@@ -16,10 +16,10 @@ inexact-requires : tie.Need-inexact-requires
 inexact-requires c κs = not-exact _ (c .match .keys2)
 
 returns : tie.Need-returns
-returns c = c .inexact .ensures ∙ ap decimalRead (c .before .before .read-decimal .ensures)
+returns c = c .inexact .ensures ∙ ap parsedDecimal (c .before .before .read-decimal .ensures)
 
 returns-2 : tie.Need-returns-2
-returns-2 c = ap decimalRead (sym (c .before .d .given .1) ∙ c .before .before .before .read-decimal .ensures)
+returns-2 c = ap parsedDecimal (sym (c .before .d .given .1) ∙ c .before .before .before .read-decimal .ensures)
 
 pub decimal-number-spec : {M : Type 1} → statement M
 decimal-number-spec =

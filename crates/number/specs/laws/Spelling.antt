@@ -37,8 +37,8 @@ abbrev pub WholeSpelled : Type 0
 WholeSpelled = (t : List ℕ) → Whole t ↔ ((n : Notation) × (s o ds : List ℕ) × IntegerOf n s o ds t)
 
 -- and what its value is taken of are the parts of the spelling
-abbrev pub PartsSpelled : Type 0
-PartsSpelled =
+abbrev pub PiecesSpelled : Type 0
+PiecesSpelled =
     (n : Notation) (s o ds t : List ℕ) → IntegerOf n s o ds t →
     (notationOf t ≡ n)
     × (magnitude t ≡ valueOf (radixOf n) ds)
