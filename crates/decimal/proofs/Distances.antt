@@ -18,7 +18,7 @@ use lib.Ieee.Exact.{HasValue, odd-sign}
 use lib.Ieee.Fits.{and-l, and-r, two, round-is}
 use lib.Ieee.Nearest.{closest}
 use lib.Ieee.Order.{drop, kept, round-mono}
-use lib.Ieee.Positive.{num, den, den-pos, value→cross}
+use lib.Ieee.Positive.{num, den, value→cross}
 use lib.Ieee.Scale.{grid, finite, round-val, round-under}
 use borrow.Author.Tests.{leb-true, leb-false, eqb-true}
 use Rattle.scan.specs.Sign.{isMinus}

@@ -17,5 +17,4 @@ pub mod Given
 pub mod Rounding
 pub mod Distances
 pub mod Unique
-pub mod Answers
 pub mod Wrong

@@ -12,7 +12,7 @@ use lib.Pow.{pow-add}
 use Rattle.proving.proofs.Tests.{Tests, tests-or, tests-and, tests-not, tests-eq, tests-le}
 use Rattle.decimal.specs.Value.{numerator, denominator, mostExact, mostExponent, isScaled, isSome, isExactRange, isInExact}
 use Rattle.decimal.specs.steps.Scale.{reduced}
-use Rattle.decimal.specs.laws.Decimal.{Scaled, ExactRange, ExactTold}
+use Rattle.decimal.specs.laws.Decimal.{ExactRange, ExactTold}
 use Rattle.decimal.proofs.Values.{ten-pos}
 use Rattle.decimal.proofs.Exactness.{apart}
 

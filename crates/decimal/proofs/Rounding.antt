@@ -3,7 +3,7 @@
 use Prim.Native.Nat.{ℕ, suc, _*_, _^_, _≤_}
 use native.Mathlib.Nat.{mul-one}
 use native.Mathlib.Omega.{arith}
-use mathlib.Core.Bool.{Bool, true, false}
+use mathlib.Core.Bool.{true, false}
 use mathlib.Core.List.{List}
 use mathlib.Core.Logic.{_⊎_, inl, inr}
 use mathlib.Core.Path.{_≡_, refl, sym, ap, subst, _∙_}
@@ -19,7 +19,7 @@ use Rattle.decimal.specs.declared.Decimal.the-variants.{Exact}
 use Rattle.decimal.specs.Value.{numerator, denominator, nearestOf, mostExact, mostExponent, plain, decimalOf}
 use Rattle.decimal.specs.steps.Scale.{tenTo, reduced}
 use Rattle.decimal.specs.laws.Decimal.{InExact}
-use Rattle.decimal.specs.laws.Rounding.{floatOf, Held, signed, OnceRounded, OneRounding}
+use Rattle.decimal.specs.laws.Rounding.{floatOf, Held, signed, SignedRound, OnceRounded, OneRounding}
 use Rattle.decimal.proofs.Powers.{isTen, isTen-is}
 use Rattle.decimal.proofs.Values.{ten-pos, ten-value, whole, times, over}
 use Rattle.decimal.proofs.Signs.{neg-round}
@@ -35,7 +35,7 @@ ten-float e h =
 ten-held : (e : ℕ) → e ≤ mostExponent → Held (10 ^ e)
 ten-held e h = subst (λ (x : Float). HasValue x false (10 ^ e) 1) (sym (ten-float e h)) (ten-value e)
 
-pub signed-round : (s : Bool) (a c : ℕ) → signed s (round binary64 false a c) ≡ round binary64 s a c
+pub signed-round : SignedRound
 signed-round true a c = neg-round binary64 false a c
 signed-round false a c = refl
 

@@ -13,7 +13,7 @@ use lib.Ieee.Scale.{round-same}
 use borrow.Author.Tests.{eq-eqb, ne-eqb}
 use Rattle.proving.proofs.Tests.{Tests, affirmed, decided}
 use Rattle.scan.specs.Sign.{isMinus}
-use Rattle.decimal.specs.Value.{numerator, denominator, nearestOf, numeralRead}
+use Rattle.decimal.specs.Value.{numerator, denominator, numeralRead}
 use Rattle.decimal.specs.steps.Scale.{significand, raised, reduced, isExact, nearest, scaledBy, scaleRead}
 use Rattle.decimal.specs.laws.Decimal.{Zero, ExactRange}
 use Rattle.decimal.proofs.Values.{ten-pos}

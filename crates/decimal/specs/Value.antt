@@ -41,10 +41,11 @@ numerator xs = valueOf 10 (digitsOf xs) * 10 ^ cond (isNegativeExponent xs) 0 (v
 abbrev pub denominator : List ℕ → ℕ
 denominator xs = 10 ^ (length (fractionOf xs) + cond (isNegativeExponent xs) (valueOf 10 (exponentOf xs)) 0)
 
+-- a value in decimal notation
 abbrev pub plain : Float → Number
 plain x = record { value = x; notation = notation.Decimal }
 
--- and the f64 nearest to it, with the text's sign: `round` is the kit's, to the nearest, a tie to the even one (`laws/Rounding`)
+-- the f64 nearest to the fraction, with the text's sign: `round` is the kit's, and no f64 is nearer (`NearestF64` of `laws/Rounding`)
 abbrev pub nearestOf : List ℕ → Number
 nearestOf xs = plain (round binary64 (isMinus xs 0) (numerator xs) (denominator xs))
 
@@ -71,10 +72,11 @@ isSome p (suc n) = p (suc n) || isSome p n
 unfoldable pub isExactRange : ℕ → ℕ → Bool
 isExactRange num den = isSome (λ e. isScaled num den e 0) mostExponent || isSome (λ e. isScaled num den 0 e) mostExponent
 
--- "Zero is accepted with any exponent and keeps its sign."
+-- "Zero is accepted with any exponent and keeps its sign": it is rounded to itself (`ZeroKept` of `laws/Decimal`)
 unfoldable pub isInExact : List ℕ → Bool
 isInExact xs = eqb (numerator xs) 0 || isExactRange (numerator xs) (denominator xs)
 
+-- what a numeral is read as
 unfoldable pub numeralRead : List ℕ → Decimal
 numeralRead xs = cond (isInExact xs) (Exact (nearestOf xs)) (Outside (isMinus xs 0))
 

@@ -3,6 +3,7 @@ use Prim.Native.Nat.{ℕ}
 use native.Mathlib.Omega.{arith}
 use mathlib.Core.Bool.{true, false}
 use mathlib.Core.List.{List}
+use mathlib.Core.Path.{subst}
 use lib.Dec.{eqb}
 use lib.ListN.{length}
 use Rattle.scan.specs.Ascii.{ascii}
@@ -21,11 +22,12 @@ use Rattle.duration.specs.Spans.{isZero, fromSecs}
 use Rattle.duration.specs.declared.units.Units.{Units}
 use Rattle.duration.specs.declared.units.Units.the-variants.{Sum, NotUnits}
 use Rattle.duration.specs.Units.{unitsOf}
+use Rattle.duration.specs.laws.Refusals.{TimingBound}
 use Rattle.duration.specs.declared.Timing.{Timing}
 use Rattle.duration.specs.declared.Timing.the-variants.{Lasts, Refused}
 use Rattle.duration.specs.Duration.{timingBy, unitsRead, timedDecimal, durationRead, timingFor, timingOf}
 
-abbrev pub Bounded : Timing → Type 0
+abbrev Bounded : Timing → Type 0
 Bounded (Lasts d) = Unit {0}
 Bounded (Refused r) = within.Placed 54 decimalLimit r
 
@@ -50,10 +52,13 @@ read-bound xs =
     either Bounded (eqb (length xs) 0) (λ e. omega arith)
     (λ e. either Bounded (sameText xs (ascii "0")) (λ e. omega arith) (λ e. decimal-bound xs (decimalOf xs)))
 
-pub timing-bound : (xs : List ℕ) → Bounded (timingOf xs)
+bound : (xs : List ℕ) → Bounded (timingOf xs)
 unfolding timingOf
-timing-bound xs = go (admitted decimalLimit xs) (within.admitted-bound decimalLimit xs)
+bound xs = go (admitted decimalLimit xs) (within.admitted-bound decimalLimit xs)
   where
     go : (a : Admission) → within.Bounded decimalLimit a → Bounded (timingFor a xs)
     go (admission.Admitted n) h = read-bound xs
     go (admission.Refused r) h = omega (arith, h .number, h .byte, h .character)
+
+pub timing-bound : TimingBound
+timing-bound xs r e = let p = subst Bounded e (bound xs) in (p .number, p .byte, p .character)

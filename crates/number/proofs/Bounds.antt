@@ -3,6 +3,7 @@ use Prim.Native.Nat.{ℕ}
 use native.Mathlib.Omega.{arith}
 use mathlib.Core.Bool.{Bool, _&&_}
 use mathlib.Core.List.{List}
+use mathlib.Core.Path.{subst}
 use lib.Ieee.{unlike}
 use Rattle.proving.proofs.Choice.{either}
 use Rattle.utf8.specs.declared.Admission.{Admission}
@@ -20,10 +21,11 @@ use Rattle.number.specs.Signed.{isI64}
 use Rattle.number.specs.Integer.{integerOf}
 use Rattle.number.specs.White.{plainText}
 use Rattle.number.specs.Number.{leadsZero, isMarked, integerBy, notationOf, followsMark, markedRead, parsedDecimal, numberOf, parsingBy, parsingOf}
+use Rattle.number.specs.laws.Refusals.{ParsingBound}
 use Rattle.number.specs.declared.Parsing.{Parsing}
 use Rattle.number.specs.declared.Parsing.the-variants.{Value, Refused}
 
-abbrev pub Bounded : Parsing → Type 0
+abbrev Bounded : Parsing → Type 0
 Bounded (Value n) = Unit {0}
 Bounded (Refused r) = within.Placed 61 decimalLimit r
 
@@ -47,10 +49,13 @@ number-bound : (t : List ℕ) → Bounded (numberOf t)
 unfolding numberOf
 number-bound t = either Bounded (isMarked t) (λ e. marked-bound t) (λ e. decimal-bound (decimalOf t))
 
-pub parsing-bound : (xs : List ℕ) → Bounded (parsingOf xs)
+bound : (xs : List ℕ) → Bounded (parsingOf xs)
 unfolding parsingOf
-parsing-bound xs = go (admitted decimalLimit xs) (within.admitted-bound decimalLimit xs)
+bound xs = go (admitted decimalLimit xs) (within.admitted-bound decimalLimit xs)
   where
     go : (a : Admission) → within.Bounded decimalLimit a → Bounded (parsingBy a (plainText xs))
     go (admission.Admitted n) h = number-bound (plainText xs)
     go (admission.Refused r) h = omega (arith, h .number, h .byte, h .character)
+
+pub parsing-bound : ParsingBound
+parsing-bound xs r e = let p = subst Bounded e (bound xs) in (p .number, p .byte, p .character)

@@ -11,8 +11,8 @@ use lib.ListN.{length, drop, drop-of-length-le, set, length-set, length-append}
 use lib.Seq.{drop-cons, drop-set-lt, getD-set-same, lt-length-set}
 use lib.Dec.{ltb}
 use borrow.Author.Tests.{lt-ltb, le-ltb, ltb-false}
-use Rattle.writing.specs.Decimal.{digitFor, mostDigits, digitsBy, digitsWithin, decimalText}
-use Rattle.writing.specs.laws.Writing.{DecimalDigits, DigitsFew}
+use Rattle.writing.specs.Decimal.{decimalBase, digitFor, mostDigits, digitsBy, digitsWithin, decimalText}
+use Rattle.writing.specs.laws.Writing.{OneDigit, MoreDigits, DigitsBelow, DigitsFew}
 
 -- by whether a number has one digit
 pub digits-case {ℓ} : (P : List ℕ → Type ℓ) (b : Bool) (f : ℕ → List ℕ) (n : ℕ)
@@ -32,16 +32,16 @@ same-digits (suc k) zero n h g = rw (lt-ltb n 10 (omega arith))
 same-digits (suc k) (suc l) n h g =
     by-same (ltb n 10) (digitsWithin k) (digitsWithin l) n (λ e. let t = ltb-false n 10 e in same-digits k l (n / 10) (omega arith) (omega arith))
 
-pub digits-of : DecimalDigits
+pub digits-of : (n : ℕ) → decimalText n ≡ digitsBy (ltb n decimalBase) decimalText n
 unfolding digitsWithin decimalText
 digits-of zero = refl
 digits-of (suc m) =
     by-same (ltb (suc m) 10) (digitsWithin m) decimalText (suc m) (λ e. same-digits m (suc m / 10) (suc m / 10) (omega arith) (omega arith))
 
-pub digits-one : (n : ℕ) → n < 10 → decimalText n ≡ digitFor n ∷ []
+pub digits-one : OneDigit
 digits-one n h = rw (digits-of n, lt-ltb n 10 h)
 
-pub digits-more : (n : ℕ) → 10 ≤ n → decimalText n ≡ decimalText (n / 10) ++ digitFor (n % 10) ∷ []
+pub digits-more : MoreDigits
 digits-more n h = rw (digits-of n, le-ltb n 10 h)
 
 -- a number of two digits or more that has room from place i down leaves room for the rest
@@ -52,7 +52,7 @@ room-left (suc i) n h g =
     let s : suc i + 1 ≡ suc (i + 1) = omega arith in
     (omega arith, rw e (omega (arith, rw s at g, pow-suc 10 (i + 1))))
 
-pub digits-below : (i n : ℕ) → n < 10 ^ (i + 1) → length (decimalText n) ≤ i + 1
+pub digits-below : DigitsBelow
 digits-below zero n h = rw (digits-one n (omega arith)) (omega arith)
 digits-below (suc i) n h =
     rw (digits-of n)

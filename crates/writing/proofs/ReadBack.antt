@@ -1,11 +1,10 @@
 -- The digits of a number are digits, one or more, and their value is the number: by induction over the digits, with the laws of one.
 use Prim.Native.Nat.{ℕ, zero, suc, _+_, _*_, _/_, _%_, _<_, _≤_}
 use native.Mathlib.Omega.{arith}
-use mathlib.Core.Bool.{false}
 use mathlib.Core.Path.{_≡_, refl, _∙_}
 use mathlib.Core.List.{List, [], _∷_, _++_}
 use lib.ListN.{length, length-append}
-use lib.Dec.{ltb, eqb, eqb·suc-zero}
+use lib.Dec.{ltb}
 use borrow.Author.Tests.{ltb-true, ltb-false}
 use Rattle.scan.specs.declared.byte.Class.the-variants.{Digit}
 use Rattle.scan.specs.Byte.{isIn, digitOf}
@@ -13,7 +12,7 @@ use Rattle.scan.specs.Digits.{valueFrom}
 use Rattle.scan.specs.Run.{runLength}
 use Rattle.scan.proofs.Runs.{run-past}
 use Rattle.writing.specs.Decimal.{digitFor, digitsWithin, decimalText}
-use Rattle.writing.specs.laws.Writing.{DecimalValue}
+use Rattle.writing.specs.laws.Writing.{OnlyDigits, AnyDigit, DecimalValue}
 use Rattle.writing.proofs.Digit.{digit-sign, sign-digit}
 use Rattle.writing.proofs.Decimals.{digits-case, digits-of}
 
@@ -53,15 +52,11 @@ digits-run (suc k) n h =
     let ys = digitFor (n % 10) ∷ [] in
     omega (arith, run-past (isIn Digit) xs ys (digits-run k (n / 10) (omega arith)), one-digit (n % 10) (omega arith), length-append xs ys))
 
-some : (xs : List ℕ) (y : ℕ) → eqb (length (xs ++ y ∷ [])) 0 ≡ false
-some [] y = refl
-some (x ∷ xs) y = eqb·suc-zero (length (xs ++ y ∷ []))
-
-pub digits-some : (n : ℕ) → eqb (length (decimalText n)) 0 ≡ false
+pub digits-some : AnyDigit
 digits-some n =
     rw (digits-of n)
-    (digits-case (λ ds. eqb (length ds) 0 ≡ false) (ltb n 10) decimalText n (λ e. refl) (λ e. some (decimalText (n / 10)) (digitFor (n % 10))))
+    (digits-case (λ ds. 0 < length ds) (ltb n 10) decimalText n (λ e. omega arith) (λ e. omega (arith, length-append (decimalText (n / 10)) (digitFor (n % 10) ∷ []))))
 
-pub digits-all : (n : ℕ) → runLength (isIn Digit) (decimalText n) ≡ length (decimalText n)
+pub digits-all : OnlyDigits
 unfolding decimalText
 digits-all n = digits-run n n (omega arith)

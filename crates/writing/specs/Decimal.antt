@@ -26,6 +26,6 @@ unfoldable pub digitsWithin : ℕ → ℕ → List ℕ
 digitsWithin zero n = digitFor n ∷ []
 digitsWithin (suc k) n = digitsBy (ltb n decimalBase) (digitsWithin k) n
 
--- a number has fewer digits before the last than it counts, so the bound cuts nothing off (`DecimalDigits` in Laws)
+-- a number has fewer digits before the last than it counts, so the bound cuts nothing off (`MoreDigits` of `laws/Writing`)
 unfoldable pub decimalText : ℕ → List ℕ
 decimalText n = digitsWithin n n

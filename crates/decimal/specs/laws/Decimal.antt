@@ -12,15 +12,11 @@ use Rattle.decimal.specs.declared.Number.{Number}
 use Rattle.decimal.specs.declared.Decimal.the-variants.{NotDecimal, Named, Exact, Outside}
 use Rattle.scan.specs.Sign.{isMinus}
 use Rattle.decimal.specs.Grammar.{isNumeral, isInfinite, isNan}
-use Rattle.decimal.specs.Value.{numerator, denominator, nearestOf, mostExact, mostExponent, isInExact, plain, decimalLimit, decimalIn, decimalOf}
+use Rattle.decimal.specs.Value.{numerator, denominator, nearestOf, mostExact, mostExponent, isInExact, plain, decimalLimit, decimalOf}
 
 -- "duration and number text 256"; and what the grammar has, which `specs/Spelling` spells out
 abbrev pub Short : List ℕ → Type 0
 Short xs = length xs ≤ decimalLimit
-
--- what is said of a decimal's characters can be read off its bytes
-abbrev pub ByCharacters : Type 0
-ByCharacters = (xs : List ℕ) → Short xs → decimalIn xs ≡ decimalOf xs
 
 abbrev pub Infinite : List ℕ → Type 0
 Infinite xs = isInfinite xs ≡ true

@@ -7,7 +7,7 @@ use mathlib.Core.Logic.{_⊎_}
 use mathlib.Core.Path.{_≡_}
 use lib.Dec.{T}
 use lib.IntN.{pos}
-use lib.Ieee.{Float, binary64, neg, mul, div, ofInt, fits}
+use lib.Ieee.{Float, binary64, neg, mul, div, round, ofInt, fits}
 use lib.Ieee.Exact.{HasValue}
 use lib.Ieee.Positive.{num, den}
 use lib.Ieee.Scale.{finite}
@@ -26,6 +26,10 @@ Held n = HasValue (floatOf n) false n 1
 
 abbrev pub signed : Bool → Float → Float
 signed minus x = cond minus (neg x) x
+
+-- a sign goes through rounding
+abbrev pub SignedRound : Type 0
+SignedRound = (minus : Bool) (n d : ℕ) → signed minus (round binary64 false n d) ≡ round binary64 minus n d
 
 -- w and a power of ten are exact; the result is their product where E is not negative, and else their quotient, with the text's sign
 abbrev pub OnceRounded : List ℕ → Number → Type 0

@@ -9,7 +9,7 @@ use mathlib.Core.List.{List, [], _∷_, _++_, map, append-assoc}
 use mathlib.Core.Path.{_≡_, refl, sym, ap, ap₂, subst, _∙_}
 use lib.Dec.{eqb}
 use lib.ListN.{length}
-use borrow.Author.Tests.{eqb-true, eqb-false}
+use borrow.Author.Tests.{eqb-true}
 use Rattle.scan.specs.Ascii.{ascii}
 use Rattle.scan.specs.declared.byte.Class.the-variants.{Digit, Alpha}
 use Rattle.scan.specs.Byte.{isWithin, isAlpha, isIn, digitOf}
@@ -32,7 +32,7 @@ decimal-back : (v : ℕ) → valueOf 10 (decimalText v) ≡ v
 decimal-back = decimal-value
 
 some-digits : (v : ℕ) → 0 < length (decimalText v)
-some-digits v = omega (arith, eqb-false (length (decimalText v)) 0 (digits-some v))
+some-digits = digits-some
 
 -- a text is that of a unit of a list
 unfoldable isOf : List ℕ → List Unit → Bool

@@ -1,7 +1,8 @@
 -- What is a decimal and not exact is refused by its number.
 use native.Mathlib.Omega.{arith}
-use mathlib.Core.Bool.{Bool, true, false}
+use mathlib.Core.Bool.{true, false}
 use mathlib.Core.List.{List, [], _∷_}
+use mathlib.Core.Logic.{⊎-elim}
 use mathlib.Core.Path.{_≡_, refl, sym, ap, _∙_}
 use Prim.Native.Nat.{ℕ}
 use types.Run.{OneOf}
@@ -12,7 +13,6 @@ use Rattle.decimal.specs.declared.Number.{Number}
 use Rattle.decimal.specs.declared.Decimal.{Decimal}
 use Rattle.decimal.specs.declared.Decimal.the-variants.{NotDecimal, Named, Exact, Outside}
 use Rattle.decimal.proofs.Decimal as decimal
-use Rattle.decimal.proofs.Answers.{none}
 use Rattle.duration.specs.declared.Timing.the-variants.{Refused}
 use Rattle.duration.specs.Duration.{timedDecimal}
 use Rattle.duration.specs.steps.Refused.{secondsRefusal}
@@ -30,7 +30,7 @@ refused-requires : tie.Need-refused-requires
 refused-requires c κs = search needs
 
 refused-is : (xs : List ℕ) (d : Decimal) → OneOf (1 ∷ 2 ∷ 3 ∷ []) (tagOf decimal.the-type d) → ((n : Number) → d ≡ Exact n → ⊥) → Refused (atStart (secondsRefusal d)) ≡ timedDecimal xs d
-refused-is xs NotDecimal t x = absurd (none t (λ z. omega arith) (λ z. omega arith) (λ z. omega arith))
+refused-is xs NotDecimal t x = absurd (⊎-elim (λ z. omega arith) (⊎-elim (λ z. omega arith) (λ z. omega arith)) t)
 refused-is xs (Named n) t x = refl
 refused-is xs (Exact n) t x = absurd (x n refl)
 refused-is xs (Outside true) t x = refl

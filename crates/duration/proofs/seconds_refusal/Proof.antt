@@ -2,13 +2,13 @@
 use native.Mathlib.Omega.{arith}
 use mathlib.Core.Bool.{Bool, cond}
 use mathlib.Core.List.{[], _∷_}
+use mathlib.Core.Logic.{⊎-elim}
 use mathlib.Core.Path.{_≡_, refl, sym, ap, _∙_}
 use types.Run.{OneOf}
 use denote.Enum.Declared.{tagOf}
 use Rattle.decimal.specs.declared.Decimal.{Decimal}
 use Rattle.decimal.specs.declared.Decimal.the-variants.{NotDecimal, Named, Exact, Outside}
 use Rattle.decimal.proofs.Decimal as decimal
-use Rattle.decimal.proofs.Answers.{none}
 use Rattle.duration.specs.steps.Refused.{secondsRefusal}
 use borrow.Author.Needs.{needs}
 use Rattle.duration.proofs.seconds_refusal.Statement.{statement}
@@ -21,7 +21,7 @@ other : (d : Decimal) → OneOf (0 ∷ 1 ∷ 2 ∷ []) (tagOf decimal.the-type d
 other NotDecimal t = refl
 other (Named n) t = refl
 other (Exact n) t = refl
-other (Outside b) t = absurd (none t (λ z. omega arith) (λ z. omega arith) (λ z. omega arith))
+other (Outside b) t = absurd (⊎-elim (λ z. omega arith) (⊎-elim (λ z. omega arith) (λ z. omega arith)) t)
 
 outside : (d : Decimal) (b s : Bool) → d ≡ Outside b → b ≡ s → cond s 54 53 ≡ secondsRefusal d
 outside d b s e h = ap (λ (t : Bool). cond t 54 53) (sym h) ∙ ap secondsRefusal (sym e)

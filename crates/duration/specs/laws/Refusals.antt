@@ -1,6 +1,6 @@
 -- Document 01's rows 1, 2 and 50 to 54 as conditions on a duration's text, and the statement that each answer is given exactly when its
 -- row holds; `proofs/Given` has the proof.
-use Prim.Native.Nat.{ℕ}
+use Prim.Native.Nat.{ℕ, _≤_}
 use mathlib.Core.Bool.{true, false}
 use mathlib.Core.List.{List}
 use mathlib.Core.Logic.{_↔_, _⊎_}
@@ -10,6 +10,7 @@ use lib.Ieee.{Float, fin, lt, le}
 use lib.ListN.{length}
 use Rattle.scan.specs.Ascii.{ascii}
 use Rattle.utf8.specs.Text.{prefixEnd}
+use Rattle.utf8.specs.declared.Refusal.{Refusal}
 use Rattle.utf8.specs.Answers.{placeAt, tooLong, notUtf8}
 use Rattle.utf8.specs.laws.Refusals.{TooLong, NotUtf8, Taken}
 use Rattle.scan.specs.Sign.{isMinus}
@@ -82,3 +83,9 @@ TimingGiven =
     × (t ≡ Refused outsideExact ↔ Read xs × OutsideExact xs × (isMinus xs 0 ≡ false))
     × (t ≡ Refused outOfRange ↔ OutOfRange xs)
     × ((d : Duration) → t ≡ Lasts d ↔ Read xs × (SecondsAre xs d ⊎ UnitsAre xs d))
+
+-- how far refusals reach: none has a greater number, and no place lies beyond the longest text
+abbrev pub TimingBound : Type 0
+TimingBound =
+    (xs : List ℕ) (r : Refusal) → timingOf xs ≡ Refused r →
+    (r .number ≤ outOfRange .number) × (r .place .byte .0 ≤ decimalLimit) × (r .place .character .0 ≤ decimalLimit)

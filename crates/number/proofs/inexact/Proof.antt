@@ -1,6 +1,7 @@
 -- What is neither exact nor a name is refused by its number.
 use native.Mathlib.Omega.{arith}
 use mathlib.Core.List.{[], _∷_}
+use mathlib.Core.Logic.{⊎-elim}
 use mathlib.Core.Path.{_≡_, refl, sym, ap, _∙_}
 use Prim.Native.Nat.{ℕ}
 use types.Run.{OneOf}
@@ -10,7 +11,6 @@ use Rattle.decimal.specs.declared.Number.{Number}
 use Rattle.decimal.specs.declared.Decimal.{Decimal}
 use Rattle.decimal.specs.declared.Decimal.the-variants.{NotDecimal, Named, Exact, Outside}
 use Rattle.decimal.proofs.Decimal as decimal
-use Rattle.decimal.proofs.Answers.{none}
 use Rattle.number.specs.declared.Parsing.the-variants.{Refused}
 use Rattle.number.specs.Number.{parsedDecimal}
 use Rattle.number.specs.steps.Refused.{numberRefusal}
@@ -29,7 +29,7 @@ refused-requires c κs = search needs
 
 refused-is : (d : Decimal) → OneOf (0 ∷ 2 ∷ 3 ∷ []) (tagOf decimal.the-type d) → ((n : Number) → d ≡ Exact n → ⊥) → Refused (atStart (numberRefusal d)) ≡ parsedDecimal d
 refused-is NotDecimal t x = refl
-refused-is (Named n) t x = absurd (none t (λ z. omega arith) (λ z. omega arith) (λ z. omega arith))
+refused-is (Named n) t x = absurd (⊎-elim (λ z. omega arith) (⊎-elim (λ z. omega arith) (λ z. omega arith)) t)
 refused-is (Exact n) t x = absurd (x n refl)
 refused-is (Outside b) t x = refl
 

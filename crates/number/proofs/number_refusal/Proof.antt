@@ -1,13 +1,13 @@
 -- What is not outside the exact range is taken for no number.
 use native.Mathlib.Omega.{arith}
 use mathlib.Core.List.{[], _∷_}
+use mathlib.Core.Logic.{⊎-elim}
 use mathlib.Core.Path.{_≡_, refl}
 use types.Run.{OneOf}
 use denote.Enum.Declared.{tagOf}
 use Rattle.decimal.specs.declared.Decimal.{Decimal}
 use Rattle.decimal.specs.declared.Decimal.the-variants.{NotDecimal, Named, Exact, Outside}
 use Rattle.decimal.proofs.Decimal as decimal
-use Rattle.decimal.proofs.Answers.{none}
 use Rattle.number.specs.steps.Refused.{numberRefusal}
 use borrow.Author.Needs.{needs}
 use Rattle.number.proofs.number_refusal.Statement.{statement}
@@ -20,7 +20,7 @@ other : (d : Decimal) → OneOf (0 ∷ 1 ∷ 2 ∷ []) (tagOf decimal.the-type d
 other NotDecimal t = refl
 other (Named n) t = refl
 other (Exact n) t = refl
-other (Outside b) t = absurd (none t (λ z. omega arith) (λ z. omega arith) (λ z. omega arith))
+other (Outside b) t = absurd (⊎-elim (λ z. omega arith) (⊎-elim (λ z. omega arith) (λ z. omega arith)) t)
 
 returns : tie.Need-returns
 returns c = other (c .before .args .d) (c .match .keys2)

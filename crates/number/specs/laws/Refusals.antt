@@ -11,6 +11,7 @@ use lib.ListN.{length}
 use Rattle.scan.specs.Byte.{peekAt, isDigitIn}
 use Rattle.scan.specs.Text.{Stands}
 use Rattle.utf8.specs.Text.{prefixEnd}
+use Rattle.utf8.specs.declared.Refusal.{Refusal}
 use Rattle.utf8.specs.Answers.{placeAt, tooLong, notUtf8}
 use Rattle.utf8.specs.laws.Refusals.{TooLong, NotUtf8, Taken}
 use Rattle.decimal.specs.declared.Number.{Number}
@@ -93,3 +94,9 @@ ParsingGiven =
     × (p ≡ Refused outsideI64 ↔ Taken decimalLimit xs × OutsideI64 t)
     × (p ≡ Refused outsideExact ↔ Taken decimalLimit xs × (¬ (Marked t)) × OutsideExact t)
     × ((n : Number) → p ≡ Value n ↔ Taken decimalLimit xs × (IntegerIs t n ⊎ DecimalIs t n))
+
+-- how far refusals reach: none has a greater number, and no place lies beyond the longest text
+abbrev pub ParsingBound : Type 0
+ParsingBound =
+    (xs : List ℕ) (r : Refusal) → parsingOf xs ≡ Refused r →
+    (r .number ≤ outsideI64 .number) × (r .place .byte .0 ≤ decimalLimit) × (r .place .character .0 ≤ decimalLimit)
