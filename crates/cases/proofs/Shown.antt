@@ -45,7 +45,7 @@ unfolding timingOf durationRead admitted validityOf charsPast sizeOf charLength 
 timed-zero = refl
 
 timed-none : timingOf (ascii "00") ≡ Lasts (duration 0 0)
-unfolding timingOf durationRead admitted validityOf charsPast sizeOf charLength sizeIn fits codeOf isWithin sameText decimalOf decimalIn isInfinite isNan isNumeral hasDigits exponentHasDigits isSign lowered isIn runLength digitOf valueFrom numeralRead isInExact isExactRange isSome isScaled lt le
+unfolding timingOf durationRead admitted validityOf charsPast sizeOf charLength sizeIn fits codeOf isWithin sameText decimalOf decimalIn isInfinite isNan isNumeral hasDigits exponentHasDigits isSign lowered isIn runLength digitOf valueFrom numeralRead isInExact isExactRange isSome isScaled round size span climb floatUnits odd trailingZeros lt le
 timed-none = refl
 
 timed-decimal : timingOf (ascii "0.0009765625") ≡ Lasts (duration 0 976562)

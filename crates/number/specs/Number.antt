@@ -82,6 +82,7 @@ followsMark t = drop (cond (isHexMark t) (suc (behindZero t)) (behindZero t)) t
 unfoldable pub markedRead : List ℕ → Parsing
 markedRead t = cond (leadsZero t) (integerRead (notationOf t) (isMinus t 0) (followsMark t)) (Refused notNumber)
 
+-- what a decimal is read as
 abbrev pub parsedDecimal : Decimal → Parsing
 parsedDecimal NotDecimal = Refused notNumber
 parsedDecimal (Named n) = Value n

@@ -1,5 +1,5 @@
--- What the readers of numbers and durations may know of decimals, as statements. `proofs/Characters`, `proofs/Exactness` and
--- `proofs/Given` have the proofs.
+-- What the readers of numbers and durations may know of decimals, as statements. `proofs/Exactness`, `proofs/Ranges` and `proofs/Given`
+-- have the proofs.
 use Prim.Native.Nat.{ℕ, _+_, _*_, _%_, _^_, _≤_}
 use mathlib.Core.Bool.{true}
 use mathlib.Core.List.{List}
@@ -14,7 +14,7 @@ use Rattle.scan.specs.Sign.{isMinus}
 use Rattle.decimal.specs.Grammar.{isNumeral, isInfinite, isNan}
 use Rattle.decimal.specs.Value.{numerator, denominator, nearestOf, mostExact, mostExponent, isInExact, plain, decimalLimit, decimalOf}
 
--- "duration and number text 256"; and what the grammar has, which `specs/Spelling` spells out
+-- "duration and number text 256"; and what the grammar has, which `laws/Spelling` spells out
 abbrev pub Short : List ℕ → Type 0
 Short xs = length xs ≤ decimalLimit
 
@@ -30,6 +30,7 @@ Numeric xs = isNumeral xs ≡ true
 abbrev pub Spelled : List ℕ → Type 0
 Spelled xs = Infinite xs ⊎ (Nan xs ⊎ Numeric xs)
 
+-- a value of zero
 abbrev pub Zero : List ℕ → Type 0
 Zero xs = numerator xs ≡ 0
 

@@ -17,13 +17,15 @@ use Rattle.decimal.specs.declared.Decimal.the-variants.{Exact}
 use Rattle.decimal.specs.Value.{numerator, denominator, mostExact, mostExponent, plain, decimalOf}
 use Rattle.decimal.specs.laws.Decimal.{Zero, Scaled}
 
--- a whole number as an f64, and that the f64 is this number
+-- a whole number as an f64, and that the f64 is this number: `HasValue x s a c` of the kit says that x is finite, has the sign s, and is
+-- a / c in size
 abbrev pub floatOf : ℕ → Float
 floatOf n = ofInt binary64 (pos n)
 
 abbrev pub Held : ℕ → Type 0
 Held n = HasValue (floatOf n) false n 1
 
+-- an f64 with a minus or without
 abbrev pub signed : Bool → Float → Float
 signed minus x = cond minus (neg x) x
 
