@@ -16,13 +16,14 @@ use Rattle.string.specs.Tiles.{tilesPast, hasBad, pieceBytes, bytesOf}
 use Rattle.string.specs.Literal.{isQuote, isEnclosed, hasNewline}
 use Rattle.scan.specs.Sign.{isSign}
 use Rattle.decimal.specs.Grammar.{hasDigits, exponentHasDigits, isNumeral, isInfinite, isNan}
-use Rattle.decimal.specs.Value.{valueFrom, isZeros, trailing, isExact, nearest, scaledBy, decimalIn, decimalOf}
+use Rattle.decimal.specs.Value.{isScaled, isSome, isExactRange, isInExact, numeralRead, decimalIn, decimalOf}
 use Rattle.duration.specs.Units.{isPart, behind, sumBy, counted, isUnitText, unitsOf}
 use Rattle.duration.specs.declared.Timing.the-variants.{Lasts, Refused}
 use Rattle.duration.specs.Duration.{durationRead, timingOf}
-use Rattle.writing.specs.Decimal.{signOf, digitsOf as digitsIn, decimalText}
+use Rattle.writing.specs.Decimal.{digitFor, digitsWithin, decimalText}
 use Rattle.duration.specs.Display.{counted as shownAs, partOf, restOf, textOf}
 use Rattle.scan.specs.Byte.{isSpace, isAlphaNumeric, isWord, isLine}
+use Rattle.scan.specs.Digits.{valueFrom}
 use Rattle.utf8.specs.Text.{begunIn, charNumber}
 use Rattle.token.specs.Words.{words, kindIn, keywordOf}
 use Rattle.numeral.specs.Numeral.{isHex, fractionEnd, exponentEnd, numberEnd, isUnit, stopOf, turnOf, durationFrom, numeralOf}
@@ -44,11 +45,11 @@ unfolding timingOf durationRead admitted validityOf charsPast sizeOf charLength 
 timed-zero = refl
 
 timed-none : timingOf (ascii "00") ≡ Lasts (duration 0 0)
-unfolding timingOf durationRead admitted validityOf charsPast sizeOf charLength sizeIn fits codeOf isWithin sameText decimalOf decimalIn isInfinite isNan isNumeral hasDigits exponentHasDigits isSign lowered isIn runLength digitOf valueFrom isZeros trailing isExact nearest scaledBy lt le
+unfolding timingOf durationRead admitted validityOf charsPast sizeOf charLength sizeIn fits codeOf isWithin sameText decimalOf decimalIn isInfinite isNan isNumeral hasDigits exponentHasDigits isSign lowered isIn runLength digitOf valueFrom numeralRead isInExact isExactRange isSome isScaled round size span climb floatUnits odd trailingZeros lt le
 timed-none = refl
 
 timed-decimal : timingOf (ascii "0.0009765625") ≡ Lasts (duration 0 976562)
-unfolding timingOf durationRead admitted validityOf charsPast sizeOf charLength sizeIn fits codeOf isWithin sameText decimalOf decimalIn isInfinite isNan isNumeral hasDigits exponentHasDigits isSign lowered isIn runLength digitOf valueFrom isZeros trailing isExact nearest scaledBy round size span climb floatUnits odd trailingZeros lt le
+unfolding timingOf durationRead admitted validityOf charsPast sizeOf charLength sizeIn fits codeOf isWithin sameText decimalOf decimalIn isInfinite isNan isNumeral hasDigits exponentHasDigits isSign lowered isIn runLength digitOf valueFrom numeralRead isInExact isExactRange isSome isScaled round size span climb floatUnits odd trailingZeros lt le
 timed-decimal = refl
 
 timed-units : timingOf (ascii "1d5000000000ms") ≡ Lasts (days 1)
@@ -57,11 +58,11 @@ timed-units = refl
 
 -- and those that are written
 written-days : textOf (days 90) ≡ ascii "90d"
-unfolding textOf partOf restOf shownAs decimalText digitsIn signOf
+unfolding textOf partOf restOf shownAs decimalText digitsWithin digitFor
 written-days = refl
 
 written-weeks : textOf (days 14) ≡ ascii "2w"
-unfolding textOf partOf restOf shownAs decimalText digitsIn signOf
+unfolding textOf partOf restOf shownAs decimalText digitsWithin digitFor
 written-weeks = refl
 
 pub texts-shown : Each Shown texts

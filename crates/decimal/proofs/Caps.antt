@@ -8,7 +8,8 @@ use mathlib.Core.Path.{_≡_}
 use borrow.Author.Tests.{eq-eqb, ne-eqb}
 use Rattle.proving.proofs.Tests.{Tests, affirmed, decided, tests-and, tests-le}
 use Rattle.decimal.specs.laws.Decimal.{InRange}
-use Rattle.decimal.specs.Value.{mostTold, longest, mostExact, mostExponent, isExact, scaledBy}
+use Rattle.decimal.specs.Value.{mostTold, decimalLimit, mostExact, mostExponent}
+use Rattle.decimal.specs.steps.Scale.{isExact, scaledBy}
 
 pub tests-exact : (w up down : ℕ) → Tests (isExact w up down) (InRange w up down)
 unfolding isExact
@@ -23,7 +24,7 @@ unfolding scaledBy
 nothing neg w up down v a b n m = rw (eq-eqb w 0 n, eq-eqb v 0 m)
 
 -- an exponent that raises, and one that lowers
-module _ (neg : Bool) (w t f e : ℕ) (s : t ≤ longest) (h : f ≤ longest) where
+module _ (neg : Bool) (w t f e : ℕ) (s : t ≤ decimalLimit) (h : f ≤ decimalLimit) where
   pub raised-capped : scaledBy neg (min mostTold w) (t + min mostTold e) f ≡ scaledBy neg w (t + e) f
   raised-capped = go (ℕ-discrete w 0) (decided (tests-exact w (t + e) f))
     where

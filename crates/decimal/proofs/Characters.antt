@@ -24,8 +24,8 @@ use Rattle.decimal.specs.declared.Decimal.{Decimal}
 use Rattle.decimal.specs.declared.Decimal.the-variants.{NotDecimal}
 use Rattle.scan.specs.Sign.{isSign, pastSign}
 use Rattle.decimal.specs.Grammar.{pastPoint, isExponent, pastExponent, wholeFrom, wholeTo, fractionFrom, fractionTo, exponentFrom, exponentTo, partsOf, hasDigits, exponentHasDigits, isNumeral, isNamed, isInfinite, isNan}
-use Rattle.decimal.specs.Value.{longest, decimalIn, decimalOf}
-use Rattle.decimal.specs.laws.Decimal.{ByCharacters}
+use Rattle.decimal.specs.Value.{decimalLimit, decimalIn, decimalOf}
+use Rattle.decimal.specs.laws.Decimal.{Short}
 
 -- the places before n hold ASCII
 abbrev AsciiTo : List ℕ → ℕ → Type 0
@@ -111,6 +111,6 @@ unfolding decimalIn isInfinite isNan
 other-none xs h =
     rw (unnamed (ascii "inf") xs refl h, unnamed (ascii "infinity") xs refl h, unnamed (ascii "nan") xs refl h, no-numeral xs h)
 
-pub by-characters : ByCharacters
+pub by-characters : (xs : List ℕ) → Short xs → decimalIn xs ≡ decimalOf xs
 unfolding decimalOf
-by-characters xs h = rw (le-ltb longest (length xs) h) (by-bytes Decimal NotDecimal decimalIn other-none xs)
+by-characters xs h = rw (le-ltb decimalLimit (length xs) h) (by-bytes Decimal NotDecimal decimalIn other-none xs)

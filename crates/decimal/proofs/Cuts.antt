@@ -21,7 +21,7 @@ use Rattle.scan.proofs.Runs.{inside, run-within}
 use Rattle.proving.proofs.Tests.{tests-or, tests-eq}
 use Rattle.scan.specs.Sign.{isSign, pastSign, isMinus}
 use Rattle.decimal.specs.Grammar.{between}
-use Rattle.decimal.specs.laws.Spelling.{Sign, Digits, SomeDigits}
+use Rattle.decimal.specs.laws.Spelling.{Sign, SignCut, SignFound, Digits, SomeDigits}
 
 -- the signs come before the point
 sign-no : (c : ℕ) → code "." ≤ c → isSign c ≡ false
@@ -96,33 +96,33 @@ module _ (xs : List ℕ) (n : ℕ) where
   pub some-found : n < digitsTo xs n → SomeDigits (between xs n (digitsTo xs n))
   some-found l = (digits-found, omega (arith, run-within (isIn Digit) xs n, length-take (digitsTo xs n - n) (drop n xs), length-drop n xs))
 
-  -- a sign
-  module _ (s ys : List ℕ) (g : Sign s) (h : code "." ≤ peekAt ys 0) (e : drop n xs ≡ s ++ ys) where
-    written : {r : List ℕ} → s ≡ r → drop n xs ≡ r ++ ys
-    written u = e ∙ ap (λ (l : List ℕ). l ++ ys) u
+-- a sign
+module _ (xs : List ℕ) (n : ℕ) (s ys : List ℕ) (g : Sign s) (h : code "." ≤ peekAt ys 0) (e : drop n xs ≡ s ++ ys) where
+  written : {r : List ℕ} → s ≡ r → drop n xs ≡ r ++ ys
+  written u = e ∙ ap (λ (l : List ℕ). l ++ ys) u
 
-    pub sign-cut : drop (pastSign xs n) xs ≡ ys
-    sign-cut = go g
-      where
-        one : (c : ℕ) → isSign c ≡ true → s ≡ c ∷ [] → drop (pastSign xs n) xs ≡ ys
-        one c t u = rw (there (c ∷ ys) (written u), t) (next c ys (written u))
+  one : (c : ℕ) → isSign c ≡ true → s ≡ c ∷ [] → drop (pastSign xs n) xs ≡ ys
+  one c t u = rw (there xs n (c ∷ ys) (written u), t) (next xs n c ys (written u))
 
-        go : Sign s → drop (pastSign xs n) xs ≡ ys
-        go (inl u) = rw (there ys (written u), sign-no (peekAt ys 0) h) (written u)
-        go (inr (inl u)) = one (code "+") (unfold isSign in refl) u
-        go (inr (inr u)) = one (code "-") (unfold isSign in refl) u
+  cut : Sign s → drop (pastSign xs n) xs ≡ ys
+  cut (inl u) = rw (there xs n ys (written u), sign-no (peekAt ys 0) h) (written u)
+  cut (inr (inl u)) = one (code "+") (unfold isSign in refl) u
+  cut (inr (inr u)) = one (code "-") (unfold isSign in refl) u
 
-    pub sign-told : isMinus xs n ≡ true ↔ s ≡ ascii "-"
-    sign-told = ((λ t. go g (eqb-true (peekAt xs n) (code "-") t)), λ u. eq-eqb (peekAt xs n) (code "-") (there (ascii "-" ++ ys) (written u)))
-      where
-        go : Sign s → peekAt xs n ≡ code "-" → s ≡ ascii "-"
-        go (inl u) t = let f : ⊥ = omega (arith, there ys (written u)) in absurd f
-        go (inr (inl u)) t = let f : ⊥ = omega (arith, there (ascii "+" ++ ys) (written u)) in absurd f
-        go (inr (inr u)) t = u
+  minus : Sign s → peekAt xs n ≡ code "-" → s ≡ ascii "-"
+  minus (inl u) t = let f : ⊥ = omega (arith, there xs n ys (written u)) in absurd f
+  minus (inr (inl u)) t = let f : ⊥ = omega (arith, there xs n (ascii "+" ++ ys) (written u)) in absurd f
+  minus (inr (inr u)) t = u
 
-  pub sign-found : (s : List ℕ) × Sign s × (drop n xs ≡ s ++ drop (pastSign xs n) xs)
-  sign-found = go (isSign (peekAt xs n)) refl
-    where
-      go : (b : Bool) → isSign (peekAt xs n) ≡ b → (s : List ℕ) × Sign s × (drop n xs ≡ s ++ drop (cond b (suc n) n) xs)
-      go true f = (peekAt xs n ∷ [], inr (sign-is (peekAt xs n) f), found isSign (sign-no end (omega arith)) f)
-      go false f = ([], inl refl, refl)
+  told : isMinus xs n ≡ true ↔ s ≡ ascii "-"
+  told = ((λ t. minus g (eqb-true (peekAt xs n) (code "-") t)), λ u. eq-eqb (peekAt xs n) (code "-") (there xs n (ascii "-" ++ ys) (written u)))
+
+pub sign-cut : SignCut
+sign-cut xs n s ys g h e = (cut xs n s ys g h e g, told xs n s ys g h e)
+
+pub sign-found : SignFound
+sign-found xs n = go (isSign (peekAt xs n)) refl
+  where
+    go : (b : Bool) → isSign (peekAt xs n) ≡ b → (s : List ℕ) × Sign s × (drop n xs ≡ s ++ drop (cond b (suc n) n) xs)
+    go true f = (peekAt xs n ∷ [], inr (sign-is (peekAt xs n) f), found xs n isSign (sign-no end (omega arith)) f)
+    go false f = ([], inl refl, refl)

@@ -16,11 +16,13 @@ use borrow.Author.Tests.{eqb-true}
 use Rattle.scan.specs.declared.byte.Class.the-variants.{Digit}
 use Rattle.scan.specs.Byte.{peekAt, digitOf, isIn}
 use Rattle.scan.specs.Run.{runEnd}
+use Rattle.scan.specs.Digits.{valueFrom, valueOf}
 use Rattle.scan.proofs.byte.Classes.{within-bounds}
 use Rattle.scan.proofs.Runs.{run-passes}
 use Rattle.decimal.specs.Grammar.{between, wholeFrom, wholeTo, fractionFrom, fractionOf, digitsOf, exponentOf, isNegativeExponent}
-use Rattle.decimal.specs.Value.{valueFrom, valueOf, isZeros, trailing, trimmed, significand, raised, reduced}
-use Rattle.decimal.specs.laws.Decimal.{numerator, denominator, Scaled, SomeScale, OneScale, InRange, ExactRange}
+use Rattle.decimal.specs.Value.{numerator, denominator}
+use Rattle.decimal.specs.steps.Scale.{isZeros, trailing, trimmed, significand, raised, reduced}
+use Rattle.decimal.specs.laws.Decimal.{Scaled, SomeScale, OneScale, InRange, ExactRange}
 use Rattle.decimal.proofs.Values.{ten-pos}
 use Rattle.decimal.proofs.Zeros.{trailing-few, all-zeros}
 
@@ -116,7 +118,7 @@ digits-below xs = below-join (between xs (wholeFrom xs) (wholeTo xs)) (fractionO
 -- the value is w times ten to the power of the zeros and the exponent
 pub numerator-is : (xs : List ℕ) → numerator xs ≡ significand xs * 10 ^ raised xs
 numerator-is xs =
-    let e = cond (isNegativeExponent xs) 0 (valueOf (exponentOf xs)) in
+    let e = cond (isNegativeExponent xs) 0 (valueOf 10 (exponentOf xs)) in
     ap (λ (n : ℕ). n * 10 ^ e) (split 0 (digitsOf xs))
     ∙ mul-assoc (significand xs) (10 ^ trailing (digitsOf xs)) (10 ^ e)
     ∙ ap (λ (n : ℕ). significand xs * n) (sym (pow-add 10 (trailing (digitsOf xs)) e))
@@ -144,6 +146,10 @@ one-power (suc a) (suc b) w v h k e =
     let r = one-power a b w v h k (eq-of-mul-eq-mul-right 10 (omega arith) (w * 10 ^ a) (v * 10 ^ b) (sym (more w a) ∙ e ∙ more v b)) in
     (r .0, ap suc (r .1))
 
+-- a power of ten that stands on both sides
+pub apart : (w u b n : ℕ) → w * 10 ^ (u + b) * n ≡ w * 10 ^ u * n * 10 ^ b
+apart w u b n = ap (λ (m : ℕ). w * m * n) (pow-add 10 u b) ∙ ap (λ (m : ℕ). m * n) (sym (mul-assoc w (10 ^ u) (10 ^ b))) ∙ mul-right-comm (w * 10 ^ u) (10 ^ b) n
+
 -- and so two scales of a value
 module _ (xs : List ℕ) (w u d v a b : ℕ) (p : Scaled xs w u d) (q : Scaled xs v a b) where
   crossed : w * 10 ^ (u + b) ≡ v * 10 ^ (a + d)
@@ -151,10 +157,7 @@ module _ (xs : List ℕ) (w u d v a b : ℕ) (p : Scaled xs w u d) (q : Scaled x
       let D = denominator xs in
       let N = numerator xs in
       eq-of-mul-eq-mul-right D (ten-pos (reduced xs)) (w * 10 ^ (u + b)) (v * 10 ^ (a + d))
-      (apart w u b ∙ ap (λ (n : ℕ). n * 10 ^ b) (p .value) ∙ mul-right-comm N (10 ^ d) (10 ^ b) ∙ ap (λ (n : ℕ). n * 10 ^ d) (sym (q .value)) ∙ sym (apart v a d))
-    where
-      apart : (w u b : ℕ) → w * 10 ^ (u + b) * denominator xs ≡ w * 10 ^ u * denominator xs * 10 ^ b
-      apart w u b = ap (λ (n : ℕ). w * n * denominator xs) (pow-add 10 u b) ∙ ap (λ (n : ℕ). n * denominator xs) (sym (mul-assoc w (10 ^ u) (10 ^ b))) ∙ mul-right-comm (w * 10 ^ u) (10 ^ b) (denominator xs)
+      (apart w u b D ∙ ap (λ (n : ℕ). n * 10 ^ b) (p .value) ∙ mul-right-comm N (10 ^ d) (10 ^ b) ∙ ap (λ (n : ℕ). n * 10 ^ d) (sym (q .value)) ∙ sym (apart v a d D))
 
   pub one : (w ≡ v) × (u + b ≡ a + d)
   one = one-power (u + b) (a + d) w v (p .not-by-ten) (q .not-by-ten) crossed

@@ -11,7 +11,10 @@ pub mod Spelling
 pub mod Caps
 pub mod Characters
 pub mod Exactness
+pub mod Ranges
+pub mod Scales
 pub mod Given
+pub mod Rounding
+pub mod Distances
 pub mod Unique
-pub mod Answers
 pub mod Wrong

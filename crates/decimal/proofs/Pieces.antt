@@ -21,7 +21,7 @@ use Rattle.scan.specs.Sign.{pastSign, isMinus}
 use Rattle.decimal.specs.Grammar.{pastPoint, isExponent, pastExponent, between}
 use Rattle.decimal.specs.laws.Spelling.{Digits, SomeDigits, Mantissa, Power}
 use Rattle.decimal.proofs.Places.{no-exponent}
-use Rattle.decimal.proofs.Cuts.{digitsTo, Stand, split, between-some, between-none, there, found, next, digits-cut, digits-found, some-found, sign-cut, sign-told, sign-found}
+use Rattle.decimal.proofs.Cuts.{digitsTo, Stand, split, between-some, between-none, there, found, next, digits-cut, digits-found, some-found, sign-cut, sign-found}
 
 -- what begins a mantissa
 abbrev Begins : ℕ → Type 0
@@ -160,8 +160,9 @@ module _ (xs : List ℕ) (n : ℕ) where
           let x = pastSign xs (suc n) in
           let u : drop (suc n) xs ≡ t ++ d = next xs n c (t ++ d) (e ∙ w) in
           let h : code "." ≤ peekAt d 0 = rw (append-nil d) at (digits-begin d [] v .0) in
-          let k = digits x (v .0) (sign-cut xs (suc n) t d g h u) in
-          rw (is (c ∷ (t ++ d)) w ∙ eq-eqb (lowered c) (code "e") l) (lt-ltb x (digitsTo xs x) (between-some xs x (digitsTo xs x) (rw (k .0) (v .1))), sign-told xs (suc n) t d g h u, k)
+          let s = sign-cut xs (suc n) t d g h u in
+          let k = digits x (v .0) (s .0) in
+          rw (is (c ∷ (t ++ d)) w ∙ eq-eqb (lowered c) (code "e") l) (lt-ltb x (digitsTo xs x) (between-some xs x (digitsTo xs x) (rw (k .0) (v .1))), s .1, k)
 
   pub power-found : isIn Digit (peekAt xs n) ≡ false
       → let x = pastExponent xs n in not (isExponent xs n) || ltb x (digitsTo xs x) ≡ true → digitsTo xs x ≡ length xs

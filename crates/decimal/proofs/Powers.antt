@@ -11,14 +11,14 @@ use lib.Ieee.Fits.{and-l, and-r}
 use Rattle.decimal.proofs.Table.{at}
 
 -- x is 5 ^ k * 2 ^ k, written with the odd 5 ^ k
-isTen : ℕ → Float → Bool
+unfoldable pub isTen : ℕ → Float → Bool
 isTen k nan = false
 isTen k (inf s) = false
 isTen k (fin true m e) = false
 isTen k (fin false m (pos e)) = eqb m (5 ^ k) && eqb e k
 isTen k (fin false m (negsuc e)) = false
 
-isTen-is : (k : ℕ) (x : Float) → T (isTen k x) → x ≡ fin false (5 ^ k) (pos k)
+pub isTen-is : (k : ℕ) (x : Float) → T (isTen k x) → x ≡ fin false (5 ^ k) (pos k)
 unfolding isTen
 isTen-is k nan t = absurd t
 isTen-is k (inf s) t = absurd t

@@ -10,7 +10,7 @@ use mathlib.Core.Path.{_≡_, refl}
 use lib.ListN.{length, getD, drop, drop-of-length-le}
 use lib.Seq.{drop-cons}
 use Rattle.scan.specs.Byte.{digitOf}
-use Rattle.decimal.specs.Value.{valueFrom}
+use Rattle.scan.specs.Digits.{valueFrom}
 
 module _ (radix : ℕ) (h : 0 < radix) where
   pub grows : (v : ℕ) (xs : List ℕ) → v ≤ valueFrom radix v xs

@@ -20,7 +20,7 @@ use Rattle.scan.specs.Sign.{isMinus}
 use Rattle.decimal.specs.Grammar.{wholeFrom, wholeTo, fractionFrom, fractionTo, exponentTo, partsOf, hasDigits, exponentHasDigits, isNumeral, isNamed, isInfinite, isNan, between, fractionOf, exponentOf, isNegativeExponent}
 use Rattle.decimal.specs.laws.Spelling.{Mantissa, NumeralOf, NameOf, InfinityOf, NumeralSpelled, NamesSpelled, SpelledOnce, PartsSpelled, SignSpelled}
 use Rattle.decimal.proofs.Places.{exponent-within}
-use Rattle.decimal.proofs.Cuts.{between-some, sign-cut, sign-told, sign-found}
+use Rattle.decimal.proofs.Cuts.{between-some, sign-cut, sign-found}
 use Rattle.decimal.proofs.Pieces.{mantissa-begins, power-begins, mantissa-cut, mantissa-found, power-cut, power-found}
 
 -- the parts of a numeral are at its places
@@ -35,10 +35,10 @@ parts-cut : (s a b t d xs : List ℕ) → NumeralOf s a b t d xs
 unfolding exponentHasDigits
 parts-cut s a b t d xs (m, p, g, f, w, e) =
     let h : code "." ≤ peekAt (m ++ p) 0 = mantissa-begins a b m p f .0 in
-    let (u, (v, r)) = mantissa-cut xs (wholeFrom xs) a b m p f (power-begins t d p w) (sign-cut xs 0 s (m ++ p) g h e) in
+    let (u, (v, r)) = mantissa-cut xs (wholeFrom xs) a b m p f (power-begins t d p w) (sign-cut xs 0 s (m ++ p) g h e .0) in
     let (z, l, (x, o)) = power-cut xs (fractionTo xs) t d p w r in
     let k : exponentTo xs ≡ length xs = omega (arith, exponent-within xs, length-drop (exponentTo xs) xs, ap length o) in
-    (sign-told xs 0 s (m ++ p) g h e, u, v, z, l, x, k)
+    (sign-cut xs 0 s (m ++ p) g h e .1, u, v, z, l, x, k)
 
 pub parts-spelled : PartsSpelled
 parts-spelled s a b t d xs h = let (g, u, v, w, l, e, k) = parts-cut s a b t d xs h in (g, rw (u, v), v, l, e)
@@ -94,7 +94,7 @@ name-begins name w h e = go (decLt (code "9") (peekAt w 0))
 
 module _ (name : List ℕ) (h : code "9" < peekAt name 0) where
   name-sign : (s xs : List ℕ) → NameOf name s xs → isMinus xs 0 ≡ true ↔ s ≡ ascii "-"
-  name-sign s xs (w, g, e, u) = sign-told xs 0 s w g (omega (arith, name-begins name w h e)) u
+  name-sign s xs (w, g, e, u) = sign-cut xs 0 s w g (omega (arith, name-begins name w h e)) u .1
 
   tests-name : (xs : List ℕ) → Tests (isNamed name xs) ((s : List ℕ) × NameOf name s xs)
   tests-name xs = (to, from)
@@ -107,7 +107,7 @@ module _ (name : List ℕ) (h : code "9" < peekAt name 0) where
 
       from : (s : List ℕ) × NameOf name s xs → isNamed name xs ≡ true
       from (s, (w, g, e, u)) =
-          same-is-equal (map lowered behind) name .1 (ap (map lowered) (sign-cut xs 0 s w g (omega (arith, name-begins name w h e)) u) ∙ e)
+          same-is-equal (map lowered behind) name .1 (ap (map lowered) (sign-cut xs 0 s w g (omega (arith, name-begins name w h e)) u .0) ∙ e)
 
 tests-infinite : (xs : List ℕ) → Tests (isInfinite xs) (((s : List ℕ) × NameOf (ascii "inf") s xs) ⊎ ((s : List ℕ) × NameOf (ascii "infinity") s xs))
 unfolding isInfinite
@@ -156,7 +156,7 @@ module _ (xs : List ℕ) where
   first-numeral e =
       let (s, a, b, t, d, (m, p, g, f, w, u)) = spelled xs e in
       let (l, h) = mantissa-begins a b m p f in
-      rw (sign-cut xs 0 s (m ++ p) g l u) (lowered-low (m ++ p) h)
+      rw (sign-cut xs 0 s (m ++ p) g l u .0) (lowered-low (m ++ p) h)
 
 pub spelled-once : SpelledOnce
 spelled-once xs = (

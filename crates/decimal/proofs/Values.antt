@@ -16,7 +16,7 @@ use lib.Ieee.Positive.{first-pos}
 use lib.Ieee.Bits.{cond-no}
 use lib.Pow.{pow-pos, pow-add}
 use Rattle.decimal.specs.Value.{mostExact}
-use Rattle.decimal.specs.Value.{tenTo}
+use Rattle.decimal.specs.steps.Scale.{tenTo}
 
 -- x / p is a / c and y / q is b / d: the fractions' products
 cross : (x y p q a b c d : ℕ) → x * c ≡ a * p → y * d ≡ b * q → x * y * (c * d) ≡ a * b * (p * q)
@@ -64,7 +64,7 @@ ten-is zero = refl
 ten-is (suc e) =
     ap₂ (λ (a b : ℕ). a * b) (pow-suc 5 e) (pow-suc 2 e) ∙ mul-mul-mul-comm (5 ^ e) 5 (2 ^ e) 2 ∙ ap (λ (n : ℕ). n * 10) (ten-is e) ∙ sym (pow-suc 10 e)
 
-ten-value : (e : ℕ) → HasValue (tenTo e) false (10 ^ e) 1
+pub ten-value : (e : ℕ) → HasValue (tenTo e) false (10 ^ e) 1
 ten-value e = (refl, ap (λ (n : ℕ). n * 1) (ten-is e))
 
 pub ten-pos : (e : ℕ) → 0 < 10 ^ e
@@ -77,7 +77,7 @@ ten-pos e = subst (λ (n : ℕ). 0 < n) (ten-is e) (mul-pos (five e) (pow-pos e)
 one : 0 < 1
 one = zero-lt-suc 0
 
-whole : (w : ℕ) → w ≤ mostExact → HasValue (ofInt binary64 (pos w)) false w 1
+pub whole : (w : ℕ) → w ≤ mostExact → HasValue (ofInt binary64 (pos w)) false w 1
 unfolding ofInt
 whole w h = round-whole binary64 false w h
 

@@ -15,6 +15,7 @@ use Rattle.proving.proofs.One.{Answers}
 use Rattle.scan.specs.Run.{runLength}
 use Rattle.scan.specs.Text.{sameText}
 use Rattle.scan.specs.Sign.{isSign}
+use Rattle.scan.specs.Digits.{valueFrom}
 use Rattle.utf8.specs.Table.{fits, sizeIn, charLength}
 use Rattle.utf8.specs.Text.{charsPast, sizeOf}
 use Rattle.utf8.specs.Code.{codeOf}
@@ -23,7 +24,8 @@ use Rattle.decimal.specs.declared.Notation.the-variants as notation
 use Rattle.decimal.specs.declared.Decimal.{Decimal}
 use Rattle.decimal.specs.declared.Decimal.the-variants.{NotDecimal, Named, Exact, Outside}
 use Rattle.decimal.specs.Grammar.{hasDigits, exponentHasDigits, isNumeral, isInfinite, isNan}
-use Rattle.decimal.specs.Value.{bitsOf, radixOf, valueFrom, mostTold, isZeros, trailing, isExact, tenTo, nearest, plain, scaledBy, decimalIn, decimalOf}
+use Rattle.decimal.specs.Value.{bitsOf, radixOf, mostTold, plain, isScaled, isSome, isExactRange, isInExact, numeralRead, decimalIn, decimalOf}
+use Rattle.decimal.specs.steps.Scale.{tenTo}
 use Rattle.decimal.proofs.bits_of.Kinds as bits-of
 use Rattle.decimal.proofs.bits_of.Reads as bits-of-reads
 use Rattle.decimal.proofs.radix.Kinds as radix
@@ -97,7 +99,7 @@ abbrev read-decimal-gives : List ℕ → Decimal → Type 0
 read-decimal-gives s v = Answers read-decimal.ps read-decimal.r read-decimal-reads.Post (λ κs a. now (a .0) ≡ s) (λ κs. v)
 
 read-decimal-at : (s : List ℕ) → read-decimal-gives s (decimalOf s)
-unfolding decimalOf decimalIn charsPast sizeOf charLength sizeIn fits codeOf isWithin isInfinite isNan isNumeral hasDigits exponentHasDigits isSign lowered sameText isIn runLength digitOf valueFrom isZeros trailing isExact nearest scaledBy round size span climb units odd trailingZeros
+unfolding decimalOf decimalIn charsPast sizeOf charLength sizeIn fits codeOf isWithin isInfinite isNan isNumeral hasDigits exponentHasDigits isSign lowered sameText isIn runLength digitOf valueFrom numeralRead isInExact isExactRange isSome isScaled round size span climb units odd trailingZeros
 read-decimal-at s κs a x e p h = p ∙ ap decimalOf h
 
 pub empty-text-is-no-decimal : read-decimal-gives [] NotDecimal

@@ -11,7 +11,7 @@ use Rattle.proving.proofs.Choice.{either}
 use borrow.Author.Tests.{ne-eqb}
 use Rattle.scan.specs.Byte.{digitOf}
 use Rattle.decimal.specs.Grammar.{between}
-use Rattle.decimal.specs.Value.{isZeros, trailing, trimmed}
+use Rattle.decimal.specs.steps.Scale.{isZeros, trailing, trimmed}
 
 zeros-join : (xs ys : List ℕ) → isZeros (xs ++ ys) ≡ isZeros xs && isZeros ys
 unfolding isZeros

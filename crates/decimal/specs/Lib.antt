@@ -1,3 +1,4 @@
 pub mod Grammar
 pub mod Value
 pub mod laws
+pub mod steps

@@ -1,14 +1,15 @@
 -- The exact value of a decimal text, by unbounded numbers, and where it is exact: document 01, "A nonzero value is w times 10^E, w not
--- divisible by ten; it is exact if w is at most 2^53 and E lies in -22 to 22". E is `raised` less `reduced`, which may be negative.
-use Prim.Native.Nat.{ℕ, _+_, _-_, _*_, _^_}
-use mathlib.Core.Bool.{Bool, true, false, cond, _&&_}
-use mathlib.Core.List.{List, [], _∷_}
+-- divisible by ten; it is exact if w is at most 2^53 and E lies in -22 to 22".
+use Prim.Native.Nat.{ℕ, zero, suc, _+_, _*_, _/_, _%_, _^_}
+use mathlib.Core.Bool.{Bool, cond, _&&_, _||_, not}
+use mathlib.Core.List.{List}
 use lib.Dec.{eqb, leb, ltb}
-use lib.IntN.{pos}
 use lib.Ieee as Ieee
-use lib.Ieee.{Float, nan, inf, fin, binary64, round, toBits}
-use lib.ListN.{length, take}
-use Rattle.scan.specs.Byte.{digitOf}
+use lib.Ieee.{Float, nan, inf, binary64, round, toBits}
+use lib.ListN.{length}
+use Rattle.scan.specs.Digits.{valueOf}
+use Rattle.utf8.specs.declared.Refusal.{Refusal}
+use Rattle.utf8.specs.Answers.{atStart}
 use Rattle.utf8.specs.Text.{codesOf, isWellFormed}
 use Rattle.decimal.specs.declared.Notation.{Notation}
 use Rattle.decimal.specs.declared.Notation.the-variants as notation
@@ -28,43 +29,25 @@ radixOf notation.Decimal = 10
 radixOf notation.Hex = 16
 radixOf notation.Octal = 8
 
--- what digits of a radix amount to, behind those that amount to v
-unfoldable pub valueFrom : ℕ → ℕ → List ℕ → ℕ
-valueFrom radix v [] = v
-valueFrom radix v (x ∷ xs) = valueFrom radix (v * radix + digitOf x) xs
-
-abbrev pub valueIn : Notation → List ℕ → ℕ
-valueIn n xs = valueFrom (radixOf n) 0 xs
-
-abbrev pub valueOf : List ℕ → ℕ
-valueOf xs = valueIn notation.Decimal xs
-
 -- what the reader of digits answers for this and every greater value: no magnitude of a signed 64-bit integer is so great
 abbrev pub mostTold : ℕ
 mostTold = 2 ^ 63 + 1
 
--- how many zeros digits end with
-unfoldable pub isZeros : List ℕ → Bool
-isZeros [] = true
-isZeros (x ∷ xs) = eqb (digitOf x) 0 && isZeros xs
+-- the value that a numeral stands for, as a fraction: all its digits as one whole number, times ten to the power of its exponent, over ten
+-- to the power of the number of digits behind the point
+abbrev pub numerator : List ℕ → ℕ
+numerator xs = valueOf 10 (digitsOf xs) * 10 ^ cond (isNegativeExponent xs) 0 (valueOf 10 (exponentOf xs))
 
-unfoldable pub trailing : List ℕ → ℕ
-trailing [] = 0
-trailing (x ∷ xs) = cond (isZeros (x ∷ xs)) (length (x ∷ xs)) (trailing xs)
+abbrev pub denominator : List ℕ → ℕ
+denominator xs = 10 ^ (length (fractionOf xs) + cond (isNegativeExponent xs) (valueOf 10 (exponentOf xs)) 0)
 
--- digits without these
-abbrev pub trimmed : List ℕ → List ℕ
-trimmed ds = take (length ds - trailing ds) ds
+-- a value in decimal notation
+abbrev pub plain : Float → Number
+plain x = record { value = x; notation = notation.Decimal }
 
--- w, and the two powers of ten
-abbrev pub significand : List ℕ → ℕ
-significand xs = valueOf (trimmed (digitsOf xs))
-
-abbrev pub raised : List ℕ → ℕ
-raised xs = trailing (digitsOf xs) + cond (isNegativeExponent xs) 0 (valueOf (exponentOf xs))
-
-abbrev pub reduced : List ℕ → ℕ
-reduced xs = length (fractionOf xs) + cond (isNegativeExponent xs) (valueOf (exponentOf xs)) 0
+-- the f64 nearest to the fraction, with the text's sign: `round` is the kit's, and no f64 is nearer (`NearestF64` of `laws/Rounding`)
+abbrev pub nearestOf : List ℕ → Number
+nearestOf xs = plain (round binary64 (isMinus xs 0) (numerator xs) (denominator xs))
 
 -- "it is exact if w is at most 2^53 and E lies in -22 to 22"
 abbrev pub mostExact : ℕ
@@ -73,33 +56,37 @@ mostExact = 2 ^ 53
 abbrev pub mostExponent : ℕ
 mostExponent = 22
 
-unfoldable pub isExact : ℕ → ℕ → ℕ → Bool
-isExact w up down = leb w mostExact && (leb up (down + mostExponent) && leb down (up + mostExponent))
+-- a fraction "is w times 10^E", for a whole number w "not divisible by ten" and "at most 2^53"; E is up less down
+unfoldable pub isScaled : ℕ → ℕ → ℕ → ℕ → Bool
+isScaled num den up down =
+    let unit = den * 10 ^ up in
+    let w = num * 10 ^ down / unit in
+    eqb (w * unit) (num * 10 ^ down) && (not (eqb (w % 10) 0) && leb w mostExact)
 
--- 10 ^ e as an f64, which holds it up to e = 22: 5 ^ e * 2 ^ e
-abbrev pub tenTo : ℕ → Float
-tenTo e = fin false (5 ^ e) (pos e)
+-- of the numbers up to n one passes a test
+unfoldable pub isSome : (ℕ → Bool) → ℕ → Bool
+isSome p zero = p zero
+isSome p (suc n) = p (suc n) || isSome p n
 
--- the f64 nearest to w times 10 ^ up over 10 ^ down
-unfoldable pub nearest : Bool → ℕ → ℕ → ℕ → Float
-nearest neg w up down = round binary64 neg (w * 10 ^ up) (10 ^ down)
+-- "E lies in -22 to 22"
+unfoldable pub isExactRange : ℕ → ℕ → Bool
+isExactRange num den = isSome (λ e. isScaled num den e 0) mostExponent || isSome (λ e. isScaled num den 0 e) mostExponent
 
-abbrev pub plain : Float → Number
-plain x = record { value = x; notation = notation.Decimal }
+-- "Zero is accepted with any exponent and keeps its sign": it is rounded to itself (`ZeroKept` of `laws/Decimal`)
+unfoldable pub isInExact : List ℕ → Bool
+isInExact xs = eqb (numerator xs) 0 || isExactRange (numerator xs) (denominator xs)
 
--- "Zero is accepted with any exponent and keeps its sign."
-unfoldable pub scaledBy : Bool → ℕ → ℕ → ℕ → Decimal
-scaledBy neg w up down =
-    cond (eqb w 0) (Exact (plain (fin neg 0 (pos 0))))
-    (cond (isExact w up down) (Exact (plain (nearest neg w up down)))
-    (Outside neg))
+-- what a numeral is read as
+unfoldable pub numeralRead : List ℕ → Decimal
+numeralRead xs = cond (isInExact xs) (Exact (nearestOf xs)) (Outside (isMinus xs 0))
 
-abbrev pub numeralRead : List ℕ → Decimal
-numeralRead xs = scaledBy (isMinus xs 0) (significand xs) (raised xs) (reduced xs)
+-- 53 "decimal outside the exact range", as whoever reads one refuses it
+abbrev pub outsideExact : Refusal
+outsideExact = atStart 53
 
--- "duration and number text 256": the readers refuse a longer text before
-abbrev pub longest : ℕ
-longest = 256
+-- "Limits: .. duration and number text 256": the readers refuse a longer text before
+abbrev pub decimalLimit : ℕ
+decimalLimit = 256
 
 -- what characters are, as a decimal; no rule takes U+0100, whose number stands past the last of them
 unfoldable pub decimalIn : List ℕ → Decimal
@@ -112,6 +99,6 @@ decimalIn cs =
 -- a decimal is a text of characters, of at most so many bytes
 unfoldable pub decimalOf : List ℕ → Decimal
 decimalOf xs =
-    cond (ltb longest (length xs)) NotDecimal
+    cond (ltb decimalLimit (length xs)) NotDecimal
     (cond (isWellFormed xs) (decimalIn (codesOf xs))
     NotDecimal)

@@ -16,9 +16,10 @@ ghost use Rattle.scan.specs.Ascii.{ascii};
 ghost use Rattle.scan.specs.Byte.{lowered};
 ghost use Rattle.scan.specs.Text.{sameText};
 ghost use Rattle.scan.specs.Sign.{isMinus};
+ghost use Rattle.scan.specs.Digits.{valueFrom, valueOf};
 ghost use Rattle.decimal.specs.Grammar.{pastPoint, isExponent, pastExponent, between, partsOf, hasDigits, exponentHasDigits, isNumeral, digitsOf, exponentOf};
-ghost use Rattle.decimal.specs.Value.{bitsOf, radixOf, valueFrom, valueOf, mostTold, trailing, significand, mostExact, mostExponent, longest, isExact, nearest, plain, scaledBy, numeralRead, decimalOf};
-ghost use Rattle.decimal.specs.Value.{tenTo};
+ghost use Rattle.decimal.specs.Value.{bitsOf, radixOf, mostTold, mostExact, mostExponent, decimalLimit, plain, numeralRead, decimalOf};
+ghost use Rattle.decimal.specs.steps.Scale.{trailing, significand, isExact, nearest, scaledBy, tenTo};
 
 // How a number was written.
 pub enum Notation {
@@ -50,6 +51,9 @@ fn plain(value: f64) -> Number
         notation: Notation::Decimal,
     }
 }
+
+// Document 01's refusal of a decimal outside the exact range.
+pub const OUTSIDE_EXACT: usize = 53;
 
 // The bits of every NaN.
 const NAN_BITS: u64 = 0x7ff8_0000_0000_0000;
@@ -268,7 +272,7 @@ fn zero(negative: bool) -> f64
 
 // Whether w times one power of ten over another is exact.
 fn is_exact(w: u64, raised: usize, reduced: usize) -> bool
-    requires { ⌜ (raised ≤ mostTold + longest) × (reduced ≤ mostTold + longest) ⌝ }
+    requires { ⌜ (raised ≤ mostTold + decimalLimit) × (reduced ≤ mostTold + decimalLimit) ⌝ }
     ensures { λ r. ⌜ r ≡ isExact w raised reduced ⌝ }
 {
     w <= MOST_EXACT && (raised <= reduced + MOST_EXPONENT && reduced <= raised + MOST_EXPONENT)
@@ -276,7 +280,7 @@ fn is_exact(w: u64, raised: usize, reduced: usize) -> bool
 
 // The value of w times one power of ten over another, where it is exact.
 fn scaled_by(negative: bool, w: u64, raised: usize, reduced: usize) -> Decimal
-    requires { ⌜ (raised ≤ mostTold + longest) × (reduced ≤ mostTold + longest) ⌝ }
+    requires { ⌜ (raised ≤ mostTold + decimalLimit) × (reduced ≤ mostTold + decimalLimit) ⌝ }
     ensures { λ r. ⌜ r ≡ scaledBy negative w raised reduced ⌝ }
 {
     if w == 0 {
@@ -290,7 +294,7 @@ fn scaled_by(negative: bool, w: u64, raised: usize, reduced: usize) -> Decimal
 
 // Whether a negative exponent begins at a place.
 fn is_negative_exponent(s: &[u8], at: usize) -> bool
-    requires { ⌜ at ≤ longest ⌝ }
+    requires { ⌜ at ≤ decimalLimit ⌝ }
     ensures { λ r. ⌜ r ≡ isExponent (now (s .entry)) at && isMinus (now (s .entry)) (suc at) ⌝ }
 {
     is_exponent(s, at) && sign::is_minus(s, at + 1)
@@ -298,7 +302,7 @@ fn is_negative_exponent(s: &[u8], at: usize) -> bool
 
 // How many zeros the digits of a text end with.
 fn trailing_zeros(s: &[u8], p: Parts) -> usize
-    requires { ⌜ (p ≡ partsOf (now s)) × (length (now s) ≤ longest) ⌝ }
+    requires { ⌜ (p ≡ partsOf (now s)) × (length (now s) ≤ decimalLimit) ⌝ }
     ensures { λ r. ⌜ r ≡ trailing (digitsOf (now (s .entry))) ⌝ }
 {
     let zeros = zeros_before(s, p.fraction_from, p.fraction_to);
@@ -324,14 +328,14 @@ fn significand(s: &[u8], p: Parts, zeros: usize) -> u64
 // What the exponent of a text amounts to, or the most that is told apart.
 fn exponent(s: &[u8], p: Parts) -> usize
     requires { ⌜ p ≡ partsOf (now s) ⌝ }
-    ensures { λ r. ⌜ r ≡ min mostTold (valueOf (exponentOf (now (s .entry)))) ⌝ }
+    ensures { λ r. ⌜ r ≡ min mostTold (valueOf 10 (exponentOf (now (s .entry)))) ⌝ }
 {
     value_between(s, p.exponent_from, p.exponent_to, 0) as usize
 }
 
 // The value of a numeral, by where its parts lie.
 fn numeral(s: &[u8], p: Parts) -> Decimal
-    requires { ⌜ (p ≡ partsOf (now s)) × (length (now s) ≤ longest) ⌝ }
+    requires { ⌜ (p ≡ partsOf (now s)) × (length (now s) ≤ decimalLimit) ⌝ }
     ensures { λ r. ⌜ r ≡ numeralRead (now (s .entry)) ⌝ }
 {
     let zeros = trailing_zeros(s, p);
@@ -366,14 +370,14 @@ fn not_a_number() -> f64
     0.0 / 0.0
 }
 
-// The most bytes of a decimal text.
-pub const LONGEST: usize = 256;
+// Document 01's limit of a duration or number text, in bytes.
+pub const LIMIT: usize = 256;
 
 // What a text is, as a decimal.
 pub fn read_decimal(s: &[u8]) -> Decimal
     ensures { λ r. ⌜ r ≡ decimalOf (now (s .entry)) ⌝ }
 {
-    if LONGEST < s.len() {
+    if LIMIT < s.len() {
         return Decimal::NotDecimal;
     }
     let from = sign::past_sign(s, 0);

@@ -3,6 +3,7 @@ use Prim.Native.Nat.{ℕ}
 use native.Mathlib.Omega.{arith}
 use mathlib.Core.Bool.{true, false}
 use mathlib.Core.List.{List}
+use mathlib.Core.Path.{subst}
 use lib.Dec.{eqb}
 use lib.ListN.{length}
 use Rattle.scan.specs.Ascii.{ascii}
@@ -15,30 +16,31 @@ use Rattle.utf8.specs.laws.Bounds as within
 use Rattle.utf8.proofs.Bounds.{admitted-bound}
 use Rattle.decimal.specs.declared.Decimal.{Decimal}
 use Rattle.decimal.specs.declared.Decimal.the-variants.{NotDecimal, Named, Exact, Outside}
-use Rattle.decimal.specs.Value.{longest, decimalOf}
-use Rattle.duration.specs.declared.span.Timed.{Timed}
-use Rattle.duration.specs.declared.span.Timed.the-variants as timed
+use Rattle.decimal.specs.Value.{decimalLimit, decimalOf}
+use Rattle.duration.specs.declared.span.Conversion.{Conversion}
+use Rattle.duration.specs.declared.span.Conversion.the-variants as conversion
 use Rattle.duration.specs.Spans.{isZero, fromSecs}
 use Rattle.duration.specs.declared.units.Units.{Units}
 use Rattle.duration.specs.declared.units.Units.the-variants.{Sum, NotUnits}
 use Rattle.duration.specs.Units.{unitsOf}
+use Rattle.duration.specs.laws.Refusals.{TimingBound}
 use Rattle.duration.specs.declared.Timing.{Timing}
 use Rattle.duration.specs.declared.Timing.the-variants.{Lasts, Refused}
-use Rattle.duration.specs.Duration.{timingBy, unitsRead, decimalRead, durationRead, timingFor, timingOf}
+use Rattle.duration.specs.Duration.{timingBy, unitsRead, timedDecimal, durationRead, timingFor, timingOf}
 
-abbrev pub Bounded : Timing → Type 0
+abbrev Bounded : Timing → Type 0
 Bounded (Lasts d) = Unit {0}
-Bounded (Refused r) = within.Placed 54 longest r
+Bounded (Refused r) = within.Placed 54 decimalLimit r
 
-timed-bound : (t : Timed) → Bounded (timingBy t)
-timed-bound (timed.Lasts d) = tt
-timed-bound timed.Refused = omega arith
+timed-bound : (t : Conversion) → Bounded (timingBy t)
+timed-bound (conversion.Lasts d) = tt
+timed-bound conversion.Refused = omega arith
 
 units-bound : (u : Units) → Bounded (unitsRead u)
 units-bound (Sum d) = either Bounded (isZero d) (λ e. omega arith) (λ e. tt)
 units-bound NotUnits = omega arith
 
-decimal-bound : (xs : List ℕ) (d : Decimal) → Bounded (decimalRead xs d)
+decimal-bound : (xs : List ℕ) (d : Decimal) → Bounded (timedDecimal xs d)
 decimal-bound xs NotDecimal = units-bound (unitsOf xs)
 decimal-bound xs (Named n) = omega arith
 decimal-bound xs (Exact n) = timed-bound (fromSecs (n .value))
@@ -51,10 +53,13 @@ read-bound xs =
     either Bounded (eqb (length xs) 0) (λ e. omega arith)
     (λ e. either Bounded (sameText xs (ascii "0")) (λ e. omega arith) (λ e. decimal-bound xs (decimalOf xs)))
 
-pub timing-bound : (xs : List ℕ) → Bounded (timingOf xs)
+bound : (xs : List ℕ) → Bounded (timingOf xs)
 unfolding timingOf
-timing-bound xs = go (admitted longest xs) (admitted-bound longest xs)
+bound xs = go (admitted decimalLimit xs) (admitted-bound decimalLimit xs)
   where
-    go : (a : Admission) → within.Bounded longest a → Bounded (timingFor a xs)
+    go : (a : Admission) → within.Bounded decimalLimit a → Bounded (timingFor a xs)
     go (admission.Admitted n) h = read-bound xs
     go (admission.Refused r) h = omega (arith, h .number, h .byte, h .character)
+
+pub timing-bound : TimingBound
+timing-bound xs r e = let p = subst Bounded e (bound xs) in (p .number, p .byte, p .character)

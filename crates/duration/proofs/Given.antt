@@ -25,17 +25,18 @@ use Rattle.scan.specs.Sign.{isMinus}
 use Rattle.decimal.specs.declared.Decimal.{Decimal}
 use Rattle.decimal.specs.declared.Decimal.the-variants.{NotDecimal, Named, Exact, Outside}
 use Rattle.decimal.specs.Grammar.{isNumeral, isInfinite, isNan}
-use Rattle.decimal.specs.Value.{plain, longest, decimalOf}
-use Rattle.decimal.specs.laws.Decimal.{nearestOf, Infinite, Nan, Numeral, Spelled, InExact}
-use Rattle.decimal.proofs.Given.{decimal-given, decided-exact}
+use Rattle.decimal.specs.Value.{outsideExact, plain, decimalLimit, decimalOf, nearestOf}
+use Rattle.decimal.specs.laws.Decimal.{Infinite, Nan, Numeric, Spelled, InExact, OutsideExact}
+use Rattle.decimal.proofs.Given.{decimal-given}
+use Rattle.decimal.proofs.Ranges.{exact-told}
 use Rattle.duration.specs.declared.span.Duration.{Duration}
 use Rattle.duration.specs.Unit.{second, nanosAMilli}
 use Rattle.duration.specs.Spans.{isZero, twoTo64, nanosOf, durationAt}
 use Rattle.duration.specs.Units.{isUnitText, unitSum, lasting, unitsOf}
 use Rattle.duration.specs.declared.Timing.{Timing}
 use Rattle.duration.specs.declared.Timing.the-variants.{Lasts, Refused}
-use Rattle.duration.specs.Duration.{emptyText, zeroDuration, notDuration, outsideExact, outOfRange, secondsRead, unitsRead, decimalRead, durationRead, timingOf}
-use Rattle.duration.specs.laws.Refusals.{Empty, ZeroText, Read, secondsOf, InTime, Nothing, ZeroDuration, NotDuration, OutsideExact, OutOfRange, SecondsAre, UnitsAre, TimingGiven}
+use Rattle.duration.specs.Duration.{emptyText, zeroDuration, notDuration, outOfRange, secondsRead, unitsRead, timedDecimal, durationRead, timingOf}
+use Rattle.duration.specs.laws.Refusals.{Empty, ZeroText, Read, secondsOf, InTime, Nothing, ZeroDuration, NotDuration, OutOfRange, SecondsAre, UnitsAre, TimingGiven}
 
 -- the seconds of a decimal
 module _ (xs : List ℕ) where
@@ -89,12 +90,12 @@ rowOf (Refused r) =
 
 module _ (xs : List ℕ) where
   abbrev Holds : Row → Type 0
-  Holds long = TooLong longest xs
-  Holds broken = (TooLong longest xs → ⊥) × NotUtf8 xs
-  Holds empty = Taken longest xs × Empty xs
+  Holds long = TooLong decimalLimit xs
+  Holds broken = (TooLong decimalLimit xs → ⊥) × NotUtf8 xs
+  Holds empty = Taken decimalLimit xs × Empty xs
   Holds zero = ZeroDuration xs
   Holds none = NotDuration xs
-  Holds outside = OutsideExact xs
+  Holds outside = Read xs × OutsideExact xs × (isMinus xs 0 ≡ false)
   Holds beyond = OutOfRange xs
   Holds (lasts d) = Read xs × (SecondsAre xs d ⊎ UnitsAre xs d)
 
@@ -118,19 +119,19 @@ module _ (xs : List ℕ) where
   back beyond = refl
   back (lasts d) = refl
 
-  short : Taken longest xs → length xs ≤ longest
+  short : Taken decimalLimit xs → length xs ≤ decimalLimit
   short k = omega (arith, k .0)
 
   tests-zero : Tests (sameText xs (ascii "0")) (ZeroText xs)
   tests-zero = same-is-equal xs (ascii "0")
 
-  begun : Taken longest xs → timingOf xs ≡ durationRead xs
+  begun : Taken decimalLimit xs → timingOf xs ≡ durationRead xs
   unfolding timingOf
-  begun k = rw (given-exactly longest xs .2 .1 k)
+  begun k = rw (given-exactly decimalLimit xs .2 .1 k)
 
-  read : Read xs → (d : Decimal) → decimalOf xs ≡ d → timingOf xs ≡ decimalRead xs d
+  read : Read xs → (d : Decimal) → decimalOf xs ≡ d → timingOf xs ≡ timedDecimal xs d
   unfolding timingOf durationRead
-  read r d e = rw (given-exactly longest xs .2 .1 (r .0), ne-eqb (length xs) 0 (r .1), affirmed tests-zero (r .2), e)
+  read r d e = rw (given-exactly decimalLimit xs .2 .1 (r .0), ne-eqb (length xs) 0 (r .1), affirmed tests-zero (r .2), e)
 
   units : Read xs → (Spelled xs → ⊥) → timingOf xs ≡ unitsRead (unitsOf xs)
   units r n = read r NotDecimal (decimal-given xs .4 .1 (λ s. n (s .1)))
@@ -144,39 +145,39 @@ module _ (xs : List ℕ) where
 
   gives : (w : Row) → Holds w → timingOf xs ≡ given w
   unfolding timingOf durationRead
-  gives long h = rw (given-exactly longest xs .0 .1 h)
-  gives broken h = rw (given-exactly longest xs .1 .1 h)
-  gives empty h = rw (given-exactly longest xs .2 .1 (h .0), eq-eqb (length xs) 0 (h .1))
+  gives long h = rw (given-exactly decimalLimit xs .0 .1 h)
+  gives broken h = rw (given-exactly decimalLimit xs .1 .1 h)
+  gives empty h = rw (given-exactly decimalLimit xs .2 .1 (h .0), eq-eqb (length xs) 0 (h .1))
   gives zero (inl z) = begun (z .0) ∙ ap durationRead (z .1) ∙ zero-text
   gives zero (inr u) = units (u .0) (u .1 .0) ∙ summed xs (u .1 .1) ∙ ap by-zero (zero-sum xs (u .2))
   gives none h = units (h .0) (h .1) ∙ unsummed xs (affirmed (itself (isUnitText xs)) (λ e. h .2 (h .1, e)))
-  gives outside h = read (h .0) (Outside (isMinus xs 0)) (decimal-given xs .3 .1 (short (h .0 .0), h .1, h .2)) ∙ rw (h .3)
+  gives outside h = read (h .0) (Outside (isMinus xs 0)) (decimal-given xs .3 .1 (short (h .0 .0), h .1)) ∙ rw (h .2)
   gives beyond (r, inl (inl i)) = read r (Named (plain (inf (isMinus xs 0)))) (decimal-given xs .0 .1 (short (r .0), i))
   gives beyond (r, inl (inr a)) = read r (Named (plain nan)) (decimal-given xs .1 .1 (short (r .0), a))
   gives beyond (r, inr (inl e)) = read r (Exact (nearestOf xs)) (decimal-given xs .2 .1 (short (r .0), e .0, e .1)) ∙ untimed xs (e .2)
-  gives beyond (r, inr (inr o)) = read r (Outside (isMinus xs 0)) (decimal-given xs .3 .1 (short (r .0), o .0, o .1)) ∙ rw (o .2)
+  gives beyond (r, inr (inr o)) = read r (Outside (isMinus xs 0)) (decimal-given xs .3 .1 (short (r .0), o .0)) ∙ rw (o .1)
   gives (lasts d) (r, inl s) = read r (Exact (nearestOf xs)) (decimal-given xs .2 .1 (short (r .0), s .0, s .1)) ∙ timed xs (s .2) ∙ ap Lasts (sym (s .3))
   gives (lasts d) (r, inr u) = units r (u .0 .0) ∙ summed xs (u .0 .1) ∙ ap by-zero (some-sum xs (u .1)) ∙ ap Lasts (sym (u .2))
 
   -- which row holds of a text that is read
-  decimal-row : Read xs → Numeral xs → Dec (InExact xs) → Dec (InTime xs) → Dec (isMinus xs 0 ≡ true) → (w : Row) × Holds w
+  decimal-row : Read xs → Numeric xs → Dec (InExact xs) → Dec (InTime xs) → Dec (isMinus xs 0 ≡ true) → (w : Row) × Holds w
   decimal-row r n (yes e) (yes i) m = (lasts _, (r, inl (n, e, i, refl)))
   decimal-row r n (yes e) (no i) m = (beyond, (r, inr (inl (n, e, i))))
-  decimal-row r n (no e) i (yes m) = (beyond, (r, inr (inr (n, e, m))))
-  decimal-row r n (no e) i (no m) = (outside, (r, n, e, affirmed (itself (isMinus xs 0)) m))
+  decimal-row r n (no e) i (yes m) = (beyond, (r, inr (inr ((n, e), m))))
+  decimal-row r n (no e) i (no m) = (outside, (r, (n, e), affirmed (itself (isMinus xs 0)) m))
 
   unit-row : Read xs → (Spelled xs → ⊥) → Dec (isUnitText xs ≡ true) → Dec (Nothing xs) → (w : Row) × Holds w
   unit-row r s (yes u) (yes z) = (zero, inr (r, (s, u), z))
   unit-row r s (yes u) (no z) = (lasts _, (r, inr ((s, u), z, refl)))
   unit-row r s (no u) z = (none, (r, s, λ t. u (t .1)))
 
-  read-row : Read xs → Dec (Infinite xs) → Dec (Nan xs) → Dec (Numeral xs) → (w : Row) × Holds w
+  read-row : Read xs → Dec (Infinite xs) → Dec (Nan xs) → Dec (Numeric xs) → (w : Row) × Holds w
   read-row r (yes i) a n = (beyond, (r, inl (inl i)))
   read-row r (no i) (yes a) n = (beyond, (r, inl (inr a)))
-  read-row r (no i) (no a) (yes n) = decimal-row r n (decided-exact xs) (decided (tests-time xs)) (decided (itself (isMinus xs 0)))
+  read-row r (no i) (no a) (yes n) = decimal-row r n (decided (exact-told xs)) (decided (tests-time xs)) (decided (itself (isMinus xs 0)))
   read-row r (no i) (no a) (no n) = unit-row r (⊎-elim i (⊎-elim a n)) (decided (itself (isUnitText xs))) (ℕ-discrete (unitSum xs) 0)
 
-  row : Dec (TooLong longest xs) → Dec (WellFormed xs) → Dec (Empty xs) → Dec (ZeroText xs) → (w : Row) × Holds w
+  row : Dec (TooLong decimalLimit xs) → Dec (WellFormed xs) → Dec (Empty xs) → Dec (ZeroText xs) → (w : Row) × Holds w
   row (yes l) w e z = (long, l)
   row (no l) (no w) e z = (broken, (l, w))
   row (no l) (yes w) (yes e) z = (empty, ((l, w), e))
@@ -185,7 +186,7 @@ module _ (xs : List ℕ) where
       read-row ((l, w), e, z) (decided (itself (isInfinite xs))) (decided (itself (isNan xs))) (decided (itself (isNumeral xs)))
 
   some : (w : Row) × Holds w
-  some = row (decLt longest (length xs)) (ℕ-discrete (prefixEnd xs) (length xs)) (ℕ-discrete (length xs) 0) (decided tests-zero)
+  some = row (decLt decimalLimit (length xs)) (ℕ-discrete (prefixEnd xs) (length xs)) (ℕ-discrete (length xs) 0) (decided tests-zero)
 
   both : (w : Row) → timingOf xs ≡ given w ↔ Holds w
   both w = (exactly rowOf given back Holds (some .0) (some .1) (gives (some .0) (some .1)) w, gives w)

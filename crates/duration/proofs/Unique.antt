@@ -3,11 +3,11 @@ use mathlib.Core.Path.{sym, _∙_}
 use Rattle.proving.proofs.One.{OneAnswer}
 use Rattle.duration.proofs.parse_duration.Kinds as parse-duration
 use Rattle.duration.proofs.parse_duration.Reads as parse-duration-reads
-use Rattle.duration.proofs.refused_by.Kinds as refused-by
-use Rattle.duration.proofs.refused_by.Reads as refused-by-reads
+use Rattle.duration.proofs.not_timed.Kinds as not-timed
+use Rattle.duration.proofs.not_timed.Reads as not-timed-reads
 
 pub same-parse-duration : OneAnswer parse-duration.ps parse-duration.r parse-duration-reads.Post
 same-parse-duration κs a x y e f p q = p ∙ sym q
 
-pub same-refused-by : OneAnswer refused-by.ps refused-by.r refused-by-reads.Post
-same-refused-by κs a x y e f p q = p ∙ sym q
+pub same-not-timed : OneAnswer not-timed.ps not-timed.r not-timed-reads.Post
+same-not-timed κs a x y e f p q = p ∙ sym q

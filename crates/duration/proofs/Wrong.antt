@@ -12,22 +12,23 @@ use Rattle.proving.proofs.One.{Answers}
 use Rattle.scan.specs.Run.{runLength}
 use Rattle.scan.specs.Text.{sameText}
 use Rattle.scan.specs.Sign.{isSign}
+use Rattle.scan.specs.Digits.{valueFrom}
 use Rattle.utf8.specs.Table.{fits, sizeIn, charLength}
 use Rattle.utf8.specs.Text.{charsPast, sizeOf}
 use Rattle.utf8.specs.Answers.{validityOf, admitted, atStart, place, notUtf8}
 use Rattle.utf8.specs.Code.{codeOf}
 use Rattle.decimal.specs.Grammar.{hasDigits, exponentHasDigits, isNumeral, isInfinite, isNan}
-use Rattle.decimal.specs.Value.{valueFrom, isZeros, trailing, isExact, nearest, scaledBy, decimalIn, decimalOf}
+use Rattle.decimal.specs.Value.{isScaled, isSome, isExactRange, isInExact, numeralRead, decimalIn, decimalOf}
 use Rattle.duration.specs.declared.span.Duration.{Duration}
 use Rattle.duration.specs.Units.{isPart, behind, sumBy, counted, isUnitText, unitsOf}
 use Rattle.duration.specs.declared.Timing.{Timing}
 use Rattle.duration.specs.declared.Timing.the-variants.{Lasts, Refused}
-use Rattle.duration.specs.Duration.{durationRead, timingOf, refusedBy}
+use Rattle.duration.specs.Duration.{durationRead, timingOf, notTimed}
 use Rattle.utf8.specs.declared.Refusal.{Refusal}
 use Rattle.duration.proofs.parse_duration.Kinds as parse-duration
 use Rattle.duration.proofs.parse_duration.Reads as parse-duration-reads
-use Rattle.duration.proofs.refused_by.Kinds as refused-by
-use Rattle.duration.proofs.refused_by.Reads as refused-by-reads
+use Rattle.duration.proofs.not_timed.Kinds as not-timed
+use Rattle.duration.proofs.not_timed.Reads as not-timed-reads
 
 abbrev duration : ℕ → ℕ → Duration
 duration s n = record { secs = s; nanos = n }
@@ -36,7 +37,7 @@ abbrev parse-duration-gives : List ℕ → Timing → Type 0
 parse-duration-gives s v = Answers parse-duration.ps parse-duration.r parse-duration-reads.Post (λ κs a. now (a .0) ≡ s) (λ κs. v)
 
 parse-duration-at : (s : List ℕ) → parse-duration-gives s (timingOf s)
-unfolding timingOf durationRead admitted validityOf charsPast sizeOf charLength sizeIn fits codeOf isWithin sameText decimalOf decimalIn isInfinite isNan isNumeral hasDigits exponentHasDigits isSign lowered isIn runLength digitOf valueFrom isZeros trailing isExact nearest scaledBy round size span climb floatUnits odd trailingZeros lt le unitsOf isUnitText behind sumBy isPart counted isAlpha
+unfolding timingOf durationRead admitted validityOf charsPast sizeOf charLength sizeIn fits codeOf isWithin sameText decimalOf decimalIn isInfinite isNan isNumeral hasDigits exponentHasDigits isSign lowered isIn runLength digitOf valueFrom numeralRead isInExact isExactRange isSome isScaled round size span climb floatUnits odd trailingZeros lt le unitsOf isUnitText behind sumBy isPart counted isAlpha
 parse-duration-at s κs a x e p h = p ∙ ap timingOf h
 
 pub empty-text-is-refused-with-fifty : parse-duration-gives [] (Refused (atStart 50))
@@ -79,14 +80,14 @@ pub letter-is-no-duration : parse-duration-gives (ascii "x") (Refused (atStart 5
 unfolding parse-duration-at
 letter-is-no-duration = parse-duration-at _
 
-abbrev refused-by-gives : Timing → Refusal → Type 0
-refused-by-gives t v = Answers refused-by.ps refused-by.r refused-by-reads.Post (λ κs a. a .0 ≡ t) (λ κs. v)
+abbrev not-timed-gives : Timing → Refusal → Type 0
+not-timed-gives t v = Answers not-timed.ps not-timed.r not-timed-reads.Post (λ κs a. a .0 ≡ t) (λ κs. v)
 
-refused-by-at : (t : Timing) → refused-by-gives t (refusedBy t)
-refused-by-at t κs a x e p h = p ∙ ap refusedBy h
+not-timed-at : (t : Timing) → not-timed-gives t (notTimed t)
+not-timed-at t κs a x e p h = p ∙ ap notTimed h
 
-pub refusal-is-told-with-its-place : refused-by-gives (Refused (notUtf8 (place 3 2))) (notUtf8 (place 3 2))
-refusal-is-told-with-its-place = refused-by-at _
+pub refusal-is-told-with-its-place : not-timed-gives (Refused (notUtf8 (place 3 2))) (notUtf8 (place 3 2))
+refusal-is-told-with-its-place = not-timed-at _
 
-pub duration-has-no-refusal : refused-by-gives (Lasts (record { secs = 1; nanos = 0 })) (atStart 0)
-duration-has-no-refusal = refused-by-at _
+pub duration-has-no-refusal : not-timed-gives (Lasts (record { secs = 1; nanos = 0 })) (atStart 0)
+duration-has-no-refusal = not-timed-at _

@@ -13,9 +13,9 @@ use Rattle.utf8.specs.Answers.{atStart, admitted, noRefusal}
 use Rattle.decimal.specs.declared.Number.{Number}
 use Rattle.decimal.specs.declared.Decimal.{Decimal}
 use Rattle.decimal.specs.declared.Decimal.the-variants.{NotDecimal, Named, Exact, Outside}
-use Rattle.decimal.specs.Value.{longest, decimalOf}
-use Rattle.duration.specs.declared.span.Timed.{Timed}
-use Rattle.duration.specs.declared.span.Timed.the-variants as timed
+use Rattle.decimal.specs.Value.{outsideExact, decimalLimit, decimalOf}
+use Rattle.duration.specs.declared.span.Conversion.{Conversion}
+use Rattle.duration.specs.declared.span.Conversion.the-variants as conversion
 use Rattle.duration.specs.Spans.{isZero, fromSecs}
 use Rattle.duration.specs.declared.units.Units.{Units}
 use Rattle.duration.specs.declared.units.Units.the-variants.{Sum, NotUnits}
@@ -23,8 +23,8 @@ use Rattle.duration.specs.Units.{unitsOf}
 use Rattle.duration.specs.declared.Timing.{Timing}
 use Rattle.duration.specs.declared.Timing.the-variants.{Lasts, Refused}
 
--- 50 "empty duration", 51 "duration text `0`, or a unit sum of zero", 52 "neither decimal nor unit text", 53 "decimal outside the exact
--- range", 54 "seconds negative, infinite, NaN, or 2^64 and over"
+-- 50 "empty duration", 51 "duration text `0`, or a unit sum of zero", 52 "neither decimal nor unit text", 54 "seconds negative, infinite, NaN,
+-- or 2^64 and over"
 abbrev pub emptyText : Refusal
 emptyText = atStart 50
 
@@ -34,16 +34,13 @@ zeroDuration = atStart 51
 abbrev pub notDuration : Refusal
 notDuration = atStart 52
 
-abbrev pub outsideExact : Refusal
-outsideExact = atStart 53
-
 abbrev pub outOfRange : Refusal
 outOfRange = atStart 54
 
 -- "A decimal text's f64 is seconds, rounded to the nearest nanosecond, ties to even"
-abbrev pub timingBy : Timed → Timing
-timingBy (timed.Lasts d) = Lasts d
-timingBy timed.Refused = Refused outOfRange
+abbrev pub timingBy : Conversion → Timing
+timingBy (conversion.Lasts d) = Lasts d
+timingBy conversion.Refused = Refused outOfRange
 
 abbrev pub secondsRead : Number → Timing
 secondsRead n = timingBy (fromSecs (n .value))
@@ -52,25 +49,18 @@ abbrev pub unitsRead : Units → Timing
 unitsRead (Sum d) = cond (isZero d) (Refused zeroDuration) (Lasts d)
 unitsRead NotUnits = Refused notDuration
 
--- the number of a decimal's refusal
-abbrev pub refusalNumber : Decimal → ℕ
-refusalNumber NotDecimal = 54
-refusalNumber (Named n) = 54
-refusalNumber (Exact n) = 54
-refusalNumber (Outside negative) = cond negative 54 53
-
 -- "infinity or NaN by name, or negative nonzero, is tested before 53, 2^64 after"
-abbrev pub decimalRead : List ℕ → Decimal → Timing
-decimalRead xs NotDecimal = unitsRead (unitsOf xs)
-decimalRead xs (Named n) = Refused outOfRange
-decimalRead xs (Exact n) = secondsRead n
-decimalRead xs (Outside negative) = Refused (cond negative outOfRange outsideExact)
+abbrev pub timedDecimal : List ℕ → Decimal → Timing
+timedDecimal xs NotDecimal = unitsRead (unitsOf xs)
+timedDecimal xs (Named n) = Refused outOfRange
+timedDecimal xs (Exact n) = secondsRead n
+timedDecimal xs (Outside negative) = Refused (cond negative outOfRange outsideExact)
 
 unfoldable pub durationRead : List ℕ → Timing
 durationRead xs =
     cond (eqb (length xs) 0) (Refused emptyText)
     (cond (sameText xs (ascii "0")) (Refused zeroDuration)
-    (decimalRead xs (decimalOf xs)))
+    (timedDecimal xs (decimalOf xs)))
 
 -- "Order: 1, 2, the reading"
 abbrev pub timingFor : Admission → List ℕ → Timing
@@ -78,9 +68,9 @@ timingFor (admission.Admitted n) xs = durationRead xs
 timingFor (admission.Refused r) xs = Refused r
 
 unfoldable pub timingOf : List ℕ → Timing
-timingOf xs = timingFor (admitted longest xs) xs
+timingOf xs = timingFor (admitted decimalLimit xs) xs
 
 -- the refusal of an answer, and of one that has none the number 0, which is no refusal's
-abbrev pub refusedBy : Timing → Refusal
-refusedBy (Lasts d) = noRefusal
-refusedBy (Refused r) = r
+abbrev pub notTimed : Timing → Refusal
+notTimed (Lasts d) = noRefusal
+notTimed (Refused r) = r

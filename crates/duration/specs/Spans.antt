@@ -8,8 +8,8 @@ use lib.Ieee.Nearest.{closest}
 use lib.Ieee.Positive.{num, den}
 use Rattle.duration.specs.Unit.{nanosASecond}
 use Rattle.duration.specs.declared.span.Duration.{Duration}
-use Rattle.duration.specs.declared.span.Timed.{Timed}
-use Rattle.duration.specs.declared.span.Timed.the-variants.{Lasts, Refused}
+use Rattle.duration.specs.declared.span.Conversion.{Conversion}
+use Rattle.duration.specs.declared.span.Conversion.the-variants.{Lasts, Refused}
 
 -- 2 ^ -31, below which a number of seconds is less than half a nanosecond; and 2 ^ 64
 abbrev pub leastTimed : Float
@@ -26,7 +26,7 @@ abbrev pub durationAt : ℕ → Duration
 durationAt n = record { secs = n / nanosASecond; nanos = n % nanosASecond }
 
 -- a NaN, what is below zero, and what is 2 ^ 64 or more, an infinity among them, are refused
-abbrev pub fromSecs : Float → Timed
+abbrev pub fromSecs : Float → Conversion
 fromSecs x = cond (lt x twoTo64 && le (fin false 0 (pos 0)) x) (Lasts (durationAt (nanosOf x))) Refused
 
 -- no time at all

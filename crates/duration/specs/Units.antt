@@ -10,9 +10,9 @@ use Rattle.scan.specs.declared.byte.Class.the-variants.{Digit, Alpha}
 use Rattle.scan.specs.Byte.{isIn}
 use Rattle.scan.specs.Run.{runEnd}
 use Rattle.scan.specs.Text.{sameText}
+use Rattle.scan.specs.Digits.{valueOf}
 use Rattle.duration.specs.Unit.{Unit, units, second, nanosAMilli}
 use Rattle.decimal.specs.Grammar.{between}
-use Rattle.decimal.specs.Value.{valueOf}
 use Rattle.duration.specs.declared.span.Duration.{Duration}
 use Rattle.duration.specs.declared.units.Units.{Units}
 use Rattle.duration.specs.declared.units.Units.the-variants.{Sum, NotUnits}
@@ -30,7 +30,7 @@ isPart name xs = ltb 0 (digitsEnd xs) && sameText (between xs (digitsEnd xs) (pa
 
 -- the number of that part
 abbrev pub partValue : List ℕ → ℕ
-partValue xs = valueOf (take (digitsEnd xs) xs)
+partValue xs = valueOf 10 (take (digitsEnd xs) xs)
 
 -- what is behind the parts of units, and the milliseconds that they amount to, where a number counts for so much
 unfoldable pub behind : List Unit → List ℕ → List ℕ

@@ -1,2 +1,3 @@
 pub mod Display
+pub mod Refused
 pub mod Units

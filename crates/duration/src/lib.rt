@@ -3,8 +3,8 @@ pub mod display;
 pub mod span;
 pub mod units;
 
+use crate::span::Conversion;
 use crate::span::Duration;
-use crate::span::Timed;
 use crate::units::Units;
 use decimal::Decimal;
 use decimal::Number;
@@ -17,16 +17,15 @@ ghost use Rattle.decimal.specs.declared.Decimal.the-variants.{Exact};
 ghost use Rattle.decimal.specs.Value.{decimalOf};
 ghost use Rattle.duration.specs.Units.{unitsOf};
 ghost use Rattle.duration.specs.declared.Timing.the-variants.{Refused};
-ghost use Rattle.duration.specs.Duration.{secondsRead, unitsRead, refusalNumber, decimalRead, timingOf, refusedBy};
+ghost use Rattle.duration.specs.Duration.{secondsRead, unitsRead, timedDecimal, timingOf, notTimed};
+ghost use Rattle.duration.specs.steps.Refused.{secondsRefusal};
 
-// Document 01's refusals of a duration: it is empty, is zero, is none, is outside the exact range, or is negative or too long.
+// Document 01's refusals of a duration besides a decimal's: it is empty, is zero, is none, or is negative or too long.
 pub const EMPTY: usize = 50;
 
 pub const ZERO: usize = 51;
 
 pub const NOT_A_DURATION: usize = 52;
-
-pub const OUTSIDE_EXACT: usize = 53;
 
 pub const OUT_OF_RANGE: usize = 54;
 
@@ -48,7 +47,7 @@ fn seconds(n: Number) -> Timing
     ensures { λ r. ⌜ r ≡ secondsRead n ⌝ }
 {
     let t = span::from_secs_f64(n.value);
-    let Timed::Lasts(d) = t else {
+    let Conversion::Lasts(d) = t else {
         return refused(OUT_OF_RANGE);
     };
     Timing::Lasts(d)
@@ -69,8 +68,8 @@ fn unit_text(s: &[u8]) -> Timing
 }
 
 // Why a decimal is no number of seconds: outside the exact range a positive one is 53; a name and a negative one are 54.
-fn refusal_number(d: Decimal) -> usize
-    ensures { λ r. ⌜ r ≡ refusalNumber d ⌝ }
+fn seconds_refusal(d: Decimal) -> usize
+    ensures { λ r. ⌜ r ≡ secondsRefusal d ⌝ }
 {
     let Decimal::Outside(negative) = d else {
         return OUT_OF_RANGE;
@@ -78,23 +77,23 @@ fn refusal_number(d: Decimal) -> usize
     if negative {
         return OUT_OF_RANGE;
     }
-    OUTSIDE_EXACT
+    decimal::OUTSIDE_EXACT
 }
 
 // What is not exact: parts with units, or what is refused as a decimal.
 fn inexact(s: &[u8], d: Decimal) -> Timing
     requires { ⌜ ((n : Number) → d ≡ Exact n → ⊥) ⌝ }
-    ensures { λ r. ⌜ r ≡ decimalRead (now (s .entry)) d ⌝ }
+    ensures { λ r. ⌜ r ≡ timedDecimal (now (s .entry)) d ⌝ }
 {
     let Decimal::NotDecimal = d else {
-        return refused(refusal_number(d));
+        return refused(seconds_refusal(d));
     };
     unit_text(s)
 }
 
 // A decimal, or else parts with units.
 fn read_text(s: &[u8]) -> Timing
-    ensures { λ r. ⌜ r ≡ decimalRead (now (s .entry)) (decimalOf (now (s .entry))) ⌝ }
+    ensures { λ r. ⌜ r ≡ timedDecimal (now (s .entry)) (decimalOf (now (s .entry))) ⌝ }
 {
     let d = decimal::read_decimal(s);
     let Decimal::Exact(n) = d else {
@@ -107,7 +106,7 @@ fn read_text(s: &[u8]) -> Timing
 pub fn parse_duration(s: &[u8]) -> Timing
     ensures { λ r. ⌜ r ≡ timingOf (now (s .entry)) ⌝ }
 {
-    let a = utf8::admit(s, decimal::LONGEST);
+    let a = utf8::admit(s, decimal::LIMIT);
     let Admission::Admitted(_) = a else {
         return Timing::Refused(utf8::not_admitted(a));
     };
@@ -121,8 +120,8 @@ pub fn parse_duration(s: &[u8]) -> Timing
 }
 
 // Why a text is no duration; where it is one, a refusal of no number.
-pub fn refused_by(answer: Timing) -> Refusal
-    ensures { λ r. ⌜ r ≡ refusedBy answer ⌝ }
+pub fn not_timed(answer: Timing) -> Refusal
+    ensures { λ r. ⌜ r ≡ notTimed answer ⌝ }
 {
     let Timing::Refused(r) = answer else {
         return utf8::at_start(utf8::NO_REFUSAL);

@@ -15,7 +15,7 @@ pub struct Duration {
     pub nanos: u32,
 }
 
-// The lengths of the seven units, in milliseconds.
+// The lengths of the seven units, in milliseconds; and how many nanoseconds a millisecond and a second have.
 impl Duration {
     pub const MILLI: u64 = 1;
 
@@ -30,6 +30,10 @@ impl Duration {
     pub const WEEK: u64 = 7 * Self::DAY;
 
     pub const YEAR: u64 = 365 * Self::DAY;
+
+    pub const NANOS_A_MILLI: u64 = 1_000_000;
+
+    pub const NANOS_A_SECOND: u64 = Self::SECOND * Self::NANOS_A_MILLI;
 }
 
 // Whether a duration is zero.
@@ -40,18 +44,16 @@ pub fn is_zero(duration: Duration) -> bool
 }
 
 // A duration, or none where the seconds are negative, too many or no number.
-pub enum Timed {
+pub enum Conversion {
     Lasts(Duration),
     Refused,
 }
 
 // A float by its digits: digits / 2 ^ shift.
-struct Parts {
+struct Dyadic {
     digits: u64,
     shift: u64,
 }
-
-const NANOS_A_SECOND: u64 = 1_000_000_000;
 
 // 2^32.
 const HIGH_UNIT: u64 = 4_294_967_296;
@@ -104,11 +106,11 @@ fn nanos(f: u64, k: u64) -> u64
     ensures { λ r. ⌜ r ≡ closest (f * nanosASecond) (2 ^ k) ⌝ }
 {
     if k <= 32 {
-        return closest_div(f * NANOS_A_SECOND, pow2(k));
+        return closest_div(f * Duration::NANOS_A_SECOND, pow2(k));
     }
     // f * 10 ^ 9 is high * 2 ^ 32 + low, and of low only whether it is zero bears on the rounding
-    let p = f % HIGH_UNIT * NANOS_A_SECOND;
-    let high = f / HIGH_UNIT * NANOS_A_SECOND + p / HIGH_UNIT;
+    let p = f % HIGH_UNIT * Duration::NANOS_A_SECOND;
+    let high = f / HIGH_UNIT * Duration::NANOS_A_SECOND + p / HIGH_UNIT;
     let b = pow2(k - 31);
     if p % HIGH_UNIT == 0 {
         closest_div(high * 2, b)
@@ -118,37 +120,37 @@ fn nanos(f: u64, k: u64) -> u64
 }
 
 // The digits and the exponent of x.
-fn parts_of(x: f64) -> Parts
+fn dyadic_of(x: f64) -> Dyadic
     requires { ⌜ T (le leastTimed x) ⌝ ∗ ⌜ T (lt x twoTo64) ⌝ }
     ensures { λ r. ⌜ HasValue x false (r .digits) (2 ^ (r .shift)) ⌝ ∗ ⌜ r .shift ≤ 94 ⌝ ∗ ⌜ r .digits < 2 ^ 64 ⌝ }
 {
     let bits = f64::to_bits(x);
-    Parts {
+    Dyadic {
         digits: ((bits & FRACTION) + LEADING) << MOVED,
         shift: EXPONENT_FROM - (bits >> FRACTION_BITS),
     }
 }
 
 // A number of seconds, to the nearest nanosecond, a tie to the even one.
-pub fn from_secs_f64(x: f64) -> Timed
+pub fn from_secs_f64(x: f64) -> Conversion
     ensures { λ r. ⌜ r ≡ fromSecs x ⌝ }
 {
     if x < TWO_TO_64 {
         if x >= LEAST_TIMED {
-            let p = parts_of(x);
+            let p = dyadic_of(x);
             let d = p.digits;
             let k = p.shift;
             if 63 < k {
-                return Timed::Lasts(whole(0, nanos(d, k)));
+                return Conversion::Lasts(whole(0, nanos(d, k)));
             }
             let b = pow2(k);
-            return Timed::Lasts(whole(d / b, nanos(d % b, k)));
+            return Conversion::Lasts(whole(d / b, nanos(d % b, k)));
         }
         if x >= 0.0 {
-            return Timed::Lasts(Duration { secs: 0, nanos: 0 });
+            return Conversion::Lasts(Duration { secs: 0, nanos: 0 });
         }
     }
-    Timed::Refused
+    Conversion::Refused
 }
 
 // s seconds and n nanoseconds, of which there may be a whole second.
@@ -156,7 +158,7 @@ fn whole(s: u64, n: u64) -> Duration
     requires { ⌜ n ≤ nanosASecond ⌝ ∗ ⌜ (n ≡ nanosASecond → s + 1 < 2 ^ 64) ⌝ }
     ensures { λ r. ⌜ r ≡ durationAt (s * nanosASecond + n) ⌝ }
 {
-    if n == NANOS_A_SECOND {
+    if n == Duration::NANOS_A_SECOND {
         Duration {
             secs: s + 1,
             nanos: 0,

@@ -7,7 +7,7 @@ ghost use Prim.Native.Nat.{_+_, _*_, _^_, _≤_};
 ghost use lib.ListN.{length};
 ghost use Rattle.duration.specs.Unit.{year, second};
 ghost use Rattle.duration.specs.Units.{counted, lasting, unitsOf};
-ghost use Rattle.duration.specs.steps.Units.{taken};
+ghost use Rattle.duration.specs.steps.Units.{advanced};
 
 // What a unit text amounts to, if it is one.
 pub enum Units {
@@ -16,7 +16,7 @@ pub enum Units {
 }
 
 // How far a text was read, and what the parts before amount to.
-struct Taken {
+struct Progress {
     at: usize,
     secs: u64,
     millis: u64,
@@ -24,8 +24,6 @@ struct Taken {
 
 // The greatest number of a part that counts.
 const MOST_COUNTED: u64 = 0xffff_ffff;
-
-const NANOS_A_MILLI: u64 = 1_000_000;
 
 // What a part's number counts for.
 fn counted(n: u64) -> u64
@@ -35,9 +33,9 @@ fn counted(n: u64) -> u64
 }
 
 // The text with one more part read, where it goes on with a part of the unit.
-fn take(s: &[u8], t: Taken, name: &[u8], size: u64) -> Taken
+fn take(s: &[u8], t: Progress, name: &[u8], size: u64) -> Progress
     requires { ⌜ (t .at ≤ length (now s)) × (size ≤ year) × (t .secs ≤ 2 ^ 62) × (t .millis ≤ 2 ^ 62) ⌝ }
-    ensures { λ r. ⌜ r ≡ taken (now (s .entry)) t (now (name .entry)) size ⌝ }
+    ensures { λ r. ⌜ r ≡ advanced (now (s .entry)) t (now (name .entry)) size ⌝ }
 {
     let from = t.at;
     let rest = &s[from..];
@@ -50,7 +48,7 @@ fn take(s: &[u8], t: Taken, name: &[u8], size: u64) -> Taken
         return t;
     }
     let n = counted(decimal::digits_value(0, Notation::Decimal, &rest[..digits]));
-    Taken {
+    Progress {
         at: from + end,
         secs: t.secs + n * (size / Duration::SECOND),
         millis: t.millis + n * (size % Duration::SECOND),
@@ -64,7 +62,7 @@ fn lasting(secs: u64, millis: u64) -> Duration
 {
     Duration {
         secs: secs + millis / Duration::SECOND,
-        nanos: (millis % Duration::SECOND * NANOS_A_MILLI) as u32,
+        nanos: (millis % Duration::SECOND * Duration::NANOS_A_MILLI) as u32,
     }
 }
 
@@ -72,7 +70,7 @@ fn lasting(secs: u64, millis: u64) -> Duration
 pub fn read_units(s: &[u8]) -> Units
     ensures { λ r. ⌜ r ≡ unitsOf (now (s .entry)) ⌝ }
 {
-    let start = Taken {
+    let start = Progress {
         at: 0,
         secs: 0,
         millis: 0,

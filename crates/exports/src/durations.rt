@@ -20,7 +20,7 @@ pub extern "C" fn simmerpath_parse_duration(text: &[u8], secs: &mut u64, nanos: 
 {
     let t = duration::parse_duration(text);
     let Timing::Lasts(d) = t else {
-        return packing::packed(duration::refused_by(t));
+        return packing::packed(duration::not_timed(t));
     };
     *secs = d.secs;
     *nanos = d.nanos;

@@ -26,7 +26,7 @@ pub extern "C" fn simmerpath_parse_str_radix(text: &[u8], bits: &mut u64) -> u64
 {
     let p = number::parse_str_radix(text);
     let Parsing::Value(n) = p else {
-        return packing::packed(number::refused_by(p));
+        return packing::packed(number::not_parsed(p));
     };
     *bits = decimal::bits_of(n.value);
     let notation = n.notation;

@@ -8,7 +8,7 @@ use Rattle.utf8.specs.Text.{charsPast, sizeOf, begunIn, charNumber}
 use Rattle.utf8.specs.Answers.{validityOf, admitted}
 use Rattle.utf8.specs.Code.{codeOf}
 use Rattle.scan.specs.Sign.{isSign}
-use Rattle.writing.specs.Decimal.{signOf, digitsOf, decimalText}
+use Rattle.writing.specs.Decimal.{digitFor, digitsWithin, decimalText}
 use Rattle.token.specs.Words.{words, kindIn, keywordOf}
 use Rattle.numeral.specs.Numeral.{isHex, fractionEnd, exponentEnd, numberEnd, isUnit, stopOf, turnOf, durationFrom, numeralOf}
 use Rattle.quoted.specs.Quoted.{quotedFrom}
@@ -21,5 +21,5 @@ use Rattle.listing.specs.Listing.{refusal, lexemesText, printedBy, print
 use Rattle.listing.specs.laws.Cases.{AllPrinted}
 
 pub all-printed : AllPrinted
-unfolding printed printedBy lexemesText refusal lexed measured tallied stepsPast readFrom munchedBy outsideStep bracketStep leadOf symbolOf bracketLeadOf bracketSymbolOf wordStep numberStep quotedStep leftBracketStep endStep ruleBy kindBy isFill keywordOf words kindIn numeralOf numberEnd exponentEnd fractionEnd isHex isUnit durationFrom turnOf stopOf quotedFrom isSign admitted validityOf charsPast sizeOf charNumber begunIn charLength sizeIn fits codeOf isWithin isIn isSpace isAlpha isAlphaNumeric isWord isLine lowered runLength sameText has decimalText digitsOf signOf
+unfolding printed printedBy lexemesText refusal lexed measured tallied stepsPast readFrom munchedBy outsideStep bracketStep leadOf symbolOf bracketLeadOf bracketSymbolOf wordStep numberStep quotedStep leftBracketStep endStep ruleBy kindBy isFill keywordOf words kindIn numeralOf numberEnd exponentEnd fractionEnd isHex isUnit durationFrom turnOf stopOf quotedFrom isSign admitted validityOf charsPast sizeOf charNumber begunIn charLength sizeIn fits codeOf isWithin isIn isSpace isAlpha isAlphaNumeric isWord isLine lowered runLength sameText has decimalText digitsWithin digitFor
 all-printed = (refl, refl)

@@ -8,12 +8,12 @@ use lib.ListN.{length, take, drop, length-append}
 use lib.Seq.{drop-at, drop-drop, length-take-le}
 use borrow.Author.Tests.{le-leb}
 use Rattle.writing.specs.Put.{putAt, pastAt}
-use Rattle.writing.proofs.Writes.{past-in, put-stands}
+use Rattle.writing.proofs.Writes.{put-stands}
 use Rattle.listing.specs.steps.Puts.{Puts}
 
 -- what the writers promise is that a text is put, where it fits
 pub puts : (d : List ℕ) (at : ℕ) (xs : List ℕ) {r : ℕ} {e : List ℕ} → (r ≡ pastAt d at xs) × (e ≡ putAt d at xs) → at + length xs ≤ length d → Puts xs d at r e
-puts d at xs p h = record { room = h; past = p .0 ∙ past-in d at xs h; left = p .1 }
+puts d at xs p h = record { room = h; past = p .0 ∙ put-stands d at xs h .0; left = p .1 }
 
 put-parts : (d : List ℕ) (at : ℕ) (xs : List ℕ) → at + length xs ≤ length d → putAt d at xs ≡ take at d ++ xs ++ drop (at + length xs) d
 unfolding putAt

@@ -19,7 +19,7 @@ use Rattle.utf8.specs.Text.{charsPast, sizeOf, begunIn, charNumber}
 use Rattle.utf8.specs.Answers.{textLimit, validityOf, admitted}
 use Rattle.utf8.proofs.Given.{given-exactly}
 use Rattle.writing.specs.Put.{putAt, pastAt}
-use Rattle.writing.specs.Decimal.{signOf, digitsOf, decimalText}
+use Rattle.writing.specs.Decimal.{digitFor, digitsWithin, decimalText}
 use Rattle.token.specs.Words.{words, kindIn, keywordOf}
 use Rattle.munch.specs.Lead.{symbolOf, leadOf}
 use Rattle.munch.specs.Word.{ruleBy, kindBy}
@@ -32,7 +32,7 @@ use Rattle.listing.proofs.list_lexemes.Reads as list-lexemes-reads
 
 -- what computes at a refusal or a lexeme, and at a query
 writing : Unit {0}
-unfolding putAt pastAt refusal decimalText digitsOf signOf
+unfolding putAt pastAt refusal decimalText digitsWithin digitFor
 writing = tt
 
 listing : Unit {0}

@@ -3,6 +3,7 @@ use Prim.Native.Nat.{ℕ}
 use native.Mathlib.Omega.{arith}
 use mathlib.Core.Bool.{Bool, _&&_}
 use mathlib.Core.List.{List}
+use mathlib.Core.Path.{subst}
 use lib.Ieee.{unlike}
 use Rattle.proving.proofs.Choice.{either}
 use Rattle.utf8.specs.declared.Admission.{Admission}
@@ -14,19 +15,20 @@ use Rattle.scan.specs.Sign.{isMinus}
 use Rattle.decimal.specs.declared.Notation.{Notation}
 use Rattle.decimal.specs.declared.Decimal.{Decimal}
 use Rattle.decimal.specs.declared.Decimal.the-variants.{NotDecimal, Named, Exact, Outside}
-use Rattle.decimal.specs.Value.{longest, decimalOf}
+use Rattle.decimal.specs.Value.{decimalLimit, decimalOf}
 use Rattle.number.specs.declared.Integer.{Integer}
 use Rattle.number.specs.declared.Integer.the-variants.{Whole, NotInteger}
 use Rattle.number.specs.Signed.{isI64}
 use Rattle.number.specs.Integer.{integerOf}
 use Rattle.number.specs.White.{plainText}
-use Rattle.number.specs.Number.{leadsZero, isMarked, integerBy, notationOf, followsMark, markedRead, decimalRead, numberOf, parsingBy, parsingOf}
+use Rattle.number.specs.Number.{leadsZero, isMarked, integerBy, notationOf, followsMark, markedRead, parsedDecimal, numberOf, parsingBy, parsingOf}
+use Rattle.number.specs.laws.Refusals.{ParsingBound}
 use Rattle.number.specs.declared.Parsing.{Parsing}
 use Rattle.number.specs.declared.Parsing.the-variants.{Value, Refused}
 
-abbrev pub Bounded : Parsing → Type 0
+abbrev Bounded : Parsing → Type 0
 Bounded (Value n) = Unit {0}
-Bounded (Refused r) = within.Placed 61 longest r
+Bounded (Refused r) = within.Placed 61 decimalLimit r
 
 integer-bound : (n : Notation) (outer : Bool) (i : Integer) → Bounded (integerBy n outer i)
 integer-bound n outer (Whole own v) =
@@ -38,7 +40,7 @@ unfolding markedRead
 marked-bound t =
     either Bounded (leadsZero t) (λ e. integer-bound (notationOf t) (isMinus t 0) (integerOf (notationOf t) (followsMark t))) (λ e. omega arith)
 
-decimal-bound : (d : Decimal) → Bounded (decimalRead d)
+decimal-bound : (d : Decimal) → Bounded (parsedDecimal d)
 decimal-bound NotDecimal = omega arith
 decimal-bound (Named n) = tt
 decimal-bound (Exact n) = tt
@@ -48,10 +50,13 @@ number-bound : (t : List ℕ) → Bounded (numberOf t)
 unfolding numberOf
 number-bound t = either Bounded (isMarked t) (λ e. marked-bound t) (λ e. decimal-bound (decimalOf t))
 
-pub parsing-bound : (xs : List ℕ) → Bounded (parsingOf xs)
+bound : (xs : List ℕ) → Bounded (parsingOf xs)
 unfolding parsingOf
-parsing-bound xs = go (admitted longest xs) (admitted-bound longest xs)
+bound xs = go (admitted decimalLimit xs) (admitted-bound decimalLimit xs)
   where
-    go : (a : Admission) → within.Bounded longest a → Bounded (parsingBy a (plainText xs))
+    go : (a : Admission) → within.Bounded decimalLimit a → Bounded (parsingBy a (plainText xs))
     go (admission.Admitted n) h = number-bound (plainText xs)
     go (admission.Refused r) h = omega (arith, h .number, h .byte, h .character)
+
+pub parsing-bound : ParsingBound
+parsing-bound xs r e = let p = subst Bounded e (bound xs) in (p .number, p .byte, p .character)

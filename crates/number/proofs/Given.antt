@@ -24,17 +24,18 @@ use Rattle.decimal.specs.declared.Decimal.{Decimal}
 use Rattle.decimal.specs.declared.Decimal.the-variants.{NotDecimal, Named, Exact, Outside}
 use Rattle.scan.specs.Sign.{pastSign, isMinus}
 use Rattle.decimal.specs.Grammar.{isNumeral, isInfinite, isNan}
-use Rattle.decimal.specs.Value.{radixOf, plain, longest, decimalOf}
-use Rattle.decimal.specs.laws.Decimal.{nearestOf, Infinite, Nan, Numeral, InExact}
-use Rattle.decimal.proofs.Given.{decimal-given, decided-exact}
+use Rattle.decimal.specs.Value.{outsideExact, radixOf, plain, decimalLimit, decimalOf, nearestOf}
+use Rattle.decimal.specs.laws.Decimal.{Infinite, Nan, Numeric, InExact, OutsideExact}
+use Rattle.decimal.proofs.Given.{decimal-given}
+use Rattle.decimal.proofs.Ranges.{exact-told}
 use Rattle.number.specs.declared.Integer.the-variants as integer
 use Rattle.number.specs.declared.Parsing.{Parsing}
 use Rattle.number.specs.declared.Parsing.the-variants.{Value, Refused}
 use Rattle.number.specs.White.{plainText}
 use Rattle.number.specs.Signed.{mostOf, isI64}
 use Rattle.number.specs.Integer.{isDigits, unsignedOf, isWhole, integerOf}
-use Rattle.number.specs.Number.{outsideExact, notNumber, outsideI64, leadsZero, behindZero, hasDecimalMark, isZeroLed, isMarked, notationOf, followsMark, integerNumber, integerBy, markedRead, decimalRead, numberOf, parsingOf}
-use Rattle.number.specs.laws.Refusals.{ZeroLed, Marked, AllDigits, Whole, magnitude, own, negative, InI64, OutsideExact, NotNumber, OutsideI64, IntegerIs, DecimalIs, ParsingGiven}
+use Rattle.number.specs.Number.{notNumber, outsideI64, leadsZero, behindZero, hasDecimalMark, isZeroLed, isMarked, notationOf, followsMark, integerNumber, integerBy, markedRead, parsedDecimal, numberOf, parsingOf}
+use Rattle.number.specs.laws.Refusals.{ZeroLed, Marked, AllDigits, Whole, magnitude, own, negative, InI64, NotNumber, OutsideI64, IntegerIs, DecimalIs, ParsingGiven}
 use Rattle.number.proofs.Kept.{plain-few}
 
 -- the conditions and their tests
@@ -108,12 +109,12 @@ module _ (xs : List ℕ) where
   t = plainText xs
 
   abbrev Holds : Row → Type 0
-  Holds long = TooLong longest xs
-  Holds broken = (TooLong longest xs → ⊥) × NotUtf8 xs
-  Holds none = Taken longest xs × NotNumber t
-  Holds oversized = Taken longest xs × OutsideI64 t
-  Holds outside = Taken longest xs × OutsideExact t
-  Holds (accepted n) = Taken longest xs × (IntegerIs t n ⊎ DecimalIs t n)
+  Holds long = TooLong decimalLimit xs
+  Holds broken = (TooLong decimalLimit xs → ⊥) × NotUtf8 xs
+  Holds none = Taken decimalLimit xs × NotNumber t
+  Holds oversized = Taken decimalLimit xs × OutsideI64 t
+  Holds outside = Taken decimalLimit xs × (Marked t → ⊥) × OutsideExact t
+  Holds (accepted n) = Taken decimalLimit xs × (IntegerIs t n ⊎ DecimalIs t n)
 
   abbrev given : Row → Parsing
   given long = Refused tooLong
@@ -131,52 +132,52 @@ module _ (xs : List ℕ) where
   back outside = refl
   back (accepted n) = refl
 
-  short : Taken longest xs → length t ≤ longest
+  short : Taken decimalLimit xs → length t ≤ decimalLimit
   short k = omega (arith, plain-few xs (k .1), k .0)
 
-  integer-read : Taken longest xs → Marked t → parsingOf xs ≡ markedRead t
+  integer-read : Taken decimalLimit xs → Marked t → parsingOf xs ≡ markedRead t
   unfolding parsingOf numberOf
-  integer-read k m = rw (given-exactly longest xs .2 .1 k, tests-marked t .1 m)
+  integer-read k m = rw (given-exactly decimalLimit xs .2 .1 k, tests-marked t .1 m)
 
-  decimal-read : Taken longest xs → (Marked t → ⊥) → (d : Decimal) → decimalOf t ≡ d → parsingOf xs ≡ decimalRead d
+  decimal-read : Taken decimalLimit xs → (Marked t → ⊥) → (d : Decimal) → decimalOf t ≡ d → parsingOf xs ≡ parsedDecimal d
   unfolding parsingOf numberOf
-  decimal-read k m d e = rw (given-exactly longest xs .2 .1 k, affirmed (tests-marked t) m, e)
+  decimal-read k m d e = rw (given-exactly decimalLimit xs .2 .1 k, affirmed (tests-marked t) m, e)
 
   gives : (w : Row) → Holds w → parsingOf xs ≡ given w
   unfolding parsingOf
-  gives long h = rw (given-exactly longest xs .0 .1 h)
-  gives broken h = rw (given-exactly longest xs .1 .1 h)
+  gives long h = rw (given-exactly decimalLimit xs .0 .1 h)
+  gives broken h = rw (given-exactly decimalLimit xs .1 .1 h)
   gives none (k, inl n) = integer-read k (n .0) ∙ unmarked t (n .1)
   gives none (k, inr n) = decimal-read k (n .0) NotDecimal (decimal-given t .4 .1 (λ s. n .1 (s .1)))
   gives oversized h = integer-read (h .0) (h .1 .0) ∙ unsigned t (h .1 .1) (h .1 .2)
-  gives outside h = decimal-read (h .0) (h .1 .0) (Outside (isMinus t 0)) (decimal-given t .3 .1 (short (h .0), h .1 .1, h .1 .2))
+  gives outside h = decimal-read (h .0) (h .1) (Outside (isMinus t 0)) (decimal-given t .3 .1 (short (h .0), h .2))
   gives (accepted n) (k, inl i) = integer-read k (i .0) ∙ signed t (i .1) (i .2) ∙ ap Value (sym (i .3))
   gives (accepted n) (k, inr (m, inl i)) = decimal-read k m (Named (plain (inf (isMinus t 0)))) (decimal-given t .0 .1 (short k, i .0)) ∙ ap Value (sym (i .1))
   gives (accepted n) (k, inr (m, inr (inl a))) = decimal-read k m (Named (plain nan)) (decimal-given t .1 .1 (short k, a .0)) ∙ ap Value (sym (a .1))
   gives (accepted n) (k, inr (m, inr (inr e))) = decimal-read k m (Exact (nearestOf t)) (decimal-given t .2 .1 (short k, e .0, e .1)) ∙ ap Value (sym (e .2))
 
   -- which row holds of a text that is taken
-  marked-row : Taken longest xs → Marked t → Dec (Whole t) → Dec (InI64 t) → (w : Row) × Holds w
+  marked-row : Taken decimalLimit xs → Marked t → Dec (Whole t) → Dec (InI64 t) → (w : Row) × Holds w
   marked-row k m (no w) i = (none, (k, inl (m, w)))
   marked-row k m (yes w) (no i) = (oversized, (k, (m, w, i)))
   marked-row k m (yes w) (yes i) = (accepted _, (k, inl (m, w, i, refl)))
 
-  decimal-row : Taken longest xs → (Marked t → ⊥) → Dec (Infinite t) → Dec (Nan t) → Dec (Numeral t) → Dec (InExact t) → (w : Row) × Holds w
+  decimal-row : Taken decimalLimit xs → (Marked t → ⊥) → Dec (Infinite t) → Dec (Nan t) → Dec (Numeric t) → Dec (InExact t) → (w : Row) × Holds w
   decimal-row k m (yes i) a n e = (accepted _, (k, inr (m, inl (i, refl))))
   decimal-row k m (no i) (yes a) n e = (accepted _, (k, inr (m, inr (inl (a, refl)))))
   decimal-row k m (no i) (no a) (yes n) (yes e) = (accepted _, (k, inr (m, inr (inr (n, e, refl)))))
-  decimal-row k m (no i) (no a) (yes n) (no e) = (outside, (k, (m, n, e)))
+  decimal-row k m (no i) (no a) (yes n) (no e) = (outside, (k, m, (n, e)))
   decimal-row k m (no i) (no a) (no n) e = (none, (k, inr (m, ⊎-elim i (⊎-elim a n))))
 
-  row : Dec (TooLong longest xs) → Dec (WellFormed xs) → Dec (Marked t) → (w : Row) × Holds w
+  row : Dec (TooLong decimalLimit xs) → Dec (WellFormed xs) → Dec (Marked t) → (w : Row) × Holds w
   row (yes l) w m = (long, l)
   row (no l) (no w) m = (broken, (l, w))
   row (no l) (yes w) (yes m) = marked-row (l, w) m (decided (tests-whole t)) (decided (tests-i64 t))
   row (no l) (yes w) (no m) =
-      decimal-row (l, w) m (decided (itself (isInfinite t))) (decided (itself (isNan t))) (decided (itself (isNumeral t))) (decided-exact t)
+      decimal-row (l, w) m (decided (itself (isInfinite t))) (decided (itself (isNan t))) (decided (itself (isNumeral t))) (decided (exact-told t))
 
   some : (w : Row) × Holds w
-  some = row (decLt longest (length xs)) (ℕ-discrete (prefixEnd xs) (length xs)) (decided (tests-marked t))
+  some = row (decLt decimalLimit (length xs)) (ℕ-discrete (prefixEnd xs) (length xs)) (decided (tests-marked t))
 
   each : (w : Row) → parsingOf xs ≡ given w → Holds w
   each = exactly rowOf given back Holds (some .0) (some .1) (gives (some .0) (some .1))

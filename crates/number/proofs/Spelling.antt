@@ -2,27 +2,38 @@
 -- digit is an x, so that the notation is told. The pieces are found both ways, from the spelling and from the places.
 use Prim.Native.Nat.{ℕ, suc, _<_, _≤_}
 use Prim.Native.Char.{code}
+use native.Mathlib.Nat.{add-zero}
+use native.Mathlib.Numerals.{add-one}
 use native.Mathlib.Omega.{arith}
 use mathlib.Core.Bool.{Bool, true, false, cond}
 use mathlib.Core.List.{List, [], _∷_, _++_}
 use mathlib.Core.Logic.{_↔_, inl, inr}
-use mathlib.Core.Path.{_≡_, refl, ap, _∙_}
+use mathlib.Core.Path.{_≡_, refl, sym, ap, _∙_}
 use lib.Dec.{eqb}
 use lib.ListN.{length, drop}
+use lib.Seq.{getD-drop, drop-drop, drop-cons}
 use borrow.Author.Tests.{eq-eqb, ne-eqb, eqb-true}
 use Rattle.scan.specs.Ascii.{ascii}
 use Rattle.scan.specs.Byte.{end, peekAt}
 use Rattle.scan.proofs.byte.Classes.{digit-bounds}
+use Rattle.scan.proofs.Runs.{inside}
 use Rattle.scan.specs.Sign.{pastSign, isMinus}
 use Rattle.decimal.specs.declared.Notation.{Notation}
 use Rattle.decimal.specs.declared.Notation.the-variants.{Decimal, Hex, Octal}
 use Rattle.decimal.specs.Value.{radixOf}
 use Rattle.decimal.specs.laws.Spelling.{Sign}
-use Rattle.decimal.proofs.Cuts.{there, found, next, sign-cut, sign-told, sign-found}
+use Rattle.decimal.proofs.Cuts.{sign-cut, sign-found}
 use Rattle.number.specs.Integer.{unsignedOf}
 use Rattle.number.specs.Number.{behindZero, isHexMark, notationOf, followsMark}
 use Rattle.number.specs.laws.Refusals.{LeadsZero, AllDigits, Whole, own}
-use Rattle.number.specs.laws.Spelling.{mark, IntegerOf, WholeSpelled, PartsSpelled}
+use Rattle.number.specs.laws.Spelling.{mark, IntegerOf, WholeSpelled, PiecesSpelled}
+
+-- what stands at a place begins what stands from it on, and the rest stands from the next one on
+there : (xs : List ℕ) (n : ℕ) (ys : List ℕ) → drop n xs ≡ ys → peekAt xs n ≡ peekAt ys 0
+there xs n ys h = ap (peekAt xs) (sym (add-zero n)) ∙ sym (getD-drop n xs 0 end) ∙ ap (λ (l : List ℕ). peekAt l 0) h
+
+next : (xs : List ℕ) (n c : ℕ) (ys : List ℕ) → drop n xs ≡ c ∷ ys → drop (suc n) xs ≡ ys
+next xs n c ys h = ap (λ (k : ℕ). drop k xs) (sym (add-one n)) ∙ sym (drop-drop 1 n xs) ∙ ap (drop 1) h
 
 digits-begin : (radix : ℕ) (ds : List ℕ) → AllDigits radix ds → 0 < length ds → (code "0" ≤ peekAt ds 0) × (peekAt ds 0 ≤ code "f")
 digits-begin radix [] d l = let f : ⊥ = omega arith in absurd f
@@ -66,8 +77,10 @@ module _ (t : List ℕ) where
       let ys = mark n ++ (o ++ ds) in
       let b = mark-begins n (o ++ ds) m in
       let k : code "." ≤ peekAt ds 0 = omega (arith, digits-begin (radixOf n) ds d l) in
-      let f = front n (o ++ ds) m (follows-low (radixOf n) o ds h d l) (sign-cut t 0 s ys g b e) in
-      (f, sign-cut (followsMark t) 0 o ds h k (f .2), sign-told (followsMark t) 0 o ds h k (f .2), sign-told t 0 s ys g b e)
+      let outer = sign-cut t 0 s ys g b e in
+      let f = front n (o ++ ds) m (follows-low (radixOf n) o ds h d l) (outer .0) in
+      let inner = sign-cut (followsMark t) 0 o ds h k (f .2) in
+      (f, inner .0, inner .1, outer .1)
 
   -- from the places
   marks : LeadsZero t → (0 < length (mark (notationOf t))) × (drop from t ≡ mark (notationOf t) ++ followsMark t)
@@ -75,7 +88,7 @@ module _ (t : List ℕ) where
   marks z = go (isHexMark t) refl
     where
       is : (at c : ℕ) → c < end → peekAt t at ≡ c → drop at t ≡ c ∷ drop (suc at) t
-      is at c l e = found t at (λ x. eqb x c) (ne-eqb end c (λ z. omega arith)) (eq-eqb (peekAt t at) c e) ∙ ap (λ (x : ℕ). x ∷ drop (suc at) t) e
+      is at c l e = drop-cons t at end (inside (λ x. eqb x c) (ne-eqb end c (λ z. omega arith)) t at (eq-eqb (peekAt t at) c e)) ∙ ap (λ (x : ℕ). x ∷ drop (suc at) t) e
 
       go : (b : Bool) → isHexMark t ≡ b
           → let n = cond b Hex Octal in (0 < length (mark n)) × (drop from t ≡ mark n ++ drop (cond b (suc (behindZero t)) (behindZero t)) t)
@@ -100,7 +113,7 @@ module _ (t : List ℕ) where
 pub whole-spelled : WholeSpelled
 whole-spelled t = (spelled t, whole t)
 
-pub parts-spelled : PartsSpelled
-parts-spelled n s o ds t i =
+pub pieces-spelled : PiecesSpelled
+pieces-spelled n s o ds t i =
     let ((z, k, f), u, p, q) = cut t n s o ds i in
     (k, rw (u, k), p, q)

@@ -14,6 +14,7 @@ use Rattle.proving.proofs.One.{Answers}
 use Rattle.scan.specs.Run.{runLength}
 use Rattle.scan.specs.Text.{has, sameText}
 use Rattle.scan.specs.Sign.{isSign}
+use Rattle.scan.specs.Digits.{valueFrom}
 use Rattle.utf8.specs.Table.{fits, sizeIn, charLength}
 use Rattle.utf8.specs.Text.{charsPast, sizeOf}
 use Rattle.utf8.specs.Answers.{validityOf, admitted, atStart, place, notUtf8}
@@ -22,18 +23,18 @@ use Rattle.decimal.specs.declared.Notation.{Notation}
 use Rattle.decimal.specs.declared.Notation.the-variants.{Hex, Octal}
 use Rattle.decimal.specs.declared.Number.{Number}
 use Rattle.decimal.specs.Grammar.{hasDigits, exponentHasDigits, isNumeral, isInfinite, isNan}
-use Rattle.decimal.specs.Value.{valueFrom, isZeros, trailing, isExact, nearest, plain, scaledBy, decimalIn, decimalOf}
+use Rattle.decimal.specs.Value.{plain, isScaled, isSome, isExactRange, isInExact, numeralRead, decimalIn, decimalOf}
 use Rattle.number.specs.declared.Parsing.{Parsing}
 use Rattle.number.specs.declared.Parsing.the-variants.{Value, Refused}
 use Rattle.number.specs.White.{isWhite, keptOf}
 use Rattle.number.specs.Signed.{isI64}
 use Rattle.number.specs.Integer.{isDigits, isWhole, integerOf}
-use Rattle.number.specs.Number.{hasDecimalMark, isZeroLed, isMarked, notationOf, followsMark, markedRead, numberOf, parsingOf, refusedBy}
+use Rattle.number.specs.Number.{hasDecimalMark, isZeroLed, isMarked, notationOf, followsMark, markedRead, numberOf, parsingOf, notParsed}
 use Rattle.utf8.specs.declared.Refusal.{Refusal}
 use Rattle.number.proofs.parse_str_radix.Kinds as parse-str-radix
 use Rattle.number.proofs.parse_str_radix.Reads as parse-str-radix-reads
-use Rattle.number.proofs.refused_by.Kinds as refused-by
-use Rattle.number.proofs.refused_by.Reads as refused-by-reads
+use Rattle.number.proofs.not_parsed.Kinds as not-parsed
+use Rattle.number.proofs.not_parsed.Reads as not-parsed-reads
 
 abbrev number : Notation → Float → Number
 number n x = record { value = x; notation = n }
@@ -42,7 +43,7 @@ abbrev parse-str-radix-gives : List ℕ → Parsing → Type 0
 parse-str-radix-gives s v = Answers parse-str-radix.ps parse-str-radix.r parse-str-radix-reads.Post (λ κs a. now (a .0) ≡ s) (λ κs. v)
 
 parse-str-radix-at : (s : List ℕ) → parse-str-radix-gives s (parsingOf s)
-unfolding parsingOf admitted validityOf charsPast sizeOf charLength sizeIn fits codeOf isWithin keptOf isWhite lowered encoded sixBits numberOf isMarked isZeroLed hasDecimalMark has isSign decimalOf decimalIn isInfinite isNan isNumeral hasDigits exponentHasDigits sameText isIn runLength digitOf valueFrom isZeros trailing isExact nearest scaledBy round size span climb units odd trailingZeros markedRead notationOf followsMark integerOf isWhole isDigits isDigitIn isHexDigit isI64 ofInt
+unfolding parsingOf admitted validityOf charsPast sizeOf charLength sizeIn fits codeOf isWithin keptOf isWhite lowered encoded sixBits numberOf isMarked isZeroLed hasDecimalMark has isSign decimalOf decimalIn isInfinite isNan isNumeral hasDigits exponentHasDigits sameText isIn runLength digitOf valueFrom numeralRead isInExact isExactRange isSome isScaled round size span climb units odd trailingZeros markedRead notationOf followsMark integerOf isWhole isDigits isDigitIn isHexDigit isI64 ofInt
 parse-str-radix-at s κs a x e p h = p ∙ ap parsingOf h
 
 pub one-is-a-number : parse-str-radix-gives (ascii "1") (Value (plain (fin false 1 (pos 0))))
@@ -91,14 +92,14 @@ pub minus-of-infinity-stays : parse-str-radix-gives (ascii "-Inf") (Value (plain
 unfolding parse-str-radix-at
 minus-of-infinity-stays = parse-str-radix-at _
 
-abbrev refused-by-gives : Parsing → Refusal → Type 0
-refused-by-gives t v = Answers refused-by.ps refused-by.r refused-by-reads.Post (λ κs a. a .0 ≡ t) (λ κs. v)
+abbrev not-parsed-gives : Parsing → Refusal → Type 0
+not-parsed-gives t v = Answers not-parsed.ps not-parsed.r not-parsed-reads.Post (λ κs a. a .0 ≡ t) (λ κs. v)
 
-refused-by-at : (t : Parsing) → refused-by-gives t (refusedBy t)
-refused-by-at t κs a x e p h = p ∙ ap refusedBy h
+not-parsed-at : (t : Parsing) → not-parsed-gives t (notParsed t)
+not-parsed-at t κs a x e p h = p ∙ ap notParsed h
 
-pub refusal-is-told-with-its-place : refused-by-gives (Refused (notUtf8 (place 3 2))) (notUtf8 (place 3 2))
-refusal-is-told-with-its-place = refused-by-at _
+pub refusal-is-told-with-its-place : not-parsed-gives (Refused (notUtf8 (place 3 2))) (notUtf8 (place 3 2))
+refusal-is-told-with-its-place = not-parsed-at _
 
-pub number-has-no-refusal : refused-by-gives (Value (plain (fin false 1 (pos 0)))) (atStart 0)
-number-has-no-refusal = refused-by-at _
+pub number-has-no-refusal : not-parsed-gives (Value (plain (fin false 1 (pos 0)))) (atStart 0)
+number-has-no-refusal = not-parsed-at _

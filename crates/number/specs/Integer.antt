@@ -7,7 +7,8 @@ use lib.ListN.{length, drop}
 use Rattle.scan.specs.Byte.{isDigitIn}
 use Rattle.decimal.specs.declared.Notation.{Notation}
 use Rattle.scan.specs.Sign.{pastSign, isMinus}
-use Rattle.decimal.specs.Value.{radixOf, valueIn, mostTold}
+use Rattle.scan.specs.Digits.{valueOf}
+use Rattle.decimal.specs.Value.{radixOf, mostTold}
 use Rattle.number.specs.declared.Integer.{Integer}
 use Rattle.number.specs.declared.Integer.the-variants.{Whole, NotInteger}
 
@@ -23,7 +24,7 @@ unfoldable pub isWhole : Notation → List ℕ → Bool
 isWhole n ys = ltb 0 (length (unsignedOf ys)) && isDigits (radixOf n) (unsignedOf ys)
 
 abbrev pub magnitudeOf : Notation → List ℕ → ℕ
-magnitudeOf n ys = valueIn n (unsignedOf ys)
+magnitudeOf n ys = valueOf (radixOf n) (unsignedOf ys)
 
 unfoldable pub integerOf : Notation → List ℕ → Integer
 integerOf n ys = cond (isWhole n ys) (Whole (isMinus ys 0) (magnitudeOf n ys)) NotInteger

@@ -18,7 +18,7 @@ use Rattle.decimal.specs.declared.Number.{Number}
 use Rattle.decimal.specs.declared.Decimal.{Decimal}
 use Rattle.decimal.specs.declared.Decimal.the-variants.{NotDecimal, Named, Exact, Outside}
 use Rattle.scan.specs.Sign.{pastSign, isMinus}
-use Rattle.decimal.specs.Value.{longest, decimalOf}
+use Rattle.decimal.specs.Value.{outsideExact, decimalLimit, decimalOf}
 use Rattle.number.specs.declared.Parsing.{Parsing}
 use Rattle.number.specs.declared.Parsing.the-variants.{Value, Refused}
 use Rattle.number.specs.White.{plainText}
@@ -27,10 +27,7 @@ use Rattle.number.specs.declared.Integer.{Integer}
 use Rattle.number.specs.declared.Integer.the-variants.{Whole, NotInteger}
 use Rattle.number.specs.Integer.{integerOf}
 
--- 53 "decimal outside the exact range", 60 "not a number text", 61 "hex or octal outside a signed 64-bit integer"
-abbrev pub outsideExact : Refusal
-outsideExact = atStart 53
-
+-- 60 "not a number text", 61 "hex or octal outside a signed 64-bit integer"
 abbrev pub notNumber : Refusal
 notNumber = atStart 60
 
@@ -85,22 +82,16 @@ followsMark t = drop (cond (isHexMark t) (suc (behindZero t)) (behindZero t)) t
 unfoldable pub markedRead : List ℕ → Parsing
 markedRead t = cond (leadsZero t) (integerRead (notationOf t) (isMinus t 0) (followsMark t)) (Refused notNumber)
 
--- the number of a decimal's refusal
-abbrev pub refusalNumber : Decimal → ℕ
-refusalNumber NotDecimal = 60
-refusalNumber (Named n) = 60
-refusalNumber (Exact n) = 60
-refusalNumber (Outside negative) = 53
-
-abbrev pub decimalRead : Decimal → Parsing
-decimalRead NotDecimal = Refused notNumber
-decimalRead (Named n) = Value n
-decimalRead (Exact n) = Value n
-decimalRead (Outside negative) = Refused outsideExact
+-- what a decimal is read as
+abbrev pub parsedDecimal : Decimal → Parsing
+parsedDecimal NotDecimal = Refused notNumber
+parsedDecimal (Named n) = Value n
+parsedDecimal (Exact n) = Value n
+parsedDecimal (Outside negative) = Refused outsideExact
 
 -- the number that a text is, without white space and in lower case
 unfoldable pub numberOf : List ℕ → Parsing
-numberOf t = cond (isMarked t) (markedRead t) (decimalRead (decimalOf t))
+numberOf t = cond (isMarked t) (markedRead t) (parsedDecimal (decimalOf t))
 
 -- "Order: 1, 2, the reading"
 abbrev pub parsingBy : Admission → List ℕ → Parsing
@@ -108,9 +99,9 @@ parsingBy (admission.Admitted n) t = numberOf t
 parsingBy (admission.Refused r) t = Refused r
 
 unfoldable pub parsingOf : List ℕ → Parsing
-parsingOf xs = parsingBy (admitted longest xs) (plainText xs)
+parsingOf xs = parsingBy (admitted decimalLimit xs) (plainText xs)
 
 -- the refusal of an answer, and of one that has none the number 0, which is no refusal's
-abbrev pub refusedBy : Parsing → Refusal
-refusedBy (Value n) = noRefusal
-refusedBy (Refused r) = r
+abbrev pub notParsed : Parsing → Refusal
+notParsed (Value n) = noRefusal
+notParsed (Refused r) = r

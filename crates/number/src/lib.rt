@@ -24,16 +24,15 @@ ghost use Rattle.utf8.specs.laws.Refusals.{Taken};
 ghost use Rattle.number.specs.White.{isWhite, keptBytes, plainText};
 ghost use Rattle.decimal.specs.declared.Number.{Number};
 ghost use Rattle.decimal.specs.declared.Decimal.the-variants.{Exact};
-ghost use Rattle.decimal.specs.Value.{longest, decimalOf};
+ghost use Rattle.decimal.specs.Value.{decimalLimit, decimalOf};
 ghost use Rattle.utf8.specs.Answers.{atStart};
 ghost use Rattle.number.specs.declared.Parsing.the-variants.{Refused};
 ghost use Rattle.number.specs.Signed.{signedOf, isI64};
 ghost use Rattle.number.specs.Integer.{isDigits, integerOf, toldOf};
-ghost use Rattle.number.specs.Number.{isZeroAt, hasDecimalMark, isZeroLed, isMarked, integerRead, markedRead, refusalNumber, decimalRead, numberOf, parsingOf, refusedBy};
+ghost use Rattle.number.specs.Number.{isZeroAt, hasDecimalMark, isZeroLed, isMarked, integerRead, markedRead, parsedDecimal, numberOf, parsingOf, notParsed};
+ghost use Rattle.number.specs.steps.Refused.{numberRefusal};
 
-// Document 01's refusals of a number: it is outside the exact range, is none, or is no signed 64-bit integer.
-pub const OUTSIDE_EXACT: usize = 53;
-
+// Document 01's refusals of a number besides a decimal's: it is none, or is no signed 64-bit integer.
 pub const NOT_A_NUMBER: usize = 60;
 
 pub const OUTSIDE_I64: usize = 61;
@@ -139,8 +138,8 @@ fn put_ascii(byte: u8, out: &mut [u8], at: usize) -> usize
 }
 
 // Writes a text without its white space and in lower case at the front of a buffer, and answers how many bytes that is.
-fn keep(text: &[u8], out: &mut [u8; decimal::LONGEST]) -> usize
-    requires { ⌜ Taken longest (now text) ⌝ }
+fn keep(text: &[u8], out: &mut [u8; decimal::LIMIT]) -> usize
+    requires { ⌜ Taken decimalLimit (now text) ⌝ }
     ensures { λ r. ⌜ r ≡ length (plainText (now (text .entry))) ⌝ }
     ensures { λ _. ⌜ now (out .exit) ≡ sets (now (out .entry)) 0 (plainText (now (text .entry))) ⌝ }
 {
@@ -305,29 +304,29 @@ fn marked(t: &[u8]) -> Parsing
 }
 
 // Why a decimal has no value: it is outside the exact range, or none.
-fn refusal_number(d: Decimal) -> usize
-    ensures { λ r. ⌜ r ≡ refusalNumber d ⌝ }
+fn number_refusal(d: Decimal) -> usize
+    ensures { λ r. ⌜ r ≡ numberRefusal d ⌝ }
 {
     let Decimal::Outside(_) = d else {
         return NOT_A_NUMBER;
     };
-    OUTSIDE_EXACT
+    decimal::OUTSIDE_EXACT
 }
 
 // The number of a decimal that is not exact: a name's, or none.
 fn inexact(d: Decimal) -> Parsing
     requires { ⌜ ((n : Number) → d ≡ Exact n → ⊥) ⌝ }
-    ensures { λ r. ⌜ r ≡ decimalRead d ⌝ }
+    ensures { λ r. ⌜ r ≡ parsedDecimal d ⌝ }
 {
     let Decimal::Named(n) = d else {
-        return refused(refusal_number(d));
+        return refused(number_refusal(d));
     };
     Parsing::Value(n)
 }
 
 // The number that a text is as a decimal.
 fn decimal_number(t: &[u8]) -> Parsing
-    ensures { λ r. ⌜ r ≡ decimalRead (decimalOf (now (t .entry))) ⌝ }
+    ensures { λ r. ⌜ r ≡ parsedDecimal (decimalOf (now (t .entry))) ⌝ }
 {
     let d = decimal::read_decimal(t);
     let Decimal::Exact(n) = d else {
@@ -350,18 +349,18 @@ fn read_plain(t: &[u8]) -> Parsing
 pub fn parse_str_radix(s: &[u8]) -> Parsing
     ensures { λ r. ⌜ r ≡ parsingOf (now (s .entry)) ⌝ }
 {
-    let a = utf8::admit(s, decimal::LONGEST);
+    let a = utf8::admit(s, decimal::LIMIT);
     let Admission::Admitted(_) = a else {
         return Parsing::Refused(utf8::not_admitted(a));
     };
-    let mut buf = [0u8; decimal::LONGEST];
+    let mut buf = [0u8; decimal::LIMIT];
     let n = keep(s, &mut buf);
     read_plain(&buf[..n])
 }
 
 // Why a text is no number; where it is one, a refusal of no number.
-pub fn refused_by(answer: Parsing) -> Refusal
-    ensures { λ r. ⌜ r ≡ refusedBy answer ⌝ }
+pub fn not_parsed(answer: Parsing) -> Refusal
+    ensures { λ r. ⌜ r ≡ notParsed answer ⌝ }
 {
     let Parsing::Refused(r) = answer else {
         return utf8::at_start(utf8::NO_REFUSAL);

@@ -11,12 +11,12 @@ use lib.ListN.{length, drop, drop-of-length-le, set, length-set, length-append}
 use lib.Seq.{drop-cons, drop-set-lt, getD-set-same, lt-length-set}
 use lib.Dec.{ltb}
 use borrow.Author.Tests.{lt-ltb, le-ltb, ltb-false}
-use Rattle.writing.specs.Decimal.{signOf, mostDigits, digitsBy, digitsOf, decimalText}
-use Rattle.writing.specs.laws.Writing.{DigitsOf, DigitsFew}
+use Rattle.writing.specs.Decimal.{decimalBase, digitFor, mostDigits, digitsBy, digitsWithin, decimalText}
+use Rattle.writing.specs.laws.Writing.{OneDigit, MoreDigits, DigitsBelow, DigitsFew}
 
 -- by whether a number has one digit
 pub digits-case {ℓ} : (P : List ℕ → Type ℓ) (b : Bool) (f : ℕ → List ℕ) (n : ℕ)
-    → (b ≡ true → P (signOf n ∷ [])) → (b ≡ false → P (f (n / 10) ++ signOf (n % 10) ∷ [])) → P (digitsBy b f n)
+    → (b ≡ true → P (digitFor n ∷ [])) → (b ≡ false → P (f (n / 10) ++ digitFor (n % 10) ∷ [])) → P (digitsBy b f n)
 digits-case P true f n h g = h refl
 digits-case P false f n h g = g refl
 
@@ -24,24 +24,24 @@ by-same : (b : Bool) (f g : ℕ → List ℕ) (n : ℕ) → (b ≡ false → f (
 by-same true f g n h = refl
 by-same false f g n h = rw (h refl)
 
-same-digits : (k l n : ℕ) → n ≤ k → n ≤ l → digitsOf k n ≡ digitsOf l n
-unfolding digitsOf
+same-digits : (k l n : ℕ) → n ≤ k → n ≤ l → digitsWithin k n ≡ digitsWithin l n
+unfolding digitsWithin
 same-digits zero zero n h g = refl
 same-digits zero (suc l) n h g = rw (lt-ltb n 10 (omega arith))
 same-digits (suc k) zero n h g = rw (lt-ltb n 10 (omega arith))
 same-digits (suc k) (suc l) n h g =
-    by-same (ltb n 10) (digitsOf k) (digitsOf l) n (λ e. let t = ltb-false n 10 e in same-digits k l (n / 10) (omega arith) (omega arith))
+    by-same (ltb n 10) (digitsWithin k) (digitsWithin l) n (λ e. let t = ltb-false n 10 e in same-digits k l (n / 10) (omega arith) (omega arith))
 
-pub digits-of : DigitsOf
-unfolding digitsOf decimalText
+pub digits-of : (n : ℕ) → decimalText n ≡ digitsBy (ltb n decimalBase) decimalText n
+unfolding digitsWithin decimalText
 digits-of zero = refl
 digits-of (suc m) =
-    by-same (ltb (suc m) 10) (digitsOf m) decimalText (suc m) (λ e. same-digits m (suc m / 10) (suc m / 10) (omega arith) (omega arith))
+    by-same (ltb (suc m) 10) (digitsWithin m) decimalText (suc m) (λ e. same-digits m (suc m / 10) (suc m / 10) (omega arith) (omega arith))
 
-pub digits-one : (n : ℕ) → n < 10 → decimalText n ≡ signOf n ∷ []
+pub digits-one : OneDigit
 digits-one n h = rw (digits-of n, lt-ltb n 10 h)
 
-pub digits-more : (n : ℕ) → 10 ≤ n → decimalText n ≡ decimalText (n / 10) ++ signOf (n % 10) ∷ []
+pub digits-more : MoreDigits
 digits-more n h = rw (digits-of n, le-ltb n 10 h)
 
 -- a number of two digits or more that has room from place i down leaves room for the rest
@@ -52,7 +52,7 @@ room-left (suc i) n h g =
     let s : suc i + 1 ≡ suc (i + 1) = omega arith in
     (omega arith, rw e (omega (arith, rw s at g, pow-suc 10 (i + 1))))
 
-pub digits-below : (i n : ℕ) → n < 10 ^ (i + 1) → length (decimalText n) ≤ i + 1
+pub digits-below : DigitsBelow
 digits-below zero n h = rw (digits-one n (omega arith)) (omega arith)
 digits-below (suc i) n h =
     rw (digits-of n)
@@ -60,7 +60,7 @@ digits-below (suc i) n h =
     (λ e.
     let t = ltb-false n 10 e in
     let r : suc i - 1 + 1 ≡ i + 1 = omega arith in
-    omega (arith, digits-below i (n / 10) (rw r at (room-left (suc i) n t h .1)), length-append (decimalText (n / 10)) (signOf (n % 10) ∷ []))))
+    omega (arith, digits-below i (n / 10) (rw r at (room-left (suc i) n t h .1)), length-append (decimalText (n / 10)) (digitFor (n % 10) ∷ []))))
 
 pub digits-few : DigitsFew
 digits-few n h = digits-below (mostDigits - 1) n (omega arith)
@@ -91,7 +91,7 @@ module _ {n : ℕ} {ds : List ℕ} {i rest : ℕ} (p : Spelled n ds i rest) wher
   pub place-left : 10 ≤ rest → 1 ≤ i
   place-left h = room-left i rest h (p .room) .0
 
-  pub spelled-more : {a : ℕ} → 10 ≤ rest → a ≡ signOf (rest % 10) → Spelled n (set ds i a) (i - 1) (rest / 10)
+  pub spelled-more : {a : ℕ} → 10 ≤ rest → a ≡ digitFor (rest % 10) → Spelled n (set ds i a) (i - 1) (rest / 10)
   spelled-more {a} h e =
       let l = place-left h in
       let back : i - 1 + 1 ≡ i = omega arith in
@@ -102,6 +102,6 @@ module _ {n : ℕ} {ds : List ℕ} {i rest : ℕ} (p : Spelled n ds i rest) wher
         holds = p .holds ∙ rw (digits-more rest h, append-assoc, back, drop-set ds i a (omega (arith, p .size, p .place)), e);
       }
 
-  pub spelled-all : {a : ℕ} → rest < 10 → a ≡ signOf rest → drop i (set ds i a) ≡ decimalText n
+  pub spelled-all : {a : ℕ} → rest < 10 → a ≡ digitFor rest → drop i (set ds i a) ≡ decimalText n
   spelled-all {a} h e =
       sym (p .holds ∙ rw (digits-one rest h, drop-set ds i a (omega (arith, p .size, p .place)), e))

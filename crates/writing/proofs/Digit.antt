@@ -8,12 +8,12 @@ use borrow.Author.Tests.{eqb-true}
 use Rattle.scan.specs.declared.byte.Class.the-variants.{Digit}
 use Rattle.scan.specs.Byte.{isWithin, isIn, digitOf}
 use Rattle.proving.proofs.Below.{below}
-use Rattle.writing.specs.Decimal.{decimalBase, signOf}
+use Rattle.writing.specs.Decimal.{decimalBase, digitFor}
 
-pub digit-sign : (d : ℕ) → d < decimalBase → digitOf (signOf d) ≡ d
-unfolding digitOf signOf isWithin
-digit-sign d h = eqb-true (digitOf (signOf d)) d (below (λ x. eqb (digitOf (signOf x)) x) decimalBase refl d h)
+pub digit-sign : (d : ℕ) → d < decimalBase → digitOf (digitFor d) ≡ d
+unfolding digitOf digitFor isWithin
+digit-sign d h = eqb-true (digitOf (digitFor d)) d (below (λ x. eqb (digitOf (digitFor x)) x) decimalBase refl d h)
 
-pub sign-digit : (d : ℕ) → d < decimalBase → isIn Digit (signOf d) ≡ true
-unfolding isIn signOf isWithin
-sign-digit d h = below (λ x. isIn Digit (signOf x)) decimalBase refl d h
+pub sign-digit : (d : ℕ) → d < decimalBase → isIn Digit (digitFor d) ≡ true
+unfolding isIn digitFor isWithin
+sign-digit d h = below (λ x. isIn Digit (digitFor x)) decimalBase refl d h

@@ -9,7 +9,7 @@ use lib.ListN.{length, set, getD, take}
 use lib.Seq.{paste, paste-zero, paste-suc, length-paste, take-paste, take-length}
 use borrow.Author.Tests.{le-leb, lt-leb, leb-true}
 use Rattle.proving.proofs.Choice.{either}
-use Rattle.writing.specs.Put.{fits, putAt, pastAt}
+use Rattle.writing.specs.Put.{hasRoom, putAt, pastAt}
 use Rattle.writing.specs.laws.Writing.{PastInside, PutStands}
 
 module _ (d : List ℕ) (at : ℕ) (xs : List ℕ) where
@@ -35,7 +35,7 @@ put-stands d at xs h =
 pub past-inside : PastInside
 unfolding pastAt
 past-inside d at xs =
-    either (λ r. (at ≤ r) × (at ≤ length d → r ≤ length d)) (fits d at xs)
+    either (λ r. (at ≤ r) × (at ≤ length d → r ≤ length d)) (hasRoom d at xs)
     (λ e. (omega arith, λ h. leb-true (at + length xs) (length d) e))
     (λ e. (omega arith, λ h. h))
 

@@ -6,7 +6,7 @@ use mathlib.Core.Path.{_≡_}
 use denote.Ref.{now}
 use Rattle.scan.specs.Ascii.{ascii}
 use Rattle.proving.proofs.One.{Answers, Leaves}
-use Rattle.writing.specs.Decimal.{signOf, digitsOf, decimalText}
+use Rattle.writing.specs.Decimal.{digitFor, digitsWithin, decimalText}
 use Rattle.writing.specs.Put.{putAt, pastAt}
 use Rattle.writing.proofs.put_text.Kinds as put-text
 use Rattle.writing.proofs.put_text.Reads as put-text-reads
@@ -53,7 +53,7 @@ put-decimal-gives out at n v =
     Answers put-decimal.ps put-decimal.r put-decimal-reads.Post (λ κs a. (now (a .0) ≡ out) × (a .1 .0 ≡ at) × (a .1 .1 .0 ≡ n)) (λ κs. v)
 
 put-decimal-at : (out : List ℕ) (at n : ℕ) → put-decimal-gives out at n (pastAt out at (decimalText n))
-unfolding pastAt putAt decimalText digitsOf signOf
+unfolding pastAt putAt decimalText digitsWithin digitFor
 put-decimal-at out at n κs a x e p h = cc (p .0, h .0, h .1, h .2)
 
 pub largest-number-has-twenty-digits : put-decimal-gives (ascii ".....................") 1 18446744073709551615 21

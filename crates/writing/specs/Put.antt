@@ -5,13 +5,13 @@ use mathlib.Core.List.{List, _++_}
 use lib.ListN.{length, take, drop}
 use lib.Dec.{leb}
 
-abbrev pub fits : List ℕ → ℕ → List ℕ → Bool
-fits d at xs = leb (at + length xs) (length d)
+abbrev pub hasRoom : List ℕ → ℕ → List ℕ → Bool
+hasRoom d at xs = leb (at + length xs) (length d)
 
 -- what d holds once xs is written at an offset
 unfoldable pub putAt : List ℕ → ℕ → List ℕ → List ℕ
-putAt d at xs = cond (fits d at xs) (take at d ++ xs ++ drop (at + length xs) d) d
+putAt d at xs = cond (hasRoom d at xs) (take at d ++ xs ++ drop (at + length xs) d) d
 
 -- the offset past it
 unfoldable pub pastAt : List ℕ → ℕ → List ℕ → ℕ
-pastAt d at xs = cond (fits d at xs) (at + length xs) at
+pastAt d at xs = cond (hasRoom d at xs) (at + length xs) at

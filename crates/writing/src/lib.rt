@@ -3,7 +3,7 @@
 ghost use mathlib.Core.Path.{_≡_};
 ghost use Prim.Native.Nat.{_<_, _≤_};
 ghost use lib.ListN.{length, drop};
-ghost use Rattle.writing.specs.Decimal.{decimalBase, signOf, mostDigits, decimalText};
+ghost use Rattle.writing.specs.Decimal.{decimalBase, digitFor, mostDigits, decimalText};
 ghost use Rattle.writing.specs.Put.{putAt, pastAt};
 
 const ZERO: u8 = b'0';
@@ -34,9 +34,9 @@ pub fn put_text(out: &mut [u8], at: usize, text: &[u8]) -> usize
 }
 
 // The digit that stands for a number below ten.
-fn sign_of(d: u64) -> u8
+fn digit_for(d: u64) -> u8
     requires { ⌜ d < decimalBase ⌝ }
-    ensures { λ r. ⌜ r ≡ signOf d ⌝ }
+    ensures { λ r. ⌜ r ≡ digitFor d ⌝ }
 {
     ZERO + d as u8
 }
@@ -50,11 +50,11 @@ fn spell(n: u64, digits: &mut [u8]) -> usize
     let mut i = MOST_DIGITS - 1;
     let mut rest = n;
     while rest >= DECIMAL_BASE {
-        digits[i] = sign_of(rest % DECIMAL_BASE);
+        digits[i] = digit_for(rest % DECIMAL_BASE);
         rest /= DECIMAL_BASE;
         i -= 1;
     }
-    digits[i] = sign_of(rest);
+    digits[i] = digit_for(rest);
     i
 }
 

@@ -8,10 +8,11 @@ use lib.ListN.{length, getD, drop}
 use denote.Ref.{now}
 use borrow.Author.Needs.{needs}
 use Rattle.scan.specs.Byte.{digitOf}
+use Rattle.scan.specs.Digits.{valueFrom}
 use Rattle.scan.proofs.byte.Classes.{digit-bound}
 use Rattle.decimal.specs.declared.Notation.{Notation}
 use Rattle.decimal.specs.declared.Notation.the-variants.{Decimal, Hex, Octal}
-use Rattle.decimal.specs.Value.{radixOf, valueFrom, mostTold}
+use Rattle.decimal.specs.Value.{radixOf, mostTold}
 use Rattle.decimal.proofs.Runs.{grows, value-turn, value-out}
 use Rattle.decimal.proofs.digits_value.Statement.{statement}
 use Rattle.decimal.proofs.digits_value.Tie as tie

@@ -1,7 +1,8 @@
 -- Each way out knows what the tests said.
 use Prim.Native.Nat.{_+_}
 use borrow.Author.Tests.{le-leb, lt-leb}
-use Rattle.decimal.specs.Value.{mostExact, mostExponent, isExact}
+use Rattle.decimal.specs.Value.{mostExact, mostExponent}
+use Rattle.decimal.specs.steps.Scale.{isExact}
 use borrow.Author.Needs.{needs}
 use Rattle.decimal.proofs.is_exact.Statement.{statement}
 use Rattle.decimal.proofs.is_exact.Tie as tie

@@ -6,7 +6,8 @@ use native.Mathlib.Omega.{arith}
 use lib.Dec.{le→leb}
 use lib.IntN.{pos}
 use lib.Ieee.{binary64, inFloat, mul, div, ofInt}
-use Rattle.decimal.specs.Value.{mostExact, nearest}
+use Rattle.decimal.specs.Value.{mostExact}
+use Rattle.decimal.specs.steps.Scale.{nearest}
 use Rattle.decimal.proofs.Values.{times, over, raise, reduce}
 use borrow.Author.Needs.{needs}
 use Rattle.decimal.proofs.magnitude.Statement.{statement}

@@ -3,7 +3,7 @@ use Prim.Native.Nat.{ℕ, _*_, _-_, _^_}
 use mathlib.Core.Bool.{Bool, true, false}
 use mathlib.Core.Path.{_≡_, ap, sym, _∙_}
 use lib.Ieee.{binary64, neg}
-use Rattle.decimal.specs.Value.{nearest}
+use Rattle.decimal.specs.steps.Scale.{nearest}
 use Rattle.decimal.proofs.Signs.{neg-round}
 use borrow.Author.Needs.{needs}
 use Rattle.decimal.proofs.nearest.Statement.{statement}

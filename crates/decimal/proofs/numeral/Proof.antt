@@ -1,4 +1,4 @@
--- What is capped in reading the parts changes nothing (`Caps`).
+-- What is capped in reading the parts changes nothing (`Caps`), and the parts give the value (`Scales`).
 use Prim.Native.Nat.{ℕ, suc, _+_, _-_, _≤_, min}
 use native.Mathlib.Omega.{arith}
 use native.Mathlib.Nat.{add-zero}
@@ -8,13 +8,16 @@ use mathlib.Core.Path.{_≡_, sym, ap, _∙_}
 use lib.ListN.{length}
 use denote.Ref.{now}
 use Rattle.scan.specs.Sign.{isMinus}
+use Rattle.scan.specs.Digits.{valueOf}
 use Rattle.decimal.specs.declared.Decimal.{Decimal}
 use Rattle.decimal.specs.declared.Parts.{Parts}
 use Rattle.decimal.specs.Grammar.{isExponent, partsOf, digitsOf, fractionOf, exponentOf, isNegativeExponent}
-use Rattle.decimal.specs.Value.{valueOf, trailing, mostTold, significand, longest, scaledBy, numeralRead}
+use Rattle.decimal.specs.Value.{mostTold, decimalLimit}
+use Rattle.decimal.specs.steps.Scale.{trailing, significand, scaledBy, scaleRead}
 use Rattle.decimal.proofs.Places.{Ordered, ordered, fractionIn, behindIn, fraction-long, digits-few}
 use Rattle.decimal.proofs.Zeros.{trailing-few}
 use Rattle.decimal.proofs.Caps.{raised-capped, reduced-capped}
+use Rattle.decimal.proofs.Scales.{scale-read}
 use borrow.Author.Needs.{needs}
 use Rattle.decimal.proofs.numeral.Statement.{statement}
 use Rattle.decimal.proofs.numeral.Tie as tie
@@ -32,17 +35,17 @@ module _ (c : tie.Start) where
 -- the value by the parts where they lie
 module _ (xs : List ℕ) where
   abbrev power : ℕ
-  power = valueOf (exponentOf xs)
+  power = valueOf 10 (exponentOf xs)
 
   behind-is : (p : Parts) → p ≡ partsOf xs → behindIn xs p ≡ length (fractionOf xs)
   behind-is p e = sym (fraction-long xs p e) ∙ ap (λ (q : Parts). length (fractionIn xs q)) e
 
-  read-lowered : (p : Parts) → p ≡ partsOf xs → isExponent xs (p .«fraction_to») && isMinus xs (suc (p .«fraction_to»)) ≡ true → scaledBy (isMinus xs 0) (significand xs) (trailing (digitsOf xs)) (behindIn xs p + power) ≡ numeralRead xs
+  read-lowered : (p : Parts) → p ≡ partsOf xs → isExponent xs (p .«fraction_to») && isMinus xs (suc (p .«fraction_to»)) ≡ true → scaledBy (isMinus xs 0) (significand xs) (trailing (digitsOf xs)) (behindIn xs p + power) ≡ scaleRead xs
   read-lowered p e l =
       let m : isNegativeExponent xs ≡ true = rw e at l in
       ap (λ (n : ℕ). scaledBy (isMinus xs 0) (significand xs) (trailing (digitsOf xs)) (n + power)) (behind-is p e) ∙ rw (m, add-zero)
 
-  read-raised : (p : Parts) → p ≡ partsOf xs → isExponent xs (p .«fraction_to») && isMinus xs (suc (p .«fraction_to»)) ≡ false → scaledBy (isMinus xs 0) (significand xs) (trailing (digitsOf xs) + power) (behindIn xs p) ≡ numeralRead xs
+  read-raised : (p : Parts) → p ≡ partsOf xs → isExponent xs (p .«fraction_to») && isMinus xs (suc (p .«fraction_to»)) ≡ false → scaledBy (isMinus xs 0) (significand xs) (trailing (digitsOf xs) + power) (behindIn xs p) ≡ scaleRead xs
   read-raised p e l =
       let m : isNegativeExponent xs ≡ false = rw e at l in
       ap (scaledBy (isMinus xs 0) (significand xs) (trailing (digitsOf xs) + power)) (behind-is p e) ∙ rw (m, add-zero)
@@ -79,13 +82,13 @@ module _ (c : tie.After-is-negative-exponent) where
   abbrev e : ℕ
   e = c .before .before .before .exponent .result
 
-  zeros-few : trailing (digitsOf (xs a)) ≤ longest
+  zeros-few : trailing (digitsOf (xs a)) ≤ decimalLimit
   zeros-few = omega (arith, digits-few (xs a) (p a) (a .pre .0), trailing-few (digitsOf (xs a)), a .pre .1)
 
-  behind-few : behindIn (xs a) (p a) ≤ longest
+  behind-few : behindIn (xs a) (p a) ≤ decimalLimit
   behind-few = omega (arith, in-order a .fraction-in, a .pre .1)
 
-  counted : zeros ≤ longest
+  counted : zeros ≤ decimalLimit
   counted = omega (arith, zeros-few, c .before .before .before .before .before .trailing-zeros .ensures)
 
   capped : e ≤ mostTold
@@ -114,6 +117,7 @@ returns c =
     ∙ stands d (λ s v z n. scaledBy s v z (behindIn x (p (a d)) + n))
     ∙ reduced-capped (isMinus x 0) (significand x) t (behindIn x (p (a d))) (power x) (zeros-few d) (behind-few d)
     ∙ read-lowered x (p (a d)) (a d .pre .0) (sym (d .is-negative-exponent .ensures) ∙ c .before .if1 .taken)
+    ∙ scale-read x
 
 add-scaled-by-2 : tie.Need-add-scaled-by-2
 add-scaled-by-2 c = let d = c .before in omega (arith, counted d, capped d)
@@ -130,6 +134,7 @@ returns-2 c =
     ∙ stands d (λ s v z n. scaledBy s v (z + n) (behindIn x (p (a d))))
     ∙ raised-capped (isMinus x 0) (significand x) t (behindIn x (p (a d))) (power x) (zeros-few d) (behind-few d)
     ∙ read-raised x (p (a d)) (a d .pre .0) (sym (d .is-negative-exponent .ensures) ∙ c .before .if1 .left)
+    ∙ scale-read x
 
 pub numeral-spec : {M : Type 1} → statement M
 numeral-spec =

@@ -15,7 +15,7 @@ use Rattle.proving.proofs.Lists.{rest-of}
 use Rattle.decimal.specs.declared.Decimal.the-variants.{NotDecimal, Named}
 use Rattle.scan.specs.Sign.{isMinus}
 use Rattle.decimal.specs.Grammar.{wholeFrom, isNumeral, isInfinite, isNan}
-use Rattle.decimal.specs.Value.{longest, plain, numeralRead, decimalIn, decimalOf}
+use Rattle.decimal.specs.Value.{decimalLimit, plain, numeralRead, decimalIn, decimalOf}
 use Rattle.scan.proofs.sign.Places.{sign-within}
 use Rattle.decimal.proofs.Characters.{by-characters}
 use borrow.Author.Needs.{needs}
@@ -23,11 +23,11 @@ use Rattle.decimal.proofs.read_decimal.Statement.{statement}
 use Rattle.decimal.proofs.read_decimal.Tie as tie
 
 module _ (xs : List ℕ) where
-  too-long : longest < length xs → NotDecimal ≡ decimalOf xs
+  too-long : decimalLimit < length xs → NotDecimal ≡ decimalOf xs
   unfolding decimalOf
-  too-long h = rw (lt-ltb longest (length xs) h)
+  too-long h = rw (lt-ltb decimalLimit (length xs) h)
 
-  module _ (h : length xs ≤ longest) where
+  module _ (h : length xs ≤ decimalLimit) where
     infinity : isInfinite xs ≡ true → Named (plain (inf (isMinus xs 0))) ≡ decimalOf xs
     unfolding decimalIn
     infinity i = rw (← by-characters xs h, i)
@@ -69,7 +69,7 @@ module _ (c : tie.After-is-infinite) where
   abbrev text : List ℕ
   text = now (c .before .before .before .before .before .args .s)
 
-  short : length text ≤ longest
+  short : length text ≤ decimalLimit
   short = omega (arith, c .before .before .before .if1 .left)
 
   word-is : take (length text - c .before .before .past-sign .result) (drop (c .before .before .past-sign .result) text) ≡ drop (wholeFrom text) text

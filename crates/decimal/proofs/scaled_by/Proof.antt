@@ -6,7 +6,8 @@ use lib.IntN.{pos}
 use lib.Ieee.{Float, fin}
 use borrow.Author.Tests.{eq-eqb, ne-eqb, not-true, not-false}
 use Rattle.decimal.specs.declared.Decimal.the-variants.{Exact, Outside}
-use Rattle.decimal.specs.Value.{isExact, nearest, plain, scaledBy}
+use Rattle.decimal.specs.Value.{plain}
+use Rattle.decimal.specs.steps.Scale.{isExact, nearest, scaledBy}
 use Rattle.decimal.proofs.Caps.{tests-exact}
 use borrow.Author.Needs.{needs}
 use Rattle.decimal.proofs.scaled_by.Statement.{statement}

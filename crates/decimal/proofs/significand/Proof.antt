@@ -6,9 +6,11 @@ use mathlib.Core.List.{List, _++_}
 use mathlib.Core.Path.{_≡_, refl, sym, ap, ap₂, _∙_}
 use lib.ListN.{length}
 use denote.Ref.{now}
+use Rattle.scan.specs.Digits.{valueFrom, valueOf}
 use Rattle.decimal.specs.declared.Parts.{Parts}
 use Rattle.decimal.specs.Grammar.{between}
-use Rattle.decimal.specs.Value.{valueFrom, valueOf, isZeros, trailing, trimmed, mostTold}
+use Rattle.decimal.specs.Value.{mostTold}
+use Rattle.decimal.specs.steps.Scale.{isZeros, trailing, trimmed}
 use Rattle.decimal.proofs.Runs.{capped-on, value-join}
 use Rattle.decimal.proofs.Places.{Ordered, ordered, wholeIn, fractionIn, behindIn, whole-long, fraction-long, digits-are}
 use Rattle.decimal.proofs.Zeros.{trailing-few, not-all, trailing-first, trailing-last, trimmed-first, trimmed-both, trimmed-between}
@@ -77,8 +79,8 @@ returns c =
     let f = first s (c .before .before .if1 .taken) in
     let k : zeros s - behindIn (xs s) (p s) ≡ trailing (whole s) = omega (arith, f .1) in
     c .value-between .ensures
-    ∙ ap (λ (n : ℕ). min mostTold (valueOf (between (xs s) (p s .«whole_from») (p s .«whole_to» - n)))) k
-    ∙ ap (λ (ys : List ℕ). min mostTold (valueOf ys)) (sym (ap trimmed (sym (digits-are (xs s) (p s) (s .pre .0))) ∙ trimmed-first (whole s) (fraction s) (f .0) ∙ trimmed-between (xs s) (p s .«whole_from») (p s .«whole_to») (o .whole) (o .whole-in)))
+    ∙ ap (λ (n : ℕ). min mostTold (valueOf 10 (between (xs s) (p s .«whole_from») (p s .«whole_to» - n)))) k
+    ∙ ap (λ (ys : List ℕ). min mostTold (valueOf 10 ys)) (sym (ap trimmed (sym (digits-are (xs s) (p s) (s .pre .0))) ∙ trimmed-first (whole s) (fraction s) (f .0) ∙ trimmed-between (xs s) (p s .«whole_from») (p s .«whole_to») (o .whole) (o .whole-in)))
 
 value-between-requires-2 : tie.Need-value-between-requires-2
 value-between-requires-2 c κs = let o = in-order (c .before .before .before) in (o .whole, o .whole-in)
@@ -104,9 +106,9 @@ returns-2 c =
     let rest = between (xs s) (p s .«fraction_from») (p s .«fraction_to» - trailing (fraction s)) in
     c .value-between3 .ensures
     ∙ ap₂ (λ (v n : ℕ). min mostTold (valueFrom 10 v (between (xs s) (p s .«fraction_from») (p s .«fraction_to» - n)))) (c .before .before .value-between2 .ensures) (g .1)
-    ∙ capped-on 10 (omega arith) mostTold (valueOf (whole s)) rest
+    ∙ capped-on 10 (omega arith) mostTold (valueOf 10 (whole s)) rest
     ∙ ap (min mostTold) (sym (value-join 10 0 (whole s) rest))
-    ∙ ap (λ (ys : List ℕ). min mostTold (valueOf ys))
+    ∙ ap (λ (ys : List ℕ). min mostTold (valueOf 10 ys))
     (sym (ap trimmed (sym (digits-are (xs s) (p s) (s .pre .0))) ∙ trimmed-both (whole s) (fraction s) (g .0) ∙ ap (λ (ys : List ℕ). whole s ++ ys) (trimmed-between (xs s) (p s .«fraction_from») (p s .«fraction_to») (o .fraction) (o .fraction-in))))
 
 pub significand-spec : {M : Type 1} → statement M

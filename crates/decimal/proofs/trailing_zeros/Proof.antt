@@ -7,7 +7,7 @@ use mathlib.Core.Path.{_≡_, refl, sym, ap, _∙_}
 use lib.ListN.{length}
 use denote.Ref.{now}
 use Rattle.decimal.specs.declared.Parts.{Parts}
-use Rattle.decimal.specs.Value.{isZeros, trailing}
+use Rattle.decimal.specs.steps.Scale.{isZeros, trailing}
 use Rattle.decimal.proofs.Places.{Ordered, ordered, wholeIn, fractionIn, behindIn, whole-long, fraction-long, digits-are}
 use Rattle.decimal.proofs.Zeros.{trailing-few, all-is, all-zeros, trailing-first, trailing-last}
 use Rattle.decimal.proofs.trailing_zeros.Statement.{statement}

@@ -7,7 +7,7 @@ use denote.Ref.{now}
 use borrow.Author.Needs.{needs}
 use Rattle.scan.specs.Byte.{digitOf}
 use Rattle.decimal.specs.Grammar.{between}
-use Rattle.decimal.specs.Value.{trailing}
+use Rattle.decimal.specs.steps.Scale.{trailing}
 use Rattle.decimal.proofs.Zeros.{zero-last, other-last, none-between}
 use Rattle.decimal.proofs.zeros_before.Statement.{statement}
 use Rattle.decimal.proofs.zeros_before.Tie as tie

@@ -1,38 +1,22 @@
--- What the readers of numbers and durations may know of decimals, as statements. `proofs/Characters`, `proofs/Exactness` and
--- `proofs/Given` have the proofs.
+-- What the readers of numbers and durations may know of decimals, as statements. `proofs/Exactness`, `proofs/Ranges` and `proofs/Given`
+-- have the proofs.
 use Prim.Native.Nat.{ℕ, _+_, _*_, _%_, _^_, _≤_}
-use mathlib.Core.Bool.{true, cond}
+use mathlib.Core.Bool.{true}
 use mathlib.Core.List.{List}
 use mathlib.Core.Logic.{_↔_, _⊎_}
 use mathlib.Core.Path.{_≡_}
 use lib.IntN.{pos}
-use lib.Ieee.{nan, inf, fin, binary64, round}
+use lib.Ieee.{nan, inf, fin}
 use lib.ListN.{length}
 use Rattle.decimal.specs.declared.Number.{Number}
 use Rattle.decimal.specs.declared.Decimal.the-variants.{NotDecimal, Named, Exact, Outside}
 use Rattle.scan.specs.Sign.{isMinus}
-use Rattle.decimal.specs.Grammar.{isNumeral, isInfinite, isNan, fractionOf, digitsOf, exponentOf, isNegativeExponent}
-use Rattle.decimal.specs.Value.{valueOf, mostExact, mostExponent, plain, longest, decimalIn, decimalOf}
+use Rattle.decimal.specs.Grammar.{isNumeral, isInfinite, isNan}
+use Rattle.decimal.specs.Value.{numerator, denominator, nearestOf, mostExact, mostExponent, isInExact, plain, decimalLimit, decimalOf}
 
--- the value that a numeral stands for, as a fraction: all its digits as one whole number, times ten to the power of its exponent, over ten
--- to the power of the number of digits behind the point
-abbrev pub numerator : List ℕ → ℕ
-numerator xs = valueOf (digitsOf xs) * 10 ^ cond (isNegativeExponent xs) 0 (valueOf (exponentOf xs))
-
-abbrev pub denominator : List ℕ → ℕ
-denominator xs = 10 ^ (length (fractionOf xs) + cond (isNegativeExponent xs) (valueOf (exponentOf xs)) 0)
-
--- and the f64 nearest to it, with the text's sign
-abbrev pub nearestOf : List ℕ → Number
-nearestOf xs = plain (round binary64 (isMinus xs 0) (numerator xs) (denominator xs))
-
--- "duration and number text 256"; and what the grammar has, which `specs/Spelling` spells out
+-- "duration and number text 256"; and what the grammar has, which `laws/Spelling` spells out
 abbrev pub Short : List ℕ → Type 0
-Short xs = length xs ≤ longest
-
--- what is said of a decimal's characters can be read off its bytes
-abbrev pub ByCharacters : Type 0
-ByCharacters = (xs : List ℕ) → Short xs → decimalIn xs ≡ decimalOf xs
+Short xs = length xs ≤ decimalLimit
 
 abbrev pub Infinite : List ℕ → Type 0
 Infinite xs = isInfinite xs ≡ true
@@ -40,12 +24,13 @@ Infinite xs = isInfinite xs ≡ true
 abbrev pub Nan : List ℕ → Type 0
 Nan xs = isNan xs ≡ true
 
-abbrev pub Numeral : List ℕ → Type 0
-Numeral xs = isNumeral xs ≡ true
+abbrev pub Numeric : List ℕ → Type 0
+Numeric xs = isNumeral xs ≡ true
 
 abbrev pub Spelled : List ℕ → Type 0
-Spelled xs = Infinite xs ⊎ (Nan xs ⊎ Numeral xs)
+Spelled xs = Infinite xs ⊎ (Nan xs ⊎ Numeric xs)
 
+-- a value of zero
 abbrev pub Zero : List ℕ → Type 0
 Zero xs = numerator xs ≡ 0
 
@@ -72,6 +57,14 @@ ExactRange xs = (w up down : ℕ) × Scaled xs w up down × InRange w up down
 abbrev pub InExact : List ℕ → Type 0
 InExact xs = Zero xs ⊎ ExactRange xs
 
+-- and this is what the definition tests
+abbrev pub ExactTold : Type 0
+ExactTold = (xs : List ℕ) → isInExact xs ≡ true ↔ InExact xs
+
+-- 53 "decimal outside the exact range"
+abbrev pub OutsideExact : List ℕ → Type 0
+OutsideExact xs = Numeric xs × (¬ (InExact xs))
+
 -- when each answer is given
 abbrev pub DecimalGiven : Type 0
 DecimalGiven =
@@ -79,8 +72,8 @@ DecimalGiven =
     let d = decimalOf xs in
     (d ≡ Named (plain (inf (isMinus xs 0))) ↔ Short xs × Infinite xs)
     × (d ≡ Named (plain nan) ↔ Short xs × Nan xs)
-    × (d ≡ Exact (nearestOf xs) ↔ Short xs × Numeral xs × InExact xs)
-    × (d ≡ Outside (isMinus xs 0) ↔ Short xs × Numeral xs × (¬ (InExact xs)))
+    × (d ≡ Exact (nearestOf xs) ↔ Short xs × Numeric xs × InExact xs)
+    × (d ≡ Outside (isMinus xs 0) ↔ Short xs × OutsideExact xs)
     × (d ≡ NotDecimal ↔ (¬ (Short xs × Spelled xs)))
 
 -- so whatever is accepted is the nearest f64, and zero "keeps its sign"
@@ -88,4 +81,4 @@ abbrev pub NearestValue : Type 0
 NearestValue = (xs : List ℕ) (n : Number) → decimalOf xs ≡ Exact n → n ≡ nearestOf xs
 
 abbrev pub ZeroKept : Type 0
-ZeroKept = (xs : List ℕ) → Short xs → Numeral xs → Zero xs → decimalOf xs ≡ Exact (plain (fin (isMinus xs 0) 0 (pos 0)))
+ZeroKept = (xs : List ℕ) → Short xs → Numeric xs → Zero xs → decimalOf xs ≡ Exact (plain (fin (isMinus xs 0) 0 (pos 0)))

@@ -1,21 +1,30 @@
 -- The grammar of a decimal text as it is written, `[+-]? (inf | infinity | nan | (D+ | D+ . D* | D* . D+) (e [+-]? D+)?)` with letters in any
 -- case, piece by piece; and the statements that the tests and the places of `Grammar` are it, which `proofs/Spelling` proves.
-use Prim.Native.Nat.{ℕ, _<_}
+use Prim.Native.Nat.{ℕ, _<_, _≤_}
 use Prim.Native.Char.{code}
 use mathlib.Core.Bool.{true, false}
 use mathlib.Core.List.{List, [], _∷_, _++_, map}
 use mathlib.Core.Logic.{_↔_, _⊎_}
 use mathlib.Core.Path.{_≡_}
-use lib.ListN.{length}
+use lib.ListN.{length, drop}
 use Rattle.scan.specs.Ascii.{ascii}
 use Rattle.scan.specs.declared.byte.Class.the-variants.{Digit}
-use Rattle.scan.specs.Byte.{lowered, isIn}
-use Rattle.scan.specs.Sign.{isMinus}
+use Rattle.scan.specs.Byte.{peekAt, lowered, isIn}
+use Rattle.scan.specs.Sign.{pastSign, isMinus}
 use Rattle.decimal.specs.Grammar.{isNumeral, isInfinite, isNan, fractionOf, digitsOf, exponentOf, isNegativeExponent}
 
 -- [+-]?
 abbrev pub Sign : List ℕ → Type 0
 Sign xs = (xs ≡ []) ⊎ ((xs ≡ ascii "+") ⊎ (xs ≡ ascii "-"))
+
+-- a sign ends where what comes behind it begins with a point or a later byte, as no sign does; and one is found at every place
+abbrev pub SignCut : Type 0
+SignCut =
+    (xs : List ℕ) (n : ℕ) (s ys : List ℕ) → Sign s → code "." ≤ peekAt ys 0 → drop n xs ≡ s ++ ys →
+    (drop (pastSign xs n) xs ≡ ys) × (isMinus xs n ≡ true ↔ s ≡ ascii "-")
+
+abbrev pub SignFound : Type 0
+SignFound = (xs : List ℕ) (n : ℕ) → (s : List ℕ) × Sign s × (drop n xs ≡ s ++ drop (pastSign xs n) xs)
 
 -- D*
 abbrev pub Digits : List ℕ → Type 0

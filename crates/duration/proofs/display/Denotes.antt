@@ -9,37 +9,30 @@ use mathlib.Core.List.{List, [], _∷_, _++_, map, append-assoc}
 use mathlib.Core.Path.{_≡_, refl, sym, ap, ap₂, subst, _∙_}
 use lib.Dec.{eqb}
 use lib.ListN.{length}
-use borrow.Author.Tests.{eqb-true, eqb-false}
+use borrow.Author.Tests.{eqb-true}
 use Rattle.scan.specs.Ascii.{ascii}
 use Rattle.scan.specs.declared.byte.Class.the-variants.{Digit, Alpha}
 use Rattle.scan.specs.Byte.{isWithin, isAlpha, isIn, digitOf}
 use Rattle.scan.specs.Run.{runLength}
 use Rattle.scan.specs.Text.{sameText}
+use Rattle.scan.specs.Digits.{valueFrom, valueOf}
 use Rattle.proving.proofs.Choice.{and-left, and-right}
 use Rattle.scan.proofs.Same.{same-is-equal}
 use Rattle.duration.specs.Unit.{Unit, units, second, nanosAMilli}
 use Rattle.duration.specs.Spans.{isZero}
-use Rattle.writing.specs.Decimal as decimals
 use Rattle.writing.specs.Decimal.{decimalText}
 use Rattle.writing.proofs.ReadBack.{digits-some, digits-all, decimal-value}
-use Rattle.decimal.specs.Value.{valueFrom, valueOf}
 use Rattle.duration.specs.Units.{isPart, behind, sumBy}
 use Rattle.duration.specs.Display.{Row, rows, isLeftOut, counted, partOf, restOf, written, millisOf, textOf}
 use Rattle.duration.specs.laws.Display.{Denotes, DenotesAgain}
 use Rattle.duration.proofs.display.Parts.{digits-first, part}
 use Rattle.duration.proofs.display.Steps.{text-zero, text-written}
 
--- both crates' values of decimal digits are one
-same-value : (v : ℕ) (xs : List ℕ) → valueFrom 10 v xs ≡ decimals.valueFrom v xs
-unfolding valueFrom decimals.valueFrom
-same-value v [] = refl
-same-value v (x ∷ xs) = same-value (v * 10 + digitOf x) xs
-
-decimal-back : (v : ℕ) → valueOf (decimalText v) ≡ v
-decimal-back v = same-value 0 (decimalText v) ∙ decimal-value v
+decimal-back : (v : ℕ) → valueOf 10 (decimalText v) ≡ v
+decimal-back = decimal-value
 
 some-digits : (v : ℕ) → 0 < length (decimalText v)
-some-digits v = omega (arith, eqb-false (length (decimalText v)) 0 (digits-some v))
+some-digits = digits-some
 
 -- a text is that of a unit of a list
 unfoldable isOf : List ℕ → List Unit → Bool

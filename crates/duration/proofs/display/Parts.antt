@@ -13,10 +13,10 @@ use Rattle.scan.specs.declared.byte.Class.the-variants.{Digit, Alpha}
 use Rattle.scan.specs.Byte.{isAlpha, isIn}
 use Rattle.scan.specs.Run.{runLength}
 use Rattle.scan.specs.Text.{sameText}
+use Rattle.scan.specs.Digits.{valueOf}
 use Rattle.scan.proofs.byte.Classes.{within-bounds, below-not}
 use Rattle.scan.proofs.Runs.{run-past}
 use Rattle.decimal.specs.Grammar.{between}
-use Rattle.decimal.specs.Value.{valueOf}
 use Rattle.duration.specs.Units.{digitsEnd, partEnd, isPart, partValue}
 
 digit-no-letter : (c : ℕ) → isIn Digit c ≡ true → isIn Alpha c ≡ false
@@ -38,7 +38,7 @@ digits-first (x ∷ ds) ys h e = go (isIn Digit x) refl e
 -- a text is a part and what is behind it
 pub record Part (ds name rest : List ℕ) : Type 0 where
   pub is : (text : List ℕ) → isPart text (ds ++ (name ++ rest)) ≡ sameText name text
-  pub value : partValue (ds ++ (name ++ rest)) ≡ valueOf ds
+  pub value : partValue (ds ++ (name ++ rest)) ≡ valueOf 10 ds
   pub behind : drop (partEnd (ds ++ (name ++ rest))) (ds ++ (name ++ rest)) ≡ rest
 
 module _ (ds name rest : List ℕ) (some : 0 < length ds) (digits : runLength (isIn Digit) ds ≡ length ds) (letters : runLength (isIn Alpha) name ≡ length name)
@@ -68,6 +68,6 @@ module _ (ds name rest : List ℕ) (some : 0 < length ds) (digits : runLength (i
   part =
       record {
         is = part-is;
-        value = ap valueOf (ap (λ (n : ℕ). take n xs) digits-end ∙ take-append-seam ds (name ++ rest));
+        value = ap (valueOf 10) (ap (λ (n : ℕ). take n xs) digits-end ∙ take-append-seam ds (name ++ rest));
         behind = ap (λ (n : ℕ). drop n xs) part-end ∙ sym (drop-drop (length name) (digitsEnd xs) xs) ∙ ap (drop (length name)) from ∙ drop-append-seam name rest;
       }

@@ -11,7 +11,7 @@ use Rattle.scan.specs.Ascii.{ascii}
 use Rattle.proving.proofs.Stores.{sets-join}
 use Rattle.writing.specs.Decimal.{decimalText}
 use Rattle.writing.specs.Put.{putAt, pastAt}
-use Rattle.writing.proofs.Writes.{past-in}
+use Rattle.writing.proofs.Writes.{put-stands}
 use Rattle.duration.specs.declared.span.Duration.{Duration}
 use Rattle.duration.specs.Spans.{isZero}
 use Rattle.duration.specs.Display.{rows, counted, written, millisOf, textOf}
@@ -23,7 +23,7 @@ stored-none d at = record { past = omega arith; holds = refl }
 pub stored-put : (xs d : List ℕ) (at : ℕ) {r : ℕ} {e : List ℕ} → at + length xs ≤ length d → (r ≡ pastAt d at xs) × (e ≡ putAt d at xs) → Stored xs d at r e
 unfolding putAt
 stored-put xs d at h p =
-    record { past = p .0 ∙ past-in d at xs h; holds = p .1 ∙ rw (le-leb (at + length xs) (length d) h) (sym (sets-eq xs d at h)) }
+    record { past = p .0 ∙ put-stands d at xs h .0; holds = p .1 ∙ rw (le-leb (at + length xs) (length d) h) (sym (sets-eq xs d at h)) }
 
 pub stored-on : {xs ys d e f : List ℕ} {at r q : ℕ} → Stored xs d at r e → Stored ys e r q f → Stored (xs ++ ys) d at q f
 stored-on {xs} {ys} {d} {at = at} s t =

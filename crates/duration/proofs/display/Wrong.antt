@@ -8,7 +8,7 @@ use denote.Ref.{now}
 use Rattle.scan.specs.Ascii.{ascii}
 use Rattle.proving.proofs.One.{Answers, Leaves}
 use Rattle.utf8.specs.Answers.{atStart, noRoom, place, notUtf8}
-use Rattle.writing.specs.Decimal.{signOf, digitsOf, decimalText}
+use Rattle.writing.specs.Decimal.{digitFor, digitsWithin, decimalText}
 use Rattle.duration.specs.declared.span.Duration.{Duration}
 use Rattle.duration.specs.declared.display.Displaying.{Displaying}
 use Rattle.duration.specs.declared.display.Displaying.the-variants.{Written, Refused}
@@ -31,23 +31,23 @@ display-duration-at : (d : Duration) (room : ℕ) → display-duration-gives d r
 display-duration-at d room κs a x e p h = cc (p .0, h .0, h .1)
 
 pub room-of-just-the-length-is-enough : display-duration-gives (duration 1 0) 2 (Written 2)
-unfolding displayingOf textOf partOf restOf counted decimalText digitsOf signOf
+unfolding displayingOf textOf partOf restOf counted decimalText digitsWithin digitFor
 room-of-just-the-length-is-enough = display-duration-at _ _
 
 pub room-to-spare-is-no-refusal : display-duration-gives (duration 1 0) 30 (Written 2)
-unfolding displayingOf textOf partOf restOf counted decimalText digitsOf signOf
+unfolding displayingOf textOf partOf restOf counted decimalText digitsWithin digitFor
 room-to-spare-is-no-refusal = display-duration-at _ _
 
 pub no-room-is-refused-with-three : display-duration-gives (duration 1 0) 1 (Refused noRoom)
-unfolding displayingOf textOf partOf restOf counted decimalText digitsOf signOf
+unfolding displayingOf textOf partOf restOf counted decimalText digitsWithin digitFor
 no-room-is-refused-with-three = display-duration-at _ _
 
 pub whole-second-of-nanoseconds-is-over-range : display-duration-gives (duration 0 1000000000) 30 (Refused (atStart 54))
-unfolding displayingOf textOf partOf restOf counted decimalText digitsOf signOf
+unfolding displayingOf textOf partOf restOf counted decimalText digitsWithin digitFor
 whole-second-of-nanoseconds-is-over-range = display-duration-at _ _
 
 pub most-nanoseconds-are-written : display-duration-gives (duration 0 999999999) 30 (Written 5)
-unfolding displayingOf textOf partOf restOf counted decimalText digitsOf signOf
+unfolding displayingOf textOf partOf restOf counted decimalText digitsWithin digitFor
 most-nanoseconds-are-written = display-duration-at _ _
 
 -- a duration, and what the buffer holds before and after
@@ -59,35 +59,35 @@ display-duration-left-out : (d : Duration) (out : List ℕ) → display-duration
 display-duration-left-out d out κs a x e p h = cc (p .0, p .1, h .0, h .1)
 
 pub second-is-written-and-the-rest-stays : display-duration-leaves-out (duration 1 0) (ascii "?????") (ascii "1s???")
-unfolding displayingOf textOf partOf restOf counted decimalText digitsOf signOf
+unfolding displayingOf textOf partOf restOf counted decimalText digitsWithin digitFor
 second-is-written-and-the-rest-stays = display-duration-left-out _ _
 
 pub zero-is-written-as-no-seconds : display-duration-leaves-out (duration 0 0) (ascii "?????") (ascii "0s???")
-unfolding displayingOf textOf partOf restOf counted decimalText digitsOf signOf
+unfolding displayingOf textOf partOf restOf counted decimalText digitsWithin digitFor
 zero-is-written-as-no-seconds = display-duration-left-out _ _
 
 pub sixty-seconds-are-a-minute : display-duration-leaves-out (duration 60 0) (ascii "?????") (ascii "1m???")
-unfolding displayingOf textOf partOf restOf counted decimalText digitsOf signOf
+unfolding displayingOf textOf partOf restOf counted decimalText digitsWithin digitFor
 sixty-seconds-are-a-minute = display-duration-left-out _ _
 
 pub one-day-is-a-day : display-duration-leaves-out (duration 86400 0) (ascii "?????") (ascii "1d???")
-unfolding displayingOf textOf partOf restOf counted decimalText digitsOf signOf
+unfolding displayingOf textOf partOf restOf counted decimalText digitsWithin digitFor
 one-day-is-a-day = display-duration-left-out _ _
 
 pub eight-days-are-no-week-and-a-day : display-duration-leaves-out (duration 691200 0) (ascii "?????") (ascii "8d???")
-unfolding displayingOf textOf partOf restOf counted decimalText digitsOf signOf
+unfolding displayingOf textOf partOf restOf counted decimalText digitsWithin digitFor
 eight-days-are-no-week-and-a-day = display-duration-left-out _ _
 
 pub minute-is-taken-away-from-the-seconds : display-duration-leaves-out (duration 61 0) (ascii "???????") (ascii "1m1s???")
-unfolding displayingOf textOf partOf restOf counted decimalText digitsOf signOf
+unfolding displayingOf textOf partOf restOf counted decimalText digitsWithin digitFor
 minute-is-taken-away-from-the-seconds = display-duration-left-out _ _
 
 pub refusal-for-room-writes-nothing : display-duration-leaves-out (duration 1 0) (ascii "?") (ascii "?")
-unfolding displayingOf textOf partOf restOf counted decimalText digitsOf signOf
+unfolding displayingOf textOf partOf restOf counted decimalText digitsWithin digitFor
 refusal-for-room-writes-nothing = display-duration-left-out _ _
 
 pub refusal-for-range-writes-nothing : display-duration-leaves-out (duration 1 1000000000) (ascii "?????") (ascii "?????")
-unfolding displayingOf textOf partOf restOf counted decimalText digitsOf signOf
+unfolding displayingOf textOf partOf restOf counted decimalText digitsWithin digitFor
 refusal-for-range-writes-nothing = display-duration-left-out _ _
 
 abbrev refused-by-gives : Displaying → Refusal → Type 0

@@ -1,7 +1,8 @@
 -- What is a decimal and not exact is refused by its number.
 use native.Mathlib.Omega.{arith}
-use mathlib.Core.Bool.{Bool, true, false}
+use mathlib.Core.Bool.{true, false}
 use mathlib.Core.List.{List, [], _∷_}
+use mathlib.Core.Logic.{⊎-elim}
 use mathlib.Core.Path.{_≡_, refl, sym, ap, _∙_}
 use Prim.Native.Nat.{ℕ}
 use types.Run.{OneOf}
@@ -12,9 +13,9 @@ use Rattle.decimal.specs.declared.Number.{Number}
 use Rattle.decimal.specs.declared.Decimal.{Decimal}
 use Rattle.decimal.specs.declared.Decimal.the-variants.{NotDecimal, Named, Exact, Outside}
 use Rattle.decimal.proofs.Decimal as decimal
-use Rattle.decimal.proofs.Answers.{none}
 use Rattle.duration.specs.declared.Timing.the-variants.{Refused}
-use Rattle.duration.specs.Duration.{refusalNumber, decimalRead}
+use Rattle.duration.specs.Duration.{timedDecimal}
+use Rattle.duration.specs.steps.Refused.{secondsRefusal}
 use borrow.Author.Needs.{needs}
 use Rattle.duration.proofs.inexact.Statement.{statement}
 use Rattle.duration.proofs.inexact.Tie as tie
@@ -22,14 +23,14 @@ use Rattle.duration.proofs.inexact.Tie as tie
 enum-told : tie.Need-enum-told
 enum-told c = search needs
 
-refusal-number-requires : tie.Need-refusal-number-requires
-refusal-number-requires c κs = search needs
+seconds-refusal-requires : tie.Need-seconds-refusal-requires
+seconds-refusal-requires c κs = search needs
 
 refused-requires : tie.Need-refused-requires
 refused-requires c κs = search needs
 
-refused-is : (xs : List ℕ) (d : Decimal) → OneOf (1 ∷ 2 ∷ 3 ∷ []) (tagOf decimal.the-type d) → ((n : Number) → d ≡ Exact n → ⊥) → Refused (atStart (refusalNumber d)) ≡ decimalRead xs d
-refused-is xs NotDecimal t x = absurd (none t (λ z. omega arith) (λ z. omega arith) (λ z. omega arith))
+refused-is : (xs : List ℕ) (d : Decimal) → OneOf (1 ∷ 2 ∷ 3 ∷ []) (tagOf decimal.the-type d) → ((n : Number) → d ≡ Exact n → ⊥) → Refused (atStart (secondsRefusal d)) ≡ timedDecimal xs d
+refused-is xs NotDecimal t x = absurd (⊎-elim (λ z. omega arith) (⊎-elim (λ z. omega arith) (λ z. omega arith)) t)
 refused-is xs (Named n) t x = refl
 refused-is xs (Exact n) t x = absurd (x n refl)
 refused-is xs (Outside true) t x = refl
@@ -39,7 +40,7 @@ returns : tie.Need-returns
 returns c =
     let a = c .before .before .before .before in
     c .refused .ensures
-    ∙ ap (λ (n : ℕ). Refused (atStart n)) (c .before .refusal-number .ensures)
+    ∙ ap (λ (n : ℕ). Refused (atStart n)) (c .before .seconds-refusal .ensures)
     ∙ refused-is (now (a .args .s)) _ (c .before .before .match .keys2) (a .pre)
 
 unit-text-requires : tie.Need-unit-text-requires
@@ -47,9 +48,9 @@ unit-text-requires c κs = search needs
 
 returns-2 : tie.Need-returns-2
 returns-2 c =
-    c .unit-text .ensures ∙ ap (decimalRead (now (c .before .before .before .before .args .s))) (sym (c .before .enum-told .given .1))
+    c .unit-text .ensures ∙ ap (timedDecimal (now (c .before .before .before .before .args .s))) (sym (c .before .enum-told .given .1))
 
 pub inexact-spec : {M : Type 1} → statement M
 inexact-spec =
     tie.close
-    (tie.spec enum-told refusal-number-requires refused-requires returns unit-text-requires returns-2)
+    (tie.spec enum-told seconds-refusal-requires refused-requires returns unit-text-requires returns-2)

@@ -10,9 +10,9 @@ use Rattle.scan.specs.Ascii.{ascii}
 use Rattle.scan.specs.Text.{sameText}
 use Rattle.utf8.specs.declared.Admission.{Admission}
 use Rattle.utf8.specs.Answers.{admitted, notAdmitted}
-use Rattle.decimal.specs.Value.{longest, decimalOf}
+use Rattle.decimal.specs.Value.{decimalLimit, decimalOf}
 use Rattle.duration.specs.declared.Timing.the-variants.{Refused}
-use Rattle.duration.specs.Duration.{emptyText, zeroDuration, decimalRead, durationRead, timingFor, timingOf}
+use Rattle.duration.specs.Duration.{emptyText, zeroDuration, timedDecimal, durationRead, timingFor, timingOf}
 use borrow.Author.Needs.{needs}
 use Rattle.duration.proofs.parse_duration.Statement.{statement}
 use Rattle.duration.proofs.parse_duration.Tie as tie
@@ -30,7 +30,7 @@ not-admitted-requires : tie.Need-not-admitted-requires
 not-admitted-requires c κs = search needs
 
 module _ (xs : List ℕ) where
-  by-admission : (a : Admission) → admitted longest xs ≡ a → timingFor a xs ≡ timingOf xs
+  by-admission : (a : Admission) → admitted decimalLimit xs ≡ a → timingFor a xs ≡ timingOf xs
   unfolding timingOf
   by-admission a e = ap (λ (b : Admission). timingFor b xs) (sym e)
 
@@ -43,7 +43,7 @@ module _ (xs : List ℕ) where
     unfolding durationRead
     zero e = rw (ne-eqb (length xs) 0 n, e)
 
-    other : sameText xs (ascii "0") ≡ false → decimalRead xs (decimalOf xs) ≡ durationRead xs
+    other : sameText xs (ascii "0") ≡ false → timedDecimal xs (decimalOf xs) ≡ durationRead xs
     unfolding durationRead
     other e = rw (ne-eqb (length xs) 0 n, e)
 

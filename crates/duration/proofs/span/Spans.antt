@@ -14,15 +14,15 @@ use lib.Ieee.Exact.{HasValue}
 use lib.Ieee.Nearest.{closest, closest-same}
 use lib.Ieee.Order.{le-of-values}
 use lib.Ieee.Positive.{num, den, den-pos, above, above-of-le, value→cross}
-use Rattle.duration.specs.declared.span.Timed.{Timed}
-use Rattle.duration.specs.declared.span.Timed.the-variants.{Lasts, Refused}
+use Rattle.duration.specs.declared.span.Conversion.{Conversion}
+use Rattle.duration.specs.declared.span.Conversion.the-variants.{Lasts, Refused}
 use Rattle.duration.specs.Spans.{leastTimed, twoTo64, nanosOf, durationAt, fromSecs}
 use Rattle.duration.proofs.span.Round.{lt-or-ge, rounds-down, closest-add, closest-le}
 
 abbrev nought : Float
 nought = fin false 0 (pos 0)
 
-abbrev pick : Bool → Bool → Timed → Timed
+abbrev pick : Bool → Bool → Conversion → Conversion
 pick a b t = cond (a && b) t Refused
 
 -- ---- the tests

@@ -7,8 +7,8 @@ use lib.IntN.{pos, negsuc}
 use lib.Ieee.{Float, nan, fin, lt, le}
 use Rattle.proving.proofs.One.{Answers}
 use Rattle.duration.specs.declared.span.Duration.{Duration}
-use Rattle.duration.specs.declared.span.Timed.{Timed}
-use Rattle.duration.specs.declared.span.Timed.the-variants.{Lasts, Refused}
+use Rattle.duration.specs.declared.span.Conversion.{Conversion}
+use Rattle.duration.specs.declared.span.Conversion.the-variants.{Lasts, Refused}
 use Rattle.duration.specs.Spans.{fromSecs, isZero, twoTo64}
 use Rattle.duration.proofs.span.is_zero.Kinds as is-zero
 use Rattle.duration.proofs.span.is_zero.Reads as is-zero-reads
@@ -33,7 +33,7 @@ second-is-not-nothing = is-zero-at _
 pub no-seconds-and-no-nanoseconds-are-nothing : is-zero-gives (duration 0 0) true
 no-seconds-and-no-nanoseconds-are-nothing = is-zero-at _
 
-abbrev from-secs-f64-gives : Float → Timed → Type 0
+abbrev from-secs-f64-gives : Float → Conversion → Type 0
 from-secs-f64-gives x v = Answers from-secs-f64.ps from-secs-f64.r from-secs-f64-reads.Post (λ κs a. a .0 ≡ x) (λ κs. v)
 
 from-secs-f64-at : (x : Float) → from-secs-f64-gives x (fromSecs x)

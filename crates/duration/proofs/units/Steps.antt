@@ -11,20 +11,20 @@ use borrow.Author.Tests.{eq-eqb, ne-eqb}
 use lib.Seq.{drop-drop}
 use Rattle.proving.proofs.Choice.{either}
 use Rattle.duration.specs.Unit.{Unit, units, second, year}
-use Rattle.duration.specs.declared.units.Taken.{Taken}
+use Rattle.duration.specs.declared.units.Progress.{Progress}
 use Rattle.duration.specs.Units.{isPart, partEnd, partValue, behind, sumBy, counted, isUnitText, unitSum}
-use Rattle.duration.specs.steps.Units.{withPart, taken}
+use Rattle.duration.specs.steps.Units.{withPart, advanced}
 use Rattle.duration.proofs.units.Parts.{part-within, counted-most, seconds-fit, millis-fit}
 
 -- k parts were read of a text, and those of the units are to be read
-pub record Reached (xs : List ℕ) (us : List Unit) (k : ℕ) (t : Taken) : Type 0 where
+pub record Reached (xs : List ℕ) (us : List Unit) (k : ℕ) (t : Progress) : Type 0 where
   pub within : t .at ≤ length xs
   pub left : behind us (drop (t .at) xs) ≡ behind units xs
   pub sum : t .secs * second + t .millis + sumBy counted us (drop (t .at) xs) ≡ unitSum xs
   pub secs-few : t .secs ≤ k * 2 ^ 57
   pub millis-few : t .millis ≤ k * 2 ^ 57
 
-pub begun : (xs : List ℕ) (t : Taken) → t ≡ record { at = 0; secs = 0; millis = 0 } → Reached xs units 0 t
+pub begun : (xs : List ℕ) (t : Progress) → t ≡ record { at = 0; secs = 0; millis = 0 } → Reached xs units 0 t
 begun xs t e = rw e (record { within = omega arith; left = refl; sum = omega arith; secs-few = omega arith; millis-few = omega arith })
 
 -- n of a size: its seconds and what is over
@@ -32,7 +32,7 @@ parted : (n size : ℕ) → n * (size / second) * second + n * (size % second) �
 parted n size =
     ap (λ (m : ℕ). m + n * (size % second)) (mul-assoc n (size / second) second) ∙ sym (mul-add n (size / second * second) (size % second)) ∙ ap (λ (m : ℕ). n * m) (div-add-mod' size second)
 
-module _ (xs : List ℕ) (u : Unit) (us : List Unit) (k : ℕ) (t : Taken) (h : u .size ≤ year) (r : Reached xs (u ∷ us) k t) where
+module _ (xs : List ℕ) (u : Unit) (us : List Unit) (k : ℕ) (t : Progress) (h : u .size ≤ year) (r : Reached xs (u ∷ us) k t) where
   abbrev ys : List ℕ
   ys = drop (t .at) xs
 
@@ -78,12 +78,12 @@ module _ (xs : List ℕ) (u : Unit) (us : List Unit) (k : ℕ) (t : Taken) (h : 
         millis-few = omega (arith, r .millis-few);
       }
 
-  pub stepped : Reached xs us (k + 1) (taken xs t (u .text) (u .size))
-  unfolding taken
+  pub stepped : Reached xs us (k + 1) (advanced xs t (u .text) (u .size))
+  unfolding advanced
   stepped = either (Reached xs us (k + 1)) (isPart (u .text) ys) read not-read
 
 -- with no unit left
-module _ (xs : List ℕ) (k : ℕ) (t : Taken) (r : Reached xs [] k t) where
+module _ (xs : List ℕ) (k : ℕ) (t : Progress) (r : Reached xs [] k t) where
   over : length (behind units xs) ≡ length xs - t .at
   over = ap length (sym (r .left)) ∙ (unfold behind in length-drop (t .at) xs)
 

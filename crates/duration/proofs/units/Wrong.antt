@@ -9,7 +9,7 @@ use Rattle.scan.specs.Byte.{isWithin, digitOf, isIn, isAlpha}
 use Rattle.proving.proofs.One.{Answers}
 use Rattle.scan.specs.Run.{runLength}
 use Rattle.scan.specs.Text.{sameText}
-use Rattle.decimal.specs.Value.{valueFrom}
+use Rattle.scan.specs.Digits.{valueFrom}
 use Rattle.duration.specs.declared.span.Duration.{Duration}
 use Rattle.duration.specs.declared.units.Units.{Units}
 use Rattle.duration.specs.declared.units.Units.the-variants.{Sum, NotUnits}

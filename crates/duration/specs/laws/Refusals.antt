@@ -1,6 +1,6 @@
 -- Document 01's rows 1, 2 and 50 to 54 as conditions on a duration's text, and the statement that each answer is given exactly when its
 -- row holds; `proofs/Given` has the proof.
-use Prim.Native.Nat.{ℕ}
+use Prim.Native.Nat.{ℕ, _≤_}
 use mathlib.Core.Bool.{true, false}
 use mathlib.Core.List.{List}
 use mathlib.Core.Logic.{_↔_, _⊎_}
@@ -10,16 +10,17 @@ use lib.Ieee.{Float, fin, lt, le}
 use lib.ListN.{length}
 use Rattle.scan.specs.Ascii.{ascii}
 use Rattle.utf8.specs.Text.{prefixEnd}
+use Rattle.utf8.specs.declared.Refusal.{Refusal}
 use Rattle.utf8.specs.Answers.{placeAt, tooLong, notUtf8}
 use Rattle.utf8.specs.laws.Refusals.{TooLong, NotUtf8, Taken}
 use Rattle.scan.specs.Sign.{isMinus}
-use Rattle.decimal.specs.Value.{longest}
-use Rattle.decimal.specs.laws.Decimal.{nearestOf, Infinite, Nan, Numeral, Spelled, InExact}
+use Rattle.decimal.specs.Value.{outsideExact, decimalLimit, nearestOf}
+use Rattle.decimal.specs.laws.Decimal.{Infinite, Nan, Numeric, Spelled, InExact, OutsideExact}
 use Rattle.duration.specs.declared.span.Duration.{Duration}
 use Rattle.duration.specs.Spans.{twoTo64, nanosOf, durationAt}
 use Rattle.duration.specs.Units.{isUnitText, unitSum, lasting}
 use Rattle.duration.specs.declared.Timing.the-variants.{Lasts, Refused}
-use Rattle.duration.specs.Duration.{emptyText, zeroDuration, notDuration, outsideExact, outOfRange, timingOf}
+use Rattle.duration.specs.Duration.{emptyText, zeroDuration, notDuration, outOfRange, timingOf}
 
 -- 50 "empty duration"
 abbrev pub Empty : List ℕ → Type 0
@@ -31,7 +32,7 @@ ZeroText xs = xs ≡ ascii "0"
 
 -- a text that is read as a decimal or as parts with units
 abbrev pub Read : List ℕ → Type 0
-Read xs = Taken longest xs × (¬ (Empty xs)) × (¬ (ZeroText xs))
+Read xs = Taken decimalLimit xs × (¬ (Empty xs)) × (¬ (ZeroText xs))
 
 -- the seconds of a decimal in the exact range, and whether they are a duration: neither "negative" nor "2^64 and over"
 abbrev pub secondsOf : List ℕ → Float
@@ -49,27 +50,23 @@ Nothing xs = unitSum xs ≡ 0
 
 -- 51 "duration text `0`, or a unit sum of zero"
 abbrev pub ZeroDuration : List ℕ → Type 0
-ZeroDuration xs = (Taken longest xs × ZeroText xs) ⊎ (Read xs × UnitText xs × Nothing xs)
+ZeroDuration xs = (Taken decimalLimit xs × ZeroText xs) ⊎ (Read xs × UnitText xs × Nothing xs)
 
 -- 52 "neither decimal nor unit text"
 abbrev pub NotDuration : List ℕ → Type 0
 NotDuration xs = Read xs × (¬ (Spelled xs)) × (¬ (UnitText xs))
-
--- 53 "decimal outside the exact range"
-abbrev pub OutsideExact : List ℕ → Type 0
-OutsideExact xs = Read xs × Numeral xs × (¬ (InExact xs)) × (isMinus xs 0 ≡ false)
 
 -- 54 "seconds negative, infinite, NaN, or 2^64 and over"; "infinity or NaN by name, or negative nonzero, is tested before 53"
 abbrev pub OutOfRange : List ℕ → Type 0
 OutOfRange xs =
     Read xs
     × ((Infinite xs ⊎ Nan xs)
-    ⊎ ((Numeral xs × InExact xs × (¬ (InTime xs)))
-    ⊎ (Numeral xs × (¬ (InExact xs)) × (isMinus xs 0 ≡ true))))
+    ⊎ ((Numeric xs × InExact xs × (¬ (InTime xs)))
+    ⊎ (OutsideExact xs × (isMinus xs 0 ≡ true))))
 
 -- a decimal's duration: the nearest nanosecond, ties to even; and that of parts with units
 abbrev pub SecondsAre : List ℕ → Duration → Type 0
-SecondsAre xs d = Numeral xs × InExact xs × InTime xs × (d ≡ durationAt (nanosOf (secondsOf xs)))
+SecondsAre xs d = Numeric xs × InExact xs × InTime xs × (d ≡ durationAt (nanosOf (secondsOf xs)))
 
 abbrev pub UnitsAre : List ℕ → Duration → Type 0
 UnitsAre xs d = UnitText xs × (¬ (Nothing xs)) × (d ≡ lasting (unitSum xs))
@@ -78,11 +75,17 @@ abbrev pub TimingGiven : Type 0
 TimingGiven =
     (xs : List ℕ) →
     let t = timingOf xs in
-    (t ≡ Refused tooLong ↔ TooLong longest xs)
-    × (t ≡ Refused (notUtf8 (placeAt xs (prefixEnd xs))) ↔ (¬ (TooLong longest xs)) × NotUtf8 xs)
-    × (t ≡ Refused emptyText ↔ Taken longest xs × Empty xs)
+    (t ≡ Refused tooLong ↔ TooLong decimalLimit xs)
+    × (t ≡ Refused (notUtf8 (placeAt xs (prefixEnd xs))) ↔ (¬ (TooLong decimalLimit xs)) × NotUtf8 xs)
+    × (t ≡ Refused emptyText ↔ Taken decimalLimit xs × Empty xs)
     × (t ≡ Refused zeroDuration ↔ ZeroDuration xs)
     × (t ≡ Refused notDuration ↔ NotDuration xs)
-    × (t ≡ Refused outsideExact ↔ OutsideExact xs)
+    × (t ≡ Refused outsideExact ↔ Read xs × OutsideExact xs × (isMinus xs 0 ≡ false))
     × (t ≡ Refused outOfRange ↔ OutOfRange xs)
     × ((d : Duration) → t ≡ Lasts d ↔ Read xs × (SecondsAre xs d ⊎ UnitsAre xs d))
+
+-- how far refusals reach: none has a greater number, and no place lies beyond the longest text
+abbrev pub TimingBound : Type 0
+TimingBound =
+    (xs : List ℕ) (r : Refusal) → timingOf xs ≡ Refused r →
+    (r .number ≤ outOfRange .number) × (r .place .byte .0 ≤ decimalLimit) × (r .place .character .0 ≤ decimalLimit)

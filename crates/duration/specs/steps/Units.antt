@@ -5,14 +5,14 @@ use mathlib.Core.Bool.{cond}
 use mathlib.Core.List.{List}
 use lib.ListN.{drop}
 use Rattle.duration.specs.Unit.{second}
-use Rattle.duration.specs.declared.units.Taken.{Taken}
+use Rattle.duration.specs.declared.units.Progress.{Progress}
 use Rattle.duration.specs.Units.{isPart, partEnd, partValue, counted}
 
 -- a part of a unit of a size, where the text goes on with one
-abbrev pub withPart : List ℕ → Taken → ℕ → Taken
+abbrev pub withPart : List ℕ → Progress → ℕ → Progress
 withPart ys t size =
     let v = counted (partValue ys) in
     record { at = t .at + partEnd ys; secs = t .secs + v * (size / second); millis = t .millis + v * (size % second) }
 
-unfoldable pub taken : List ℕ → Taken → List ℕ → ℕ → Taken
-taken xs t name size = let ys = drop (t .at) xs in cond (isPart name ys) (withPart ys t size) t
+unfoldable pub advanced : List ℕ → Progress → List ℕ → ℕ → Progress
+advanced xs t name size = let ys = drop (t .at) xs in cond (isPart name ys) (withPart ys t size) t

@@ -6,7 +6,7 @@ use borrow.Author.Tests.{lt-leb}
 use Rattle.duration.specs.declared.Timing.{Timing}
 use Rattle.duration.specs.declared.Timing.the-variants.{Lasts, Refused}
 use Rattle.duration.specs.Duration.{timingOf}
-use Rattle.duration.proofs.Bounds.{Bounded, timing-bound}
+use Rattle.duration.proofs.Bounds.{timing-bound}
 use Rattle.duration.specs.declared.display.Displaying.{Displaying}
 use Rattle.duration.specs.declared.display.Displaying.the-variants as displaying
 use Rattle.duration.specs.Display.{displayingOf}
@@ -25,7 +25,7 @@ duration-told xs = go (timingOf xs)
     go (Refused r) = packed-told r
 
 pub duration-kept : DurationKept
-duration-kept xs r e = placed-kept (omega arith) (omega arith) (subst Bounded e (timing-bound xs))
+duration-kept xs r e = let b = timing-bound xs r e in omega (arith, b)
 
 pub duration-display-told : DurationDisplayTold
 duration-display-told room d h = go (displayingOf room d) (displaying-bound room d)

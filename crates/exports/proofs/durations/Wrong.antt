@@ -17,11 +17,12 @@ use Rattle.utf8.specs.Code.{codeOf}
 use Rattle.utf8.specs.Text.{charsPast, sizeOf}
 use Rattle.utf8.specs.Answers.{validityOf, admitted}
 use Rattle.scan.specs.Sign.{isSign}
+use Rattle.scan.specs.Digits.{valueFrom}
 use Rattle.decimal.specs.Grammar.{hasDigits, exponentHasDigits, isNumeral, isInfinite, isNan}
-use Rattle.decimal.specs.Value.{valueFrom, decimalIn, decimalOf}
+use Rattle.decimal.specs.Value.{decimalIn, decimalOf}
 use Rattle.duration.specs.Units.{isPart, behind, sumBy, counted, isUnitText, unitsOf}
 use Rattle.duration.specs.Duration.{durationRead, timingOf}
-use Rattle.writing.specs.Decimal.{signOf, digitsOf, decimalText}
+use Rattle.writing.specs.Decimal.{digitFor, digitsWithin, decimalText}
 use Rattle.duration.specs.Display.{counted as shownAs, partOf, restOf, textOf, displayingOf, leftBy}
 use Rattle.exports.specs.Packed.{packedAs}
 use Rattle.exports.specs.Duration.{durationCode, secsLeft, nanosLeft, durationOf, displayingCode}
@@ -36,7 +37,7 @@ unfolding timingOf durationRead admitted validityOf charsPast sizeOf charLength 
 reading = tt
 
 displaying : Unit {0}
-unfolding displayingOf textOf partOf restOf shownAs decimalText digitsOf signOf
+unfolding displayingOf textOf partOf restOf shownAs decimalText digitsWithin digitFor
 displaying = tt
 
 abbrev simmerpath-parse-duration-gives : List ℕ → ℕ → Type 0

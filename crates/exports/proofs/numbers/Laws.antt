@@ -2,16 +2,16 @@
 -- and its place within the text, by the bounds of `number`'s answers.
 use native.Mathlib.Omega.{arith}
 use mathlib.Core.Bool.{false}
-use mathlib.Core.Path.{_≡_, refl, subst}
+use mathlib.Core.Path.{_≡_, refl}
 use Rattle.decimal.specs.declared.Notation.{Notation}
 use Rattle.decimal.specs.declared.Notation.the-variants.{Decimal, Hex, Octal}
 use Rattle.number.specs.declared.Parsing.{Parsing}
 use Rattle.number.specs.declared.Parsing.the-variants.{Value, Refused}
 use Rattle.number.specs.Number.{parsingOf}
-use Rattle.number.proofs.Bounds.{Bounded, parsing-bound}
+use Rattle.number.proofs.Bounds.{parsing-bound}
 use Rattle.exports.specs.Number.{notationCode, parseCode}
 use Rattle.exports.specs.laws.Codes.{looksRefused, isNoNumber, ParseTold, ParseKept}
-use Rattle.exports.proofs.packing.Laws.{packed-told, placed-kept}
+use Rattle.exports.proofs.packing.Laws.{packed-told}
 
 pub parse-told : ParseTold
 parse-told xs = go (parsingOf xs)
@@ -26,4 +26,4 @@ parse-told xs = go (parsingOf xs)
     go (Refused r) = packed-told r
 
 pub parse-kept : ParseKept
-parse-kept xs r e = placed-kept (omega arith) (omega arith) (subst Bounded e (parsing-bound xs))
+parse-kept xs r e = let b = parsing-bound xs r e in omega (arith, b)

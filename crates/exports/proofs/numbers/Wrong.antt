@@ -17,8 +17,9 @@ use Rattle.utf8.specs.Code.{codeOf, encoded}
 use Rattle.utf8.specs.Text.{charsPast, sizeOf}
 use Rattle.utf8.specs.Answers.{validityOf, admitted}
 use Rattle.scan.specs.Sign.{isSign}
+use Rattle.scan.specs.Digits.{valueFrom}
 use Rattle.decimal.specs.Grammar.{hasDigits, exponentHasDigits, isNumeral, isInfinite, isNan}
-use Rattle.decimal.specs.Value.{bitsOf, valueFrom, isZeros, trailing, isExact, nearest, scaledBy, decimalIn, decimalOf}
+use Rattle.decimal.specs.Value.{bitsOf, isScaled, isSome, isExactRange, isInExact, numeralRead, decimalIn, decimalOf}
 use Rattle.number.specs.White.{isWhite, keptOf}
 use Rattle.number.specs.Signed.{isI64}
 use Rattle.number.specs.Integer.{isDigits, isWhole, integerOf}
@@ -30,7 +31,7 @@ use Rattle.exports.proofs.numbers.simmerpath_parse_str_radix.Reads as s
 
 -- what computes at a text
 reading : Unit {0}
-unfolding parsingOf numberOf isMarked isZeroLed hasDecimalMark markedRead notationOf followsMark integerOf isWhole isDigits isI64 isWhite keptOf admitted validityOf charsPast sizeOf charLength sizeIn fits codeOf encoded isWithin isHexDigit isDigitIn digitOf has sameText decimalOf decimalIn isInfinite isNan isNumeral hasDigits exponentHasDigits isSign lowered isIn runLength valueFrom isZeros trailing isExact nearest scaledBy bitsOf Ieee.isNan toBits ofInt round size span climb units odd trailingZeros
+unfolding parsingOf numberOf isMarked isZeroLed hasDecimalMark markedRead notationOf followsMark integerOf isWhole isDigits isI64 isWhite keptOf admitted validityOf charsPast sizeOf charLength sizeIn fits codeOf encoded isWithin isHexDigit isDigitIn digitOf has sameText decimalOf decimalIn isInfinite isNan isNumeral hasDigits exponentHasDigits isSign lowered isIn runLength valueFrom numeralRead isInExact isExactRange isSome isScaled bitsOf Ieee.isNan toBits ofInt round size span climb units odd trailingZeros
 reading = tt
 
 abbrev simmerpath-parse-str-radix-gives : List ℕ → ℕ → Type 0

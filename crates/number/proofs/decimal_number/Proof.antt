@@ -1,7 +1,15 @@
 -- An exact decimal is its value; of any other the answer is that of the definition.
-use mathlib.Core.Path.{sym, ap, _∙_}
-use Rattle.decimal.proofs.Answers.{not-exact}
-use Rattle.number.specs.Number.{decimalRead}
+use native.Mathlib.Omega.{arith}
+use mathlib.Core.List.{[], _∷_}
+use mathlib.Core.Logic.{⊎-elim}
+use mathlib.Core.Path.{_≡_, sym, ap, _∙_}
+use types.Run.{OneOf}
+use denote.Enum.Declared.{tagOf}
+use Rattle.decimal.specs.declared.Number.{Number}
+use Rattle.decimal.specs.declared.Decimal.{Decimal}
+use Rattle.decimal.specs.declared.Decimal.the-variants.{Exact}
+use Rattle.decimal.proofs.Decimal as decimal
+use Rattle.number.specs.Number.{parsedDecimal}
 use borrow.Author.Needs.{needs}
 use Rattle.number.proofs.decimal_number.Statement.{statement}
 use Rattle.number.proofs.decimal_number.Tie as tie
@@ -12,14 +20,17 @@ read-decimal-requires c κs = search needs
 enum-known-d : tie.Need-enum-known-d
 enum-known-d c = search needs
 
+not-exact : (d : Decimal) → OneOf (0 ∷ 1 ∷ 3 ∷ []) (tagOf decimal.the-type d) → (n : Number) → d ≡ Exact n → ⊥
+not-exact d t n e = let k = ap (tagOf decimal.the-type) e in ⊎-elim (λ z. omega arith) (⊎-elim (λ z. omega arith) (λ z. omega arith)) t
+
 inexact-requires : tie.Need-inexact-requires
 inexact-requires c κs = not-exact _ (c .match .keys2)
 
 returns : tie.Need-returns
-returns c = c .inexact .ensures ∙ ap decimalRead (c .before .before .read-decimal .ensures)
+returns c = c .inexact .ensures ∙ ap parsedDecimal (c .before .before .read-decimal .ensures)
 
 returns-2 : tie.Need-returns-2
-returns-2 c = ap decimalRead (sym (c .before .d .given .1) ∙ c .before .before .before .read-decimal .ensures)
+returns-2 c = ap parsedDecimal (sym (c .before .d .given .1) ∙ c .before .before .before .read-decimal .ensures)
 
 pub decimal-number-spec : {M : Type 1} → statement M
 decimal-number-spec =

@@ -21,7 +21,7 @@ use Rattle.utf8.specs.Answers.{characterAt}
 use Rattle.utf8.specs.laws.Characters.{Standing, StandsAt}
 use Rattle.utf8.proofs.Bounds.{character-stands, ascii-at}
 use Rattle.utf8.proofs.Character as character
-use Rattle.decimal.specs.Value.{longest}
+use Rattle.decimal.specs.Value.{decimalLimit}
 use Rattle.number.specs.White.{keptBytes, plainText}
 use Rattle.number.proofs.Kept.{plain-few, plain-here, plain-over}
 use Rattle.number.proofs.keep.Statement.{statement}
@@ -75,7 +75,7 @@ module _ (c : tie.After-shared-slice-known2 Inv-loop μ-loop) where
     long : length (plainText (drop place xs)) ≡ length (keptBytes code) + length behind
     long = ap length (plain-here xs place code size s) ∙ length-append (keptBytes code) behind
 
-    room : l .loop .n + length (keptBytes code) ≤ longest
+    room : l .loop .n + length (keptBytes code) ≤ decimalLimit
     room = omega (arith, long, l .loop .inv .2, plain-few xs (a .pre .1), a .pre .0)
 
     step : (n : ℕ) (out : List ℕ) → n ≡ l .loop .n + length (keptBytes code) → out ≡ sets (l .loop .out) (l .loop .n) (keptBytes code)

@@ -11,7 +11,7 @@ use Rattle.utf8.specs.declared.Admission.{Admission}
 use Rattle.utf8.specs.Answers.{admitted, notAdmitted}
 use Rattle.utf8.specs.laws.Refusals.{Taken}
 use Rattle.utf8.proofs.Given.{admitted-text}
-use Rattle.decimal.specs.Value.{longest}
+use Rattle.decimal.specs.Value.{decimalLimit}
 use Rattle.number.specs.declared.Parsing.the-variants.{Refused}
 use Rattle.number.specs.White.{plainText}
 use Rattle.number.specs.Number.{numberOf, parsingBy, parsingOf}
@@ -32,7 +32,7 @@ enum-told-2 c = search needs
 not-admitted-requires : tie.Need-not-admitted-requires
 not-admitted-requires c κs = search needs
 
-by-admission : (xs : List ℕ) (a : Admission) → admitted longest xs ≡ a → parsingBy a (plainText xs) ≡ parsingOf xs
+by-admission : (xs : List ℕ) (a : Admission) → admitted decimalLimit xs ≡ a → parsingBy a (plainText xs) ≡ parsingOf xs
 unfolding parsingOf
 by-admission xs a e = ap (λ (b : Admission). parsingBy b (plainText xs)) (sym e)
 
@@ -46,8 +46,8 @@ module _ (c : tie.After-enum-told) where
   abbrev text : List ℕ
   text = now (c .before .before .before .before .args .s)
 
-  taken : Taken longest text
-  taken = admitted-text longest text _ (sym (c .before .before .admit .ensures) ∙ c .enum-told .given .1)
+  taken : Taken decimalLimit text
+  taken = admitted-text decimalLimit text _ (sym (c .before .before .admit .ensures) ∙ c .enum-told .given .1)
 
 keep-requires : tie.Need-keep-requires
 keep-requires c κs = taken (c .before)
@@ -63,17 +63,17 @@ module _ (c : tie.After-keep) where
   counted : c .keep .result ≡ length kept
   counted = c .keep .ensures .0
 
-  buffer-is : buffer ≡ sets (replicate longest 0) 0 kept
+  buffer-is : buffer ≡ sets (replicate decimalLimit 0) 0 kept
   buffer-is = c .keep .ensures .1
 
-  buffer-long : length buffer ≡ longest
-  buffer-long = ap length buffer-is ∙ length-sets (replicate longest 0) 0 kept
+  buffer-long : length buffer ≡ decimalLimit
+  buffer-long = ap length buffer-is ∙ length-sets (replicate decimalLimit 0) 0 kept
 
-  fits : length kept ≤ longest
+  fits : length kept ≤ decimalLimit
   fits = let t = taken (c .before .before) in omega (arith, plain-few (text (c .before .before)) (t .1), t .0)
 
   front : take (c .keep .result) buffer ≡ kept
-  front = ap₂ (λ (n : ℕ) (ys : List ℕ). take n ys) counted buffer-is ∙ written-front (replicate longest 0) kept (omega (arith, fits))
+  front = ap₂ (λ (n : ℕ) (ys : List ℕ). take n ys) counted buffer-is ∙ written-front (replicate decimalLimit 0) kept (omega (arith, fits))
 
 array-share-prefix-buf : tie.Need-array-share-prefix-buf
 array-share-prefix-buf c = omega (arith, counted c, fits c, buffer-long c)

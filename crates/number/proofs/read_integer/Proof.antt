@@ -10,7 +10,8 @@ use borrow.Author.Tests.{lt-ltb, le-ltb, not-true, not-false}
 use Rattle.proving.proofs.Lists.{rest-of}
 use Rattle.decimal.specs.declared.Notation.{Notation}
 use Rattle.scan.specs.Sign.{isMinus}
-use Rattle.decimal.specs.Value.{radixOf, valueIn, mostTold}
+use Rattle.scan.specs.Digits.{valueOf}
+use Rattle.decimal.specs.Value.{radixOf, mostTold}
 use Rattle.scan.proofs.sign.Places.{sign-within}
 use Rattle.number.specs.declared.Integer.the-variants.{Whole, NotInteger}
 use Rattle.number.specs.Integer.{isDigits, unsignedOf, isWhole, magnitudeOf, integerOf, toldOf}
@@ -85,7 +86,7 @@ returns-3 c =
     let e = c .before .before .before in
     let p = e .before .before .before .before in
     let n = p .before .before .args .notation in
-    let w : Whole (c .before .is-minus .result) (c .digits-value .result) ≡ Whole (isMinus (text p) 0) (min mostTold (magnitudeOf n (text p))) = ap₂ Whole (c .before .is-minus .ensures) (c .digits-value .ensures ∙ ap (λ (ys : List ℕ). min mostTold (valueIn n ys)) (digits-are p)) in
+    let w : Whole (c .before .is-minus .result) (c .digits-value .result) ≡ Whole (isMinus (text p) 0) (min mostTold (magnitudeOf n (text p))) = ap₂ Whole (c .before .is-minus .ensures) (c .digits-value .ensures ∙ ap (λ (ys : List ℕ). min mostTold (valueOf (radixOf n) ys)) (digits-are p)) in
     w ∙ digits n (text p) (some (e .before .before)) (sym (told e) ∙ not-false (e .is-digits .result) (c .before .before .if2 .left))
 
 pub read-integer-spec : {M : Type 1} → statement M

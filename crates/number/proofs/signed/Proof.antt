@@ -1,4 +1,4 @@
--- A sign goes through rounding (`neg-round`), so the float of a negative integer is that of its magnitude, negated.
+-- A sign goes through rounding (`signed-round`), so the float of a negative integer is that of its magnitude, negated.
 use Prim.Native.Nat.{ℕ, zero, suc}
 use mathlib.Core.Bool.{Bool, true, false}
 use mathlib.Core.Path.{_≡_, refl}
@@ -6,7 +6,7 @@ use lib.IntN.{pos}
 use lib.Ieee.{binary64, ofInt, ofBits, round, neg}
 use borrow.Author.Needs.{needs}
 use Rattle.number.specs.Signed.{signedOf}
-use Rattle.decimal.proofs.Signs.{neg-round}
+use Rattle.decimal.proofs.Rounding.{signed-round}
 use Rattle.number.proofs.signed.Statement.{statement}
 use Rattle.number.proofs.signed.Tie as tie
 
@@ -18,7 +18,7 @@ zero-is false = refl
 negated : (n : ℕ) → (n ≡ 0 → ⊥) → neg (ofInt binary64 (pos n)) ≡ ofInt binary64 (signedOf true n)
 unfolding ofInt
 negated zero h = absurd (h refl)
-negated (suc n) h = neg-round binary64 false (suc n) 1
+negated (suc n) h = signed-round true (suc n) 1
 
 returns : tie.Need-returns
 returns c = rw (c .if1 .taken) (zero-is (c .before .args .negative))

@@ -11,17 +11,18 @@ use lib.ListN.{length}
 use Rattle.scan.specs.Byte.{peekAt, isDigitIn}
 use Rattle.scan.specs.Text.{Stands}
 use Rattle.utf8.specs.Text.{prefixEnd}
+use Rattle.utf8.specs.declared.Refusal.{Refusal}
 use Rattle.utf8.specs.Answers.{placeAt, tooLong, notUtf8}
 use Rattle.utf8.specs.laws.Refusals.{TooLong, NotUtf8, Taken}
 use Rattle.decimal.specs.declared.Number.{Number}
 use Rattle.scan.specs.Sign.{pastSign, isMinus}
-use Rattle.decimal.specs.Value.{radixOf, plain, longest}
-use Rattle.decimal.specs.laws.Decimal.{nearestOf, Infinite, Nan, Numeral, Spelled, InExact}
+use Rattle.decimal.specs.Value.{outsideExact, radixOf, plain, decimalLimit, nearestOf}
+use Rattle.decimal.specs.laws.Decimal.{Infinite, Nan, Numeric, Spelled, InExact, OutsideExact}
 use Rattle.number.specs.declared.Parsing.the-variants.{Value, Refused}
 use Rattle.number.specs.White.{plainText}
 use Rattle.number.specs.Signed.{mostOf}
 use Rattle.number.specs.Integer.{unsignedOf, magnitudeOf}
-use Rattle.number.specs.Number.{outsideExact, notNumber, outsideI64, behindZero, notationOf, followsMark, integerNumber, parsingOf}
+use Rattle.number.specs.Number.{notNumber, outsideI64, behindZero, notationOf, followsMark, integerNumber, parsingOf}
 
 -- "a leading 0 after an optional sign
 abbrev pub LeadsZero : List ℕ → Type 0
@@ -62,10 +63,6 @@ negative t = unlike (own t) (isMinus t 0)
 abbrev pub InI64 : List ℕ → Type 0
 InI64 t = (magnitude t ≤ mostOf (own t)) × (magnitude t ≤ mostOf (negative t))
 
--- 53 "decimal outside the exact range"
-abbrev pub OutsideExact : List ℕ → Type 0
-OutsideExact t = (¬ (Marked t)) × Numeral t × (¬ (InExact t))
-
 -- 60 "not a number text"
 abbrev pub NotNumber : List ℕ → Type 0
 NotNumber t = (Marked t × (¬ (Whole t))) ⊎ ((¬ (Marked t)) × (¬ (Spelled t)))
@@ -83,7 +80,7 @@ DecimalIs t n =
     (¬ (Marked t))
     × ((Infinite t × (n ≡ plain (inf (isMinus t 0))))
     ⊎ ((Nan t × (n ≡ plain nan))
-    ⊎ (Numeral t × InExact t × (n ≡ nearestOf t))))
+    ⊎ (Numeric t × InExact t × (n ≡ nearestOf t))))
 
 -- "Order: 1, 2, the reading"; "60 and 52 are judged on the whole text, before 61 and 53"
 abbrev pub ParsingGiven : Type 0
@@ -91,9 +88,15 @@ ParsingGiven =
     (xs : List ℕ) →
     let p = parsingOf xs in
     let t = plainText xs in
-    (p ≡ Refused tooLong ↔ TooLong longest xs)
-    × (p ≡ Refused (notUtf8 (placeAt xs (prefixEnd xs))) ↔ (¬ (TooLong longest xs)) × NotUtf8 xs)
-    × (p ≡ Refused notNumber ↔ Taken longest xs × NotNumber t)
-    × (p ≡ Refused outsideI64 ↔ Taken longest xs × OutsideI64 t)
-    × (p ≡ Refused outsideExact ↔ Taken longest xs × OutsideExact t)
-    × ((n : Number) → p ≡ Value n ↔ Taken longest xs × (IntegerIs t n ⊎ DecimalIs t n))
+    (p ≡ Refused tooLong ↔ TooLong decimalLimit xs)
+    × (p ≡ Refused (notUtf8 (placeAt xs (prefixEnd xs))) ↔ (¬ (TooLong decimalLimit xs)) × NotUtf8 xs)
+    × (p ≡ Refused notNumber ↔ Taken decimalLimit xs × NotNumber t)
+    × (p ≡ Refused outsideI64 ↔ Taken decimalLimit xs × OutsideI64 t)
+    × (p ≡ Refused outsideExact ↔ Taken decimalLimit xs × (¬ (Marked t)) × OutsideExact t)
+    × ((n : Number) → p ≡ Value n ↔ Taken decimalLimit xs × (IntegerIs t n ⊎ DecimalIs t n))
+
+-- how far refusals reach: none has a greater number, and no place lies beyond the longest text
+abbrev pub ParsingBound : Type 0
+ParsingBound =
+    (xs : List ℕ) (r : Refusal) → parsingOf xs ≡ Refused r →
+    (r .number ≤ outsideI64 .number) × (r .place .byte .0 ≤ decimalLimit) × (r .place .character .0 ≤ decimalLimit)

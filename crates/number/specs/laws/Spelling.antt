@@ -8,9 +8,10 @@ use mathlib.Core.Path.{_≡_}
 use lib.ListN.{length}
 use Rattle.scan.specs.Ascii.{ascii}
 use Rattle.scan.specs.Sign.{isMinus}
+use Rattle.scan.specs.Digits.{valueOf}
 use Rattle.decimal.specs.declared.Notation.{Notation}
 use Rattle.decimal.specs.declared.Notation.the-variants.{Decimal, Hex, Octal}
-use Rattle.decimal.specs.Value.{radixOf, valueIn}
+use Rattle.decimal.specs.Value.{radixOf}
 use Rattle.decimal.specs.laws.Spelling.{Sign}
 use Rattle.number.specs.Number.{notationOf}
 use Rattle.number.specs.laws.Refusals.{AllDigits, Whole, magnitude, own}
@@ -36,10 +37,10 @@ abbrev pub WholeSpelled : Type 0
 WholeSpelled = (t : List ℕ) → Whole t ↔ ((n : Notation) × (s o ds : List ℕ) × IntegerOf n s o ds t)
 
 -- and what its value is taken of are the parts of the spelling
-abbrev pub PartsSpelled : Type 0
-PartsSpelled =
+abbrev pub PiecesSpelled : Type 0
+PiecesSpelled =
     (n : Notation) (s o ds t : List ℕ) → IntegerOf n s o ds t →
     (notationOf t ≡ n)
-    × (magnitude t ≡ valueIn n ds)
+    × (magnitude t ≡ valueOf (radixOf n) ds)
     × (own t ≡ true ↔ o ≡ ascii "-")
     × (isMinus t 0 ≡ true ↔ s ≡ ascii "-")

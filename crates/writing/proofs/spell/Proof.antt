@@ -19,8 +19,8 @@ sub-i c = search needs
 loop-holds : tie.Need-loop-holds Inv-loop μ-loop
 loop-holds c = spelled-none _ _ (search needs) (c .before .pre)
 
-sign-of-requires : tie.Need-sign-of-requires Inv-loop μ-loop
-sign-of-requires c κs = omega arith
+digit-for-requires : tie.Need-digit-for-requires Inv-loop μ-loop
+digit-for-requires c κs = omega arith
 
 slice-write-digits : tie.Need-slice-write-digits Inv-loop μ-loop
 slice-write-digits c = omega arith
@@ -32,10 +32,10 @@ loop-less : tie.Need-loop-less Inv-loop μ-loop
 loop-less c = omega arith
 
 loop-again : tie.Need-loop-again Inv-loop μ-loop
-loop-again c = spelled-more (c .before .before .loop .inv) (c .before .loop-test .taken) (c .sign-of .ensures)
+loop-again c = spelled-more (c .before .before .loop .inv) (c .before .loop-test .taken) (c .digit-for .ensures)
 
-sign-of-requires-2 : tie.Need-sign-of-requires-2 Inv-loop μ-loop
-sign-of-requires-2 c κs = omega arith
+digit-for-requires-2 : tie.Need-digit-for-requires-2 Inv-loop μ-loop
+digit-for-requires-2 c κs = omega arith
 
 slice-write-digits-2 : tie.Need-slice-write-digits-2 Inv-loop μ-loop
 slice-write-digits-2 c = omega arith
@@ -44,7 +44,7 @@ same-length : tie.Need-same-length Inv-loop μ-loop
 same-length c = simp length-set (c .before .before .loop .inv .size ∙ sym (c .before .before .before .before .pre))
 
 returns : tie.Need-returns Inv-loop μ-loop
-returns c = (omega arith, spelled-all (c .before .before .loop .inv) (c .before .loop-test .left) (c .sign-of2 .ensures))
+returns c = (omega arith, spelled-all (c .before .before .loop .inv) (c .before .loop-test .left) (c .digit-for2 .ensures))
 
 pub spell-spec : {M : Type 1} → statement M
 spell-spec =
@@ -54,12 +54,12 @@ spell-spec =
     μ-loop
     sub-i
     loop-holds
-    sign-of-requires
+    digit-for-requires
     slice-write-digits
     sub-i-2
     loop-less
     loop-again
-    sign-of-requires-2
+    digit-for-requires-2
     slice-write-digits-2
     same-length
     returns)

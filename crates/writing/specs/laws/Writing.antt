@@ -1,21 +1,37 @@
 -- What whoever writes may rely on: the digits of a number say the number and are few, and what is written stands where it was to go.
-use Prim.Native.Nat.{ℕ, _+_, _^_, _<_, _≤_}
+use Prim.Native.Nat.{ℕ, _+_, _/_, _%_, _^_, _<_, _≤_}
 use mathlib.Core.Path.{_≡_}
-use mathlib.Core.List.{List, _++_}
-use lib.Dec.{ltb}
+use mathlib.Core.List.{List, [], _∷_, _++_}
 use lib.ListN.{length, take}
-use Rattle.writing.specs.Decimal.{decimalBase, mostDigits, valueOf, digitsBy, decimalText}
+use Rattle.scan.specs.declared.byte.Class.the-variants.{Digit}
+use Rattle.scan.specs.Byte.{isIn}
+use Rattle.scan.specs.Run.{runLength}
+use Rattle.scan.specs.Digits.{valueOf}
+use Rattle.writing.specs.Decimal.{decimalBase, mostDigits, digitFor, decimalText}
 use Rattle.writing.specs.Put.{putAt, pastAt}
 
--- the digits of n are one digit, or those of n / 10 and then n % 10, of every number
-abbrev pub DigitsOf : Type 0
-DigitsOf = (n : ℕ) → decimalText n ≡ digitsBy (ltb n decimalBase) decimalText n
+-- the digits of n are one digit, or those of n / 10 and then n % 10
+abbrev pub OneDigit : Type 0
+OneDigit = (n : ℕ) → n < decimalBase → decimalText n ≡ digitFor n ∷ []
 
--- their value is the number
+abbrev pub MoreDigits : Type 0
+MoreDigits = (n : ℕ) → decimalBase ≤ n → decimalText n ≡ decimalText (n / decimalBase) ++ digitFor (n % decimalBase) ∷ []
+
+-- they are digits and nothing else, one at least,
+abbrev pub OnlyDigits : Type 0
+OnlyDigits = (n : ℕ) → runLength (isIn Digit) (decimalText n) ≡ length (decimalText n)
+
+abbrev pub AnyDigit : Type 0
+AnyDigit = (n : ℕ) → 0 < length (decimalText n)
+
+-- their value is the number,
 abbrev pub DecimalValue : Type 0
-DecimalValue = (n : ℕ) → valueOf (decimalText n) ≡ n
+DecimalValue = (n : ℕ) → valueOf decimalBase (decimalText n) ≡ n
 
--- and they are few where it fits
+-- and they are no more than it takes, which is few where it fits
+abbrev pub DigitsBelow : Type 0
+DigitsBelow = (i n : ℕ) → n < decimalBase ^ (i + 1) → length (decimalText n) ≤ i + 1
+
 abbrev pub DigitsFew : Type 0
 DigitsFew = (n : ℕ) → n < 2 ^ 64 → length (decimalText n) ≤ mostDigits
 

@@ -9,7 +9,7 @@ use lib.Ieee.{ofBits, le, lt}
 use lib.Ieee.Exact.{HasValue}
 use lib.Ieee.Nearest.{closest}
 use mathlib.Core.Bool.{false}
-use Rattle.duration.specs.declared.span.Timed.the-variants.{Lasts}
+use Rattle.duration.specs.declared.span.Conversion.the-variants.{Lasts}
 use Rattle.duration.specs.Spans.{durationAt, fromSecs, nanosOf, leastTimed, twoTo64}
 use Rattle.duration.proofs.span.Spans.{too-long, negative, accepted, above-nought, tiny, by-value, by-parts, at-most-a-second, carry}
 use Rattle.duration.proofs.span.from_secs_f64.Statement.{statement}
@@ -28,28 +28,28 @@ accept : (c : tie.Then2) → Lasts (durationAt (nanosOf (c .before .before .args
 unfolding ofBits
 accept c = accepted (c .before .before .args .x) (c .before .if1 .taken) (above-nought (c .before .before .args .x) (enough c))
 
-parts-of-requires : tie.Need-parts-of-requires
-parts-of-requires c κs = (enough c, in-time c)
+dyadic-of-requires : tie.Need-dyadic-of-requires
+dyadic-of-requires c κs = (enough c, in-time c)
 
 -- ---- less than a second
-small : (c : tie.Then3) → c .before .parts-of .result .digits < 2 ^ (c .before .parts-of .result .shift)
-small c = lt-of-lt-of-le (c .before .parts-of .ensures .1 .1) (pow-mono (c .if3 .taken))
+small : (c : tie.Then3) → c .before .dyadic-of .result .digits < 2 ^ (c .before .dyadic-of .result .shift)
+small c = lt-of-lt-of-le (c .before .dyadic-of .ensures .1 .1) (pow-mono (c .if3 .taken))
 
 nanos-requires : tie.Need-nanos-requires
-nanos-requires c κs = (small c, c .before .parts-of .ensures .1 .0)
+nanos-requires c κs = (small c, c .before .dyadic-of .ensures .1 .0)
 
 whole-requires : tie.Need-whole-requires
 whole-requires c κs =
-    let p = c .before .before .parts-of .result in
+    let p = c .before .before .dyadic-of .result in
     (subst (λ (n : ℕ). n ≤ 1000000000) (sym (c .nanos .ensures)) (at-most-a-second (p .digits) (2 ^ (p .shift)) (pow-pos (p .shift)) (small (c .before))), λ e. lit< tt)
 
 returns : tie.Need-returns
 returns c =
     let at = c .before .before .before in
-    let p = at .parts-of .result in
+    let p = at .dyadic-of .result in
     ap Lasts
     (c .whole .ensures
-    ∙ ap durationAt (zero-add _ ∙ c .before .nanos .ensures ∙ by-value (at .before .before .before .args .x) (p .digits) (2 ^ (p .shift)) (pow-pos (p .shift)) (at .parts-of .ensures .0)))
+    ∙ ap durationAt (zero-add _ ∙ c .before .nanos .ensures ∙ by-value (at .before .before .before .args .x) (p .digits) (2 ^ (p .shift)) (pow-pos (p .shift)) (at .dyadic-of .ensures .0)))
     ∙ accept (at .before)
 
 -- ---- a second or more
@@ -68,30 +68,30 @@ rem-nanos c = divides c
 nanos-requires-2 : tie.Need-nanos-requires-2
 nanos-requires-2 c κs =
     let at = c .before .before in
-    (subst (λ (n : ℕ). at .parts-of .result .digits % c .pow2 .result < n) (c .pow2 .ensures) (mod-lt (at .parts-of .result .digits) (divides c)), at .parts-of .ensures .1 .0)
+    (subst (λ (n : ℕ). at .dyadic-of .result .digits % c .pow2 .result < n) (c .pow2 .ensures) (mod-lt (at .dyadic-of .result .digits) (divides c)), at .dyadic-of .ensures .1 .0)
 
 -- the nanoseconds, over the divisor as the code has it
-nanos-are : (c : tie.After-nanos2) → c .nanos2 .result ≡ closest (c .before .before .before .parts-of .result .digits % c .before .pow2 .result * 1000000000) (c .before .pow2 .result)
+nanos-are : (c : tie.After-nanos2) → c .nanos2 .result ≡ closest (c .before .before .before .dyadic-of .result .digits % c .before .pow2 .result * 1000000000) (c .before .pow2 .result)
 nanos-are c =
-    let d = c .before .before .before .parts-of .result .digits in
+    let d = c .before .before .before .dyadic-of .result .digits in
     c .nanos2 .ensures ∙ ap (closest (d % c .before .pow2 .result * 1000000000)) (sym (c .before .pow2 .ensures))
 
 whole-requires-2 : tie.Need-whole-requires-2
 whole-requires-2 c κs =
-    let d = c .before .before .before .parts-of .result .digits in
+    let d = c .before .before .before .dyadic-of .result .digits in
     let b = c .before .pow2 .result in
     let B = divides (c .before) in (
       subst (λ (n : ℕ). n ≤ 1000000000) (sym (nanos-are c)) (at-most-a-second (d % b) b B (mod-lt d B)),
-      carry d b (c .nanos2 .result) B (c .before .before .before .parts-of .ensures .1 .1) (nanos-are c),
+      carry d b (c .nanos2 .result) B (c .before .before .before .dyadic-of .ensures .1 .1) (nanos-are c),
     )
 
 returns-2 : tie.Need-returns-2
 returns-2 c =
     let at = c .before .before .before .before in
-    let d = at .parts-of .result .digits in
+    let d = at .dyadic-of .result .digits in
     let b = c .before .before .pow2 .result in
     let B = divides (c .before .before) in
-    let v = subst (λ (n : ℕ). HasValue (at .before .before .before .args .x) false d n) (sym (c .before .before .pow2 .ensures)) (at .parts-of .ensures .0) in
+    let v = subst (λ (n : ℕ). HasValue (at .before .before .before .args .x) false d n) (sym (c .before .before .pow2 .ensures)) (at .dyadic-of .ensures .0) in
     ap Lasts
     (c .whole2 .ensures
     ∙ ap durationAt (ap (λ (n : ℕ). d / b * 1000000000 + n) (nanos-are (c .before)) ∙ by-parts d b B ∙ by-value (at .before .before .before .args .x) d b B v))
@@ -117,7 +117,7 @@ pub from-secs-f64-spec : {M : Type 1} → statement M
 from-secs-f64-spec =
     tie.close
     (tie.spec
-    parts-of-requires
+    dyadic-of-requires
     nanos-requires
     whole-requires
     returns

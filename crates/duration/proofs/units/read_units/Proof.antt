@@ -7,19 +7,19 @@ use mathlib.Core.Path.{_≡_, refl, sym, ap, subst, _∙_}
 use lib.ListN.{length, drop}
 use denote.Ref.{now}
 use Rattle.duration.specs.Unit.{Unit, unit, units, milli, second, minute, hour, day, week, year}
-use Rattle.duration.specs.declared.units.Taken.{Taken}
+use Rattle.duration.specs.declared.units.Progress.{Progress}
 use Rattle.duration.specs.declared.units.Units.the-variants.{Sum, NotUnits}
 use Rattle.duration.specs.Units.{isUnitText, lasting, unitSum, unitsOf}
-use Rattle.duration.specs.steps.Units.{taken}
+use Rattle.duration.specs.steps.Units.{advanced}
 use Rattle.duration.proofs.units.Steps.{Reached, begun, stepped, none-behind, some-behind, sum-is}
 use borrow.Author.Needs.{needs}
 use Rattle.duration.proofs.units.read_units.Statement.{statement}
 use Rattle.duration.proofs.units.read_units.Tie as tie
 
-on : (xs : List ℕ) (u : Unit) (us : List Unit) (k : ℕ) (t r : Taken) → u .size ≤ year → Reached xs (u ∷ us) k t → r ≡ taken xs t (u .text) (u .size) → Reached xs us (k + 1) r
+on : (xs : List ℕ) (u : Unit) (us : List Unit) (k : ℕ) (t r : Progress) → u .size ≤ year → Reached xs (u ∷ us) k t → r ≡ advanced xs t (u .text) (u .size) → Reached xs us (k + 1) r
 on xs u us k t r h d e = subst (Reached xs us (k + 1)) (sym e) (stepped xs u us k t h d)
 
-asked : {xs : List ℕ} {us : List Unit} {k size : ℕ} {t : Taken} → k ≤ 7 → size ≤ year → Reached xs us k t → (t .at ≤ length xs) × (size ≤ year) × (t .secs ≤ 2 ^ 62) × (t .millis ≤ 2 ^ 62)
+asked : {xs : List ℕ} {us : List Unit} {k size : ℕ} {t : Progress} → k ≤ 7 → size ≤ year → Reached xs us k t → (t .at ≤ length xs) × (size ≤ year) × (t .secs ≤ 2 ^ 62) × (t .millis ≤ 2 ^ 62)
 asked l h r = (r .within, h, omega (arith, r .secs-few), omega (arith, r .millis-few))
 
 reached1 : (c : tie.After-take) → Reached (now (c .before .before .before .args .s)) (drop 1 units) 1 (c .take .result)

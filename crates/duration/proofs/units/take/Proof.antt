@@ -13,13 +13,14 @@ use Rattle.scan.specs.declared.byte.Class.the-variants.{Digit, Alpha}
 use Rattle.scan.specs.Byte.{isIn}
 use Rattle.scan.specs.Run.{runEnd}
 use Rattle.scan.specs.Text.{sameText}
+use Rattle.scan.specs.Digits.{valueOf}
 use Rattle.proving.proofs.Lists.{rest-of}
 use Rattle.duration.specs.Unit.{second}
 use Rattle.decimal.specs.Grammar.{between}
-use Rattle.decimal.specs.Value.{valueOf, mostTold}
-use Rattle.duration.specs.declared.units.Taken.{Taken}
+use Rattle.decimal.specs.Value.{mostTold}
+use Rattle.duration.specs.declared.units.Progress.{Progress}
 use Rattle.duration.specs.Units.{digitsEnd, partEnd, isPart, partValue, mostCounted, counted}
-use Rattle.duration.specs.steps.Units.{taken}
+use Rattle.duration.specs.steps.Units.{advanced}
 use Rattle.duration.proofs.units.Parts.{digits-within, part-within, counted-told, counted-most, seconds-fit, millis-fit}
 use borrow.Author.Needs.{needs}
 use Rattle.duration.proofs.units.take.Statement.{statement}
@@ -38,23 +39,23 @@ run-end-requires : tie.Need-run-end-requires
 run-end-requires c κs = search needs
 
 -- the step by what stands there
-abbrev made : Taken → ℕ → ℕ → ℕ → Taken
+abbrev made : Progress → ℕ → ℕ → ℕ → Progress
 made t size k n = record { at = t .at + k; secs = t .secs + n * (size / second); millis = t .millis + n * (size % second) }
 
-module _ (xs : List ℕ) (t : Taken) (name : List ℕ) (size : ℕ) where
+module _ (xs : List ℕ) (t : Progress) (name : List ℕ) (size : ℕ) where
   abbrev rest : List ℕ
   rest = drop (t .at) xs
 
-  none : (0 < digitsEnd rest → ⊥) → t ≡ taken xs t name size
-  unfolding taken isPart
+  none : (0 < digitsEnd rest → ⊥) → t ≡ advanced xs t name size
+  unfolding advanced isPart
   none h = rw (le-ltb 0 (digitsEnd rest) (omega (arith, h)))
 
-  other : sameText (between rest (digitsEnd rest) (partEnd rest)) name ≡ false → t ≡ taken xs t name size
-  unfolding taken isPart
+  other : sameText (between rest (digitsEnd rest) (partEnd rest)) name ≡ false → t ≡ advanced xs t name size
+  unfolding advanced isPart
   other e = rw (e, and-false)
 
-  some : 0 < digitsEnd rest → sameText (between rest (digitsEnd rest) (partEnd rest)) name ≡ true → made t size (partEnd rest) (counted (partValue rest)) ≡ taken xs t name size
-  unfolding taken isPart
+  some : 0 < digitsEnd rest → sameText (between rest (digitsEnd rest) (partEnd rest)) name ≡ true → made t size (partEnd rest) (counted (partValue rest)) ≡ advanced xs t name size
+  unfolding advanced isPart
   some h e = rw (lt-ltb 0 (digitsEnd rest) h, e)
 
 -- what is left of the text
@@ -65,7 +66,7 @@ module _ (c : tie.After-rest) where
   abbrev xs : List ℕ
   xs = now (a .args .s)
 
-  abbrev t : Taken
+  abbrev t : Progress
   t = a .args .t
 
   abbrev name : List ℕ
@@ -103,7 +104,7 @@ module _ (c : tie.After-counted) where
   counts =
       let s = c .before .before .before .before .before .before .before .before in
       c .counted .ensures
-      ∙ ap counted (c .before .digits-value .ensures ∙ ap₂ (λ (n : ℕ) (zs : List ℕ). min mostTold (valueOf (listn.take n zs))) (digits-is s) (rest-is at-rest))
+      ∙ ap counted (c .before .digits-value .ensures ∙ ap₂ (λ (n : ℕ) (zs : List ℕ). min mostTold (valueOf 10 (listn.take n zs))) (digits-is s) (rest-is at-rest))
       ∙ counted-told (partValue (ys at-rest))
 
   few : c .counted .result ≤ mostCounted

@@ -5,7 +5,7 @@ use mathlib.Core.List.{List}
 use mathlib.Core.Path.{_≡_, sym, ap, _∙_}
 use denote.Ref.{now}
 use Rattle.duration.specs.declared.Timing.{Timing}
-use Rattle.duration.specs.Duration.{timingOf, refusedBy}
+use Rattle.duration.specs.Duration.{timingOf, notTimed}
 use Rattle.exports.specs.Packed.{packedOf}
 use Rattle.exports.specs.Duration.{durationCode, secsLeft, nanosLeft}
 use borrow.Author.Needs.{needs}
@@ -21,8 +21,8 @@ enum-known-t c = search needs
 enum-told : tie.Need-enum-told
 enum-told c = search needs
 
-refused-by-requires : tie.Need-refused-by-requires
-refused-by-requires c κs = search needs
+not-timed-requires : tie.Need-not-timed-requires
+not-timed-requires c κs = search needs
 
 packed-requires : tie.Need-packed-requires
 packed-requires c κs = search needs
@@ -47,7 +47,7 @@ returns : tie.Need-returns
 returns c =
     let e = c .before .before .enum-told .given .1 in
     let a = answers (c .before .before .before .before) _ e in
-    (c .packed .ensures ∙ ap packedOf (c .before .refused-by .ensures ∙ ap refusedBy e) ∙ a .0, a .1)
+    (c .packed .ensures ∙ ap packedOf (c .before .not-timed .ensures ∙ ap notTimed e) ∙ a .0, a .1)
 
 returns-2 : tie.Need-returns-2
 returns-2 c = answers (c .before .before .before) _ (c .before .t .given .1)
@@ -59,7 +59,7 @@ simmerpath-parse-duration-spec =
     parse-duration-requires
     enum-known-t
     enum-told
-    refused-by-requires
+    not-timed-requires
     packed-requires
     returns
     returns-2)

@@ -6,7 +6,7 @@ use mathlib.Core.Path.{_≡_, sym, ap, _∙_}
 use denote.Ref.{now}
 use borrow.Author.Needs.{needs}
 use Rattle.number.specs.declared.Parsing.{Parsing}
-use Rattle.number.specs.Number.{parsingOf, refusedBy}
+use Rattle.number.specs.Number.{parsingOf, notParsed}
 use Rattle.exports.specs.Packed.{packedOf}
 use Rattle.exports.specs.Number.{parseCode, parseLeft}
 use Rattle.exports.proofs.numbers.simmerpath_parse_str_radix.Statement.{statement}
@@ -21,8 +21,8 @@ enum-known-p c = search needs
 enum-told : tie.Need-enum-told
 enum-told c = search needs
 
-refused-by-requires : tie.Need-refused-by-requires
-refused-by-requires c κs = search needs
+not-parsed-requires : tie.Need-not-parsed-requires
+not-parsed-requires c κs = search needs
 
 packed-requires : tie.Need-packed-requires
 packed-requires c κs = search needs
@@ -44,7 +44,7 @@ returns : tie.Need-returns
 returns c =
     let e = c .before .before .enum-told .given .1 in
     let a = answers (c .before .before .before .before) _ e in
-    (c .packed .ensures ∙ ap packedOf (c .before .refused-by .ensures ∙ ap refusedBy e) ∙ a .0, a .1)
+    (c .packed .ensures ∙ ap packedOf (c .before .not-parsed .ensures ∙ ap notParsed e) ∙ a .0, a .1)
 
 bits-of-requires : tie.Need-bits-of-requires
 bits-of-requires c κs = search needs
@@ -64,7 +64,7 @@ simmerpath-parse-str-radix-spec =
     parse-str-radix-requires
     enum-known-p
     enum-told
-    refused-by-requires
+    not-parsed-requires
     packed-requires
     returns
     bits-of-requires

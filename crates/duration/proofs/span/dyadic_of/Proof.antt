@@ -1,4 +1,4 @@
--- `duration::span::parts_of` meets its contract: the laws of `proofs/Fields.antt`.
+-- `duration::span::dyadic_of` meets its contract: the laws of `proofs/Fields.antt`.
 use mathlib.Core.Path.{sym, subst}
 use native.Mathlib.Nat.{mod-lt}
 use native.Mathlib.Omega.{arith}
@@ -8,8 +8,8 @@ use lib.Ieee.{Float, nan, inf, fin, binary64, fits, isNan, lt}
 use mathlib.Core.Bool.{not}
 use Rattle.duration.specs.Spans.{twoTo64}
 use Rattle.duration.proofs.span.Fields.{exponent-le, shift-le, masked-lt, value}
-use Rattle.duration.proofs.span.parts_of.Statement.{statement}
-use Rattle.duration.proofs.span.parts_of.Tie as tie
+use Rattle.duration.proofs.span.dyadic_of.Statement.{statement}
+use Rattle.duration.proofs.span.dyadic_of.Tie as tie
 
 -- what owning an `f64` tells: the format holds it
 held : (c : tie.Start) → T (fits binary64 (c .args .x))
@@ -34,5 +34,5 @@ returns : tie.Need-returns
 returns c =
     (value (c .args .x) (held c) (c .pre .0) (c .pre .1), (shift-le (c .args .x) (held c) (c .pre .0) (c .pre .1), mod-lt _ (pow-pos 64)))
 
-pub parts-of-spec : {M : Type 1} → statement M
-parts-of-spec = tie.close (tie.spec float-to-bits-bits add-t4 sub-t7 returns)
+pub dyadic-of-spec : {M : Type 1} → statement M
+dyadic-of-spec = tie.close (tie.spec float-to-bits-bits add-t4 sub-t7 returns)

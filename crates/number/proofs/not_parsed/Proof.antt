@@ -1,9 +1,9 @@
 -- The refusal is that of an answer that is known to have one.
 use mathlib.Core.Path.{sym, ap, _∙_}
-use Rattle.duration.specs.Duration.{refusedBy}
+use Rattle.number.specs.Number.{notParsed}
 use borrow.Author.Needs.{needs}
-use Rattle.duration.proofs.refused_by.Statement.{statement}
-use Rattle.duration.proofs.refused_by.Tie as tie
+use Rattle.number.proofs.not_parsed.Statement.{statement}
+use Rattle.number.proofs.not_parsed.Tie as tie
 
 enum-known-answer : tie.Need-enum-known-answer
 enum-known-answer c = search needs
@@ -15,11 +15,11 @@ at-start-requires : tie.Need-at-start-requires
 at-start-requires c κs = search needs
 
 returns : tie.Need-returns
-returns c = c .at-start .ensures ∙ sym (ap refusedBy (c .before .enum-told .given .1))
+returns c = c .at-start .ensures ∙ sym (ap notParsed (c .before .enum-told .given .1))
 
 returns-2 : tie.Need-returns-2
-returns-2 c = sym (ap refusedBy (c .before .answer .given .1))
+returns-2 c = sym (ap notParsed (c .before .answer .given .1))
 
-pub refused-by-spec : {M : Type 1} → statement M
-refused-by-spec =
+pub not-parsed-spec : {M : Type 1} → statement M
+not-parsed-spec =
     tie.close (tie.spec enum-known-answer enum-told at-start-requires returns returns-2)
