@@ -3,16 +3,15 @@ use Prim.Native.Nat.{ℕ, _+_, _*_, _/_, _%_}
 use mathlib.Core.Bool.{Bool, true, false, cond, _&&_, not}
 use mathlib.Core.List.{List, [], _∷_, _++_}
 use lib.Dec.{leb, eqb}
-use lib.ListN.{length, drop}
 use Rattle.scan.specs.Ascii.{ascii}
-use Rattle.utf8.specs.declared.Refusal.{Refusal}
-use Rattle.utf8.specs.Answers.{atStart, noRoom, noRefusal}
+use Rattle.utf8.specs.declared.Writing.{Writing}
+use Rattle.utf8.specs.declared.Writing.the-variants.{Refused}
+use Rattle.utf8.specs.Answers.{atStart}
+use Rattle.utf8.specs.Writing.{fitted}
 use Rattle.writing.specs.Decimal.{decimalText}
 use Rattle.duration.specs.declared.span.Duration.{Duration}
 use Rattle.duration.specs.Unit.{Unit, unit, milli, second, minute, hour, day, week, year, nanosAMilli, nanosASecond}
 use Rattle.duration.specs.Spans.{isZero}
-use Rattle.duration.specs.declared.display.Displaying.{Displaying}
-use Rattle.duration.specs.declared.display.Displaying.the-variants.{Written, Refused}
 
 -- "drop what is under a millisecond (999,999 ns writes nothing)"
 abbrev pub millisOf : Duration → ℕ
@@ -54,23 +53,9 @@ written (w ∷ ws) ms = partOf w ms ++ written ws (restOf w ms)
 unfoldable pub textOf : Duration → List ℕ
 textOf d = cond (isZero d) (ascii "0s") (written rows (millisOf d))
 
--- 3, or the length
-abbrev pub fitted : ℕ → List ℕ → Displaying
-fitted room text = cond (leb (length text) room) (Written (length text)) (Refused noRoom)
-
 -- "Writing refuses nanoseconds of 1,000,000,000 and over with 54, then only 3."
 abbrev pub overRange : ℕ
 overRange = 54
 
-unfoldable pub displayingOf : ℕ → Duration → Displaying
+unfoldable pub displayingOf : ℕ → Duration → Writing
 displayingOf room d = cond (leb nanosASecond (d .nanos)) (Refused (atStart overRange)) (fitted room (textOf d))
-
--- what the buffer holds then
-abbrev pub leftBy : Displaying → List ℕ → List ℕ → List ℕ
-leftBy (Written n) text d = text ++ drop n d
-leftBy (Refused r) text d = d
-
--- the refusal of an answer, and of one that has none the number 0, which is no refusal's
-abbrev pub refusedBy : Displaying → Refusal
-refusedBy (Written n) = noRefusal
-refusedBy (Refused r) = r

@@ -1,21 +1,16 @@
 // A duration is written in its units: its text is measured first, so that a refused call writes nothing.
 use crate::span;
 use crate::span::Duration;
-use utf8::Refusal;
+use utf8::Writing;
 ghost use mathlib.Core.Path.{_≡_};
 ghost use Prim.Native.Nat.{_+_, _*_, _≤_, _<_};
 ghost use lib.ListN.{length};
 ghost use lib.Seq.{sets};
+ghost use Rattle.utf8.specs.Writing.{leftBy};
 ghost use Rattle.writing.specs.Decimal.{decimalText};
 ghost use Rattle.duration.specs.Unit.{day, nanosASecond};
-ghost use Rattle.duration.specs.Display.{rows, counted, written, millisOf, textOf, displayingOf, leftBy, refusedBy};
+ghost use Rattle.duration.specs.Display.{rows, counted, written, millisOf, textOf, displayingOf};
 ghost use Rattle.duration.specs.steps.Display.{Stored, wholeOf, longestUnit, longestPart, joined, sizes, textsOf};
-
-// How many bytes of a duration's text were written, or why none were.
-pub enum Displaying {
-    Written(usize),
-    Refused(Refusal),
-}
 
 // Document 01's refusal of nanoseconds that are a second or more.
 pub const OVER_RANGE: usize = 54;
@@ -143,33 +138,23 @@ fn put_parts(out: &mut [u8], counts: Counts)
 }
 
 // Writes the text of a duration at the front of a lent buffer; nothing where it is refused.
-pub fn display_duration(duration: Duration, out: &mut [u8]) -> Displaying
+pub fn display_duration(duration: Duration, out: &mut [u8]) -> Writing
     ensures { λ r. ⌜ r ≡ displayingOf (length (now (out .entry))) duration ⌝ }
     ensures { λ r. ⌜ now (out .exit) ≡ leftBy r (textOf duration) (now (out .entry)) ⌝ }
 {
     if duration.nanos >= NANOS_A_SECOND {
-        return Displaying::Refused(utf8::at_start(OVER_RANGE));
+        return Writing::Refused(utf8::at_start(OVER_RANGE));
     }
     let zero = span::is_zero(duration);
     let counts = counts_of(duration);
     let n = if zero { ZERO.len() } else { text_size(counts) };
     if out.len() < n {
-        return Displaying::Refused(utf8::at_start(utf8::NO_ROOM));
+        return Writing::Refused(utf8::at_start(utf8::NO_ROOM));
     }
     if zero {
         writing::put_text(out, 0, &ZERO);
     } else {
         put_parts(out, counts);
     }
-    Displaying::Written(n)
-}
-
-// Why a duration is not written; where it is, a refusal of no number.
-pub fn refused_by(answer: Displaying) -> Refusal
-    ensures { λ r. ⌜ r ≡ refusedBy answer ⌝ }
-{
-    let Displaying::Refused(r) = answer else {
-        return utf8::at_start(utf8::NO_REFUSAL);
-    };
-    r
+    Writing::Written(n)
 }

@@ -5,4 +5,5 @@ pub mod Packed
 pub mod String
 pub mod Token
 pub mod Utf8
+pub mod Written
 pub mod laws

@@ -16,10 +16,11 @@ use Rattle.utf8.specs.Text.{WellFormed}
 use Rattle.utf8.specs.Answers.{textLimit}
 use Rattle.utf8.specs.laws.Refusals.{Taken}
 use Rattle.utf8.proofs.Laws.{text-join}
-use Rattle.string.specs.declared.escape.Escaping.{Escaping}
-use Rattle.string.specs.declared.escape.Escaping.the-variants.{Written}
+use Rattle.utf8.specs.declared.Writing.{Writing}
+use Rattle.utf8.specs.declared.Writing.the-variants.{Written}
+use Rattle.utf8.specs.Writing.{leftBy}
 use Rattle.string.specs.declared.Unquoting.{Unquoting}
-use Rattle.string.specs.Escape.{escaped, escapingOf, leftBy}
+use Rattle.string.specs.Escape.{escaped, escapingOf}
 use Rattle.string.specs.Literal.{isBadLiteral, unquoted, unquotingOf, textBy, partOf}
 use Rattle.string.specs.laws.ReadBack.{quoted, isRead}
 use Rattle.string.proofs.escape.Escapes.{escape-join, escaped-text, written-told}
@@ -81,7 +82,7 @@ wrote {x = x} {ys = ys} c =
     let out = now (c .call .args .1 .0) in
     let a : escapingOf (length out) x ≡ Written (c .size) = rw (c .call .of-text) at (sym (c .call .post .0) ∙ c .accepted) in
     let w = written-told (length out) x (c .size) a in
-    let l : now (c .call .exit .1 .0) ≡ escaped x ++ drop (c .size) out = c .call .post .1 ∙ ap₂ (λ (e : Escaping) (zs : List ℕ). leftBy e (escaped zs) out) (c .accepted) (c .call .of-text) in
+    let l : now (c .call .exit .1 .0) ≡ escaped x ++ drop (c .size) out = c .call .post .1 ∙ ap₂ (λ (e : Writing) (zs : List ℕ). leftBy e (escaped zs) out) (c .accepted) (c .call .of-text) in
     let f : take (c .size) (escaped x ++ drop (c .size) out) ≡ escaped x = rw (w .1) (take-append-seam (escaped x) (drop (length (escaped x)) out)) in
     (w .0, sym (c .front) ∙ ap (take (c .size)) l ∙ f)
 

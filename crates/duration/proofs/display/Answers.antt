@@ -9,7 +9,7 @@ use lib.Seq.{sets, sets-eq}
 use borrow.Author.Tests.{le-leb, lt-leb}
 use Rattle.utf8.specs.Answers.{atStart, noRoom}
 use Rattle.duration.specs.declared.span.Duration.{Duration}
-use Rattle.duration.specs.declared.display.Displaying.the-variants.{Written, Refused}
+use Rattle.utf8.specs.declared.Writing.the-variants.{Written, Refused}
 use Rattle.duration.specs.Unit.{nanosASecond}
 use Rattle.duration.specs.Display.{overRange, textOf, displayingOf}
 

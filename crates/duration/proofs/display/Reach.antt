@@ -8,11 +8,11 @@ use Rattle.proving.proofs.Choice.{either}
 use Rattle.utf8.proofs.Bounds as within
 use Rattle.duration.specs.declared.span.Duration.{Duration}
 use Rattle.duration.specs.Unit.{nanosASecond}
-use Rattle.duration.specs.declared.display.Displaying.{Displaying}
-use Rattle.duration.specs.declared.display.Displaying.the-variants.{Written, Refused}
+use Rattle.utf8.specs.declared.Writing.{Writing}
+use Rattle.utf8.specs.declared.Writing.the-variants.{Written, Refused}
 use Rattle.duration.specs.Display.{overRange, textOf, displayingOf}
 
-abbrev pub Bounded : ℕ → Displaying → Type 0
+abbrev pub Bounded : ℕ → Writing → Type 0
 Bounded room (Written n) = n ≤ room
 Bounded room (Refused r) = within.Placed overRange 0 r
 

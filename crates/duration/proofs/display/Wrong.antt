@@ -2,28 +2,26 @@
 -- the theorem's name says, cannot be proved. `display-duration-gives` is what the promise answers at arguments, which is the definition's value.
 use Prim.Native.Nat.{ℕ}
 use mathlib.Core.List.{List}
-use mathlib.Core.Path.{_≡_, ap, _∙_}
+use mathlib.Core.Path.{_≡_}
 use lib.ListN.{length}
 use denote.Ref.{now}
 use Rattle.scan.specs.Ascii.{ascii}
 use Rattle.proving.proofs.One.{Answers, Leaves}
-use Rattle.utf8.specs.Answers.{atStart, noRoom, place, notUtf8}
+use Rattle.utf8.specs.Answers.{atStart, noRoom}
+use Rattle.utf8.specs.Writing.{leftBy}
 use Rattle.writing.specs.Decimal.{signOf, digitsOf, decimalText}
 use Rattle.duration.specs.declared.span.Duration.{Duration}
-use Rattle.duration.specs.declared.display.Displaying.{Displaying}
-use Rattle.duration.specs.declared.display.Displaying.the-variants.{Written, Refused}
-use Rattle.duration.specs.Display.{counted, partOf, restOf, textOf, displayingOf, leftBy, refusedBy}
-use Rattle.utf8.specs.declared.Refusal.{Refusal}
+use Rattle.utf8.specs.declared.Writing.{Writing}
+use Rattle.utf8.specs.declared.Writing.the-variants.{Written, Refused}
+use Rattle.duration.specs.Display.{counted, partOf, restOf, textOf, displayingOf}
 use Rattle.duration.proofs.display.display_duration.Kinds as display-duration
 use Rattle.duration.proofs.display.display_duration.Reads as display-duration-reads
-use Rattle.duration.proofs.display.refused_by.Kinds as refused-by
-use Rattle.duration.proofs.display.refused_by.Reads as refused-by-reads
 
 abbrev duration : ℕ → ℕ → Duration
 duration s n = record { secs = s; nanos = n }
 
 -- a duration, and how long the buffer is
-abbrev display-duration-gives : Duration → ℕ → Displaying → Type 0
+abbrev display-duration-gives : Duration → ℕ → Writing → Type 0
 display-duration-gives d room v =
     Answers display-duration.ps display-duration.r display-duration-reads.Post (λ κs a. (a .0 ≡ d) × (length (now (a .1 .0)) ≡ room)) (λ κs. v)
 
@@ -89,15 +87,3 @@ refusal-for-room-writes-nothing = display-duration-left-out _ _
 pub refusal-for-range-writes-nothing : display-duration-leaves-out (duration 1 1000000000) (ascii "?????") (ascii "?????")
 unfolding displayingOf textOf partOf restOf counted decimalText digitsOf signOf
 refusal-for-range-writes-nothing = display-duration-left-out _ _
-
-abbrev refused-by-gives : Displaying → Refusal → Type 0
-refused-by-gives t v = Answers refused-by.ps refused-by.r refused-by-reads.Post (λ κs a. a .0 ≡ t) (λ κs. v)
-
-refused-by-at : (t : Displaying) → refused-by-gives t (refusedBy t)
-refused-by-at t κs a x e p h = p ∙ ap refusedBy h
-
-pub refusal-is-told-with-its-place : refused-by-gives (Refused (notUtf8 (place 3 2))) (notUtf8 (place 3 2))
-refusal-is-told-with-its-place = refused-by-at _
-
-pub text-that-is-written-has-no-refusal : refused-by-gives (Written 2) (atStart 0)
-text-that-is-written-has-no-refusal = refused-by-at _

@@ -5,9 +5,10 @@ use mathlib.Core.List.{[]}
 use mathlib.Core.Logic.{_↔_}
 use mathlib.Core.Path.{_≡_}
 use lib.ListN.{length}
+use Rattle.utf8.specs.declared.Writing.the-variants.{Written, Refused}
 use Rattle.utf8.specs.Answers.{atStart, noRoom}
+use Rattle.utf8.specs.laws.Refusals.{NoRoom}
 use Rattle.duration.specs.declared.span.Duration.{Duration}
-use Rattle.duration.specs.declared.display.Displaying.the-variants.{Written, Refused}
 use Rattle.duration.specs.Unit.{units, nanosAMilli, nanosASecond}
 use Rattle.duration.specs.Units.{behind, sumBy, lasting}
 use Rattle.duration.specs.Display.{overRange, millisOf, textOf, displayingOf}
@@ -16,16 +17,12 @@ use Rattle.duration.specs.Display.{overRange, millisOf, textOf, displayi
 abbrev pub OverRange : Duration → Type 0
 OverRange d = nanosASecond ≤ d .nanos
 
--- 3 "result needs more room"
-abbrev pub NoRoom : ℕ → Duration → Type 0
-NoRoom room d = room < length (textOf d)
-
 abbrev pub DisplayingGiven : Type 0
 DisplayingGiven =
     (room : ℕ) (d : Duration) →
     (displayingOf room d ≡ Refused (atStart overRange) ↔ OverRange d)
-    × (displayingOf room d ≡ Refused noRoom ↔ (¬ (OverRange d)) × NoRoom room d)
-    × (displayingOf room d ≡ Written (length (textOf d)) ↔ (¬ (OverRange d)) × (¬ (NoRoom room d)))
+    × (displayingOf room d ≡ Refused noRoom ↔ (¬ (OverRange d)) × NoRoom room (textOf d))
+    × (displayingOf room d ≡ Written (length (textOf d)) ↔ (¬ (OverRange d)) × (¬ (NoRoom room (textOf d))))
 
 -- no text is longer
 abbrev pub longest : ℕ

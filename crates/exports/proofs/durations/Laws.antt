@@ -7,14 +7,15 @@ use Rattle.duration.specs.declared.Timing.{Timing}
 use Rattle.duration.specs.declared.Timing.the-variants.{Lasts, Refused}
 use Rattle.duration.specs.Duration.{timingOf}
 use Rattle.duration.proofs.Bounds.{Bounded, timing-bound}
-use Rattle.duration.specs.declared.display.Displaying.{Displaying}
-use Rattle.duration.specs.declared.display.Displaying.the-variants as displaying
+use Rattle.utf8.specs.declared.Writing.{Writing}
+use Rattle.utf8.specs.declared.Writing.the-variants as writing
 use Rattle.duration.specs.Display.{displayingOf}
 use Rattle.duration.proofs.display.Reach as displaying-bounds
 use Rattle.duration.proofs.display.Reach.{displaying-bound}
 use Rattle.exports.specs.Packed.{refusedFrom}
-use Rattle.exports.specs.Duration.{durationCode, displayingCode}
-use Rattle.exports.specs.laws.Codes.{looksRefused, isNoDuration, DurationTold, DurationKept, isNotDisplayed, DurationDisplayTold, DurationDisplayKept}
+use Rattle.exports.specs.Duration.{durationCode}
+use Rattle.exports.specs.Written.{writtenCode}
+use Rattle.exports.specs.laws.Codes.{looksRefused, isNoDuration, DurationTold, DurationKept, isNotWritten, DurationDisplayTold, DurationDisplayKept}
 use Rattle.exports.proofs.packing.Laws.{packed-told, placed-kept}
 
 pub duration-told : DurationTold
@@ -30,9 +31,9 @@ duration-kept xs r e = placed-kept (omega arith) (omega arith) (subst Bounded e 
 pub duration-display-told : DurationDisplayTold
 duration-display-told room d h = go (displayingOf room d) (displaying-bound room d)
   where
-    go : (e : Displaying) → displaying-bounds.Bounded room e → looksRefused (displayingCode e) ≡ isNotDisplayed e
-    go (displaying.Written n) b = lt-leb refusedFrom n (omega arith)
-    go (displaying.Refused r) b = packed-told r
+    go : (e : Writing) → displaying-bounds.Bounded room e → looksRefused (writtenCode e) ≡ isNotWritten e
+    go (writing.Written n) b = lt-leb refusedFrom n (omega arith)
+    go (writing.Refused r) b = packed-told r
 
 pub duration-display-kept : DurationDisplayKept
 duration-display-kept room d r e =

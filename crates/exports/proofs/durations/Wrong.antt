@@ -16,15 +16,17 @@ use Rattle.utf8.specs.Table.{fits, sizeIn, charLength}
 use Rattle.utf8.specs.Code.{codeOf}
 use Rattle.utf8.specs.Text.{charsPast, sizeOf}
 use Rattle.utf8.specs.Answers.{validityOf, admitted}
+use Rattle.utf8.specs.Writing.{leftBy}
 use Rattle.scan.specs.Sign.{isSign}
 use Rattle.decimal.specs.Grammar.{hasDigits, exponentHasDigits, isNumeral, isInfinite, isNan}
 use Rattle.decimal.specs.Value.{valueFrom, decimalIn, decimalOf}
 use Rattle.duration.specs.Units.{isPart, behind, sumBy, counted, isUnitText, unitsOf}
 use Rattle.duration.specs.Duration.{durationRead, timingOf}
 use Rattle.writing.specs.Decimal.{signOf, digitsOf, decimalText}
-use Rattle.duration.specs.Display.{counted as shownAs, partOf, restOf, textOf, displayingOf, leftBy}
+use Rattle.duration.specs.Display.{counted as shownAs, partOf, restOf, textOf, displayingOf}
 use Rattle.exports.specs.Packed.{packedAs}
-use Rattle.exports.specs.Duration.{durationCode, secsLeft, nanosLeft, durationOf, displayingCode}
+use Rattle.exports.specs.Duration.{durationCode, secsLeft, nanosLeft, durationOf}
+use Rattle.exports.specs.Written.{writtenCode}
 use Rattle.exports.proofs.durations.simmerpath_parse_duration.Kinds as simmerpath-parse-duration
 use Rattle.exports.proofs.durations.simmerpath_parse_duration.Reads as simmerpath-parse-duration-reads
 use Rattle.exports.proofs.durations.simmerpath_display_duration.Kinds as simmerpath-display-duration
@@ -92,7 +94,7 @@ abbrev simmerpath-display-duration-gives : ℕ → ℕ → List ℕ → ℕ → 
 simmerpath-display-duration-gives secs nanos out v =
     Answers simmerpath-display-duration.ps simmerpath-display-duration.r simmerpath-display-duration-reads.Post (Given secs nanos out) (λ κs. v)
 
-simmerpath-display-duration-at : (secs nanos : ℕ) (out : List ℕ) → simmerpath-display-duration-gives secs nanos out (displayingCode (displayingOf (length out) (durationOf secs nanos)))
+simmerpath-display-duration-at : (secs nanos : ℕ) (out : List ℕ) → simmerpath-display-duration-gives secs nanos out (writtenCode (displayingOf (length out) (durationOf secs nanos)))
 simmerpath-display-duration-at secs nanos out κs a x e p h = cc (p .0, h .0, h .1, h .2)
 
 pub duration-fits-just-its-length : simmerpath-display-duration-gives 2 0 (ascii "..") 2

@@ -6,8 +6,8 @@ use mathlib.Core.Bool.{_&&_, not}
 use mathlib.Core.Path.{_≡_, refl, subst}
 use lib.Dec.{leb}
 use borrow.Author.Tests.{le-leb, lt-leb}
-use Rattle.string.specs.declared.escape.Escaping.{Escaping}
-use Rattle.string.specs.declared.escape.Escaping.the-variants.{Written, Refused}
+use Rattle.utf8.specs.declared.Writing.{Writing}
+use Rattle.utf8.specs.declared.Writing.the-variants.{Written, Refused}
 use Rattle.string.specs.Escape.{escapingOf}
 use Rattle.string.proofs.escape.Bounds.{Bounded, escaping-bound}
 use Rattle.string.specs.declared.Unquoting.{Unquoting}
@@ -17,14 +17,15 @@ use Rattle.string.specs.Literal.{unquotingOf}
 use Rattle.string.proofs.Bounds as unquoting-bounds
 use Rattle.string.proofs.Bounds.{unquoting-bound}
 use Rattle.exports.specs.Packed.{refusedFrom}
-use Rattle.exports.specs.String.{escapeCode, innerFrom, unquoteCode}
-use Rattle.exports.specs.laws.Codes.{looksRefused, isNotEscaped, EscapeTold, EscapeKept, isInner, UnquoteTold, UnquoteKept}
+use Rattle.exports.specs.String.{innerFrom, unquoteCode}
+use Rattle.exports.specs.Written.{writtenCode}
+use Rattle.exports.specs.laws.Codes.{looksRefused, isNotWritten, EscapeTold, EscapeKept, isInner, UnquoteTold, UnquoteKept}
 use Rattle.exports.proofs.packing.Laws.{small, packed-told, placed-kept}
 
 pub escape-told : EscapeTold
 escape-told room xs = go (escapingOf room xs) (escaping-bound room xs)
   where
-    go : (e : Escaping) → Bounded e → looksRefused (escapeCode e) ≡ isNotEscaped e
+    go : (e : Writing) → Bounded e → looksRefused (writtenCode e) ≡ isNotWritten e
     go (Written n) h = small n h
     go (Refused r) h = packed-told r
 

@@ -18,14 +18,16 @@ use Rattle.utf8.specs.Text.{charsPast, sizeOf}
 use Rattle.utf8.specs.Answers.{textLimit, validityOf, admitted, characterAt}
 use Rattle.utf8.specs.laws.Characters.{isAscii}
 use Rattle.utf8.proofs.Ascii.{ascii-text}
-use Rattle.string.specs.declared.escape.Escaping.the-variants.{Written}
-use Rattle.string.specs.Escape.{letterOf, orLetter, escapedCodes, escaped, escapingOf, leftBy}
+use Rattle.utf8.specs.declared.Writing.the-variants.{Written}
+use Rattle.utf8.specs.Writing.{leftBy}
+use Rattle.string.specs.Escape.{letterOf, orLetter, escapedCodes, escaped, escapingOf}
 use Rattle.string.proofs.escape.Given.{escaping-given}
 use Rattle.string.specs.Tile.{letterValue, numeralFrom, isAllowed, numbered, escapeOf, beginsEscape, tileOf}
 use Rattle.string.specs.Tiles.{tilesPast, hasBad, pieceBytes, bytesOf}
 use Rattle.string.specs.Literal.{isQuote, isEnclosed, hasNewline, hasEscape, unquoted, extentOf, unquotingOf, textBy}
 use Rattle.exports.specs.Packed.{packedAs}
-use Rattle.exports.specs.String.{escapeCode, readingOf, innerFrom, unquoteCode}
+use Rattle.exports.specs.Written.{writtenCode}
+use Rattle.exports.specs.String.{readingOf, innerFrom, unquoteCode}
 use Rattle.exports.proofs.strings.simmerpath_escape_string.Kinds as simmerpath-escape-string
 use Rattle.exports.proofs.strings.simmerpath_escape_string.Reads as simmerpath-escape-string-reads
 use Rattle.exports.proofs.strings.simmerpath_unquote_string.Kinds as simmerpath-unquote-string
@@ -44,7 +46,7 @@ abbrev simmerpath-escape-string-gives : List ℕ → ℕ → ℕ → Type 0
 simmerpath-escape-string-gives xs room v =
     Answers simmerpath-escape-string.ps simmerpath-escape-string.r simmerpath-escape-string-reads.Post (λ κs a. (now (a .0) ≡ xs) × (length (now (a .1 .0)) ≡ room)) (λ κs. v)
 
-simmerpath-escape-string-at : (xs : List ℕ) (room : ℕ) → simmerpath-escape-string-gives xs room (escapeCode (escapingOf room xs))
+simmerpath-escape-string-at : (xs : List ℕ) (room : ℕ) → simmerpath-escape-string-gives xs room (writtenCode (escapingOf room xs))
 simmerpath-escape-string-at xs room κs a x e p h = cc (p .0, h .0, h .1)
 
 pub quote-is-escaped-to-two-bytes : simmerpath-escape-string-gives (ascii "\"") 2 2
@@ -73,7 +75,7 @@ quotes-written n h =
 -- 32,768 double quotes are escaped to 65,536 bytes, more than 16 bits tell
 pub length-of-seventeen-bits-is-told : simmerpath-escape-string-gives (quotes 0x8000) 0x10000 0x10000
 length-of-seventeen-bits-is-told κs a x e p h =
-    simmerpath-escape-string-at _ _ κs a x e p h ∙ ap escapeCode (quotes-written 0x8000 (omega arith))
+    simmerpath-escape-string-at _ _ κs a x e p h ∙ ap writtenCode (quotes-written 0x8000 (omega arith))
 
 abbrev simmerpath-escape-string-leaves-out : List ℕ → List ℕ → List ℕ → Type 0
 simmerpath-escape-string-leaves-out xs out v =

@@ -11,8 +11,8 @@ use Rattle.utf8.specs.declared.Admission.the-variants as admission
 use Rattle.utf8.specs.Answers.{textLimit, admitted}
 use Rattle.utf8.proofs.Bounds as within
 use Rattle.utf8.proofs.Given.{admitted-text}
-use Rattle.string.specs.declared.escape.Escaping.{Escaping}
-use Rattle.string.specs.declared.escape.Escaping.the-variants.{Written, Refused}
+use Rattle.utf8.specs.declared.Writing.{Writing}
+use Rattle.utf8.specs.declared.Writing.the-variants.{Written, Refused}
 use Rattle.string.specs.Escape.{escaped, escapingAs, escapingOf}
 use Rattle.string.specs.steps.Bytes.{escapedByte, escapedBytes}
 use Rattle.string.proofs.escape.Escapes.{byte-few, by-characters-escaped}
@@ -22,7 +22,7 @@ unfolding escapedBytes
 escaped-few [] = omega arith
 escaped-few (x ∷ xs) = omega (arith, length-append (escapedByte x) (escapedBytes xs), byte-few x, escaped-few xs)
 
-abbrev pub Bounded : Escaping → Type 0
+abbrev pub Bounded : Writing → Type 0
 Bounded (Written n) = n ≤ 2 * textLimit
 Bounded (Refused r) = within.Placed 3 textLimit r
 

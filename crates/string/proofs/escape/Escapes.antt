@@ -28,9 +28,10 @@ use Rattle.utf8.proofs.Laws.{none-empty, rest-well, none-ascii, ascii-code, one
 use Rattle.utf8.proofs.Ascii.{ascii-text, one-ascii}
 use Rattle.utf8.proofs.Given.{admitted-text}
 use Rattle.utf8.proofs.Inverse.{decode-encode, long-code}
-use Rattle.string.specs.declared.escape.Escaping.{Escaping}
-use Rattle.string.specs.declared.escape.Escaping.the-variants.{Written, Refused}
-use Rattle.string.specs.Escape.{noLetter, letterOf, orLetter, escaped, escapingAs, escapingOf, leftBy}
+use Rattle.utf8.specs.declared.Writing.{Writing}
+use Rattle.utf8.specs.declared.Writing.the-variants.{Written, Refused}
+use Rattle.utf8.specs.Writing.{leftBy}
+use Rattle.string.specs.Escape.{noLetter, letterOf, orLetter, escaped, escapingAs, escapingOf}
 use Rattle.string.specs.laws.Escape.{EscapeJoin, EscapedText}
 use Rattle.string.specs.steps.Bytes.{escapedByte, escapedBytes}
 
@@ -175,11 +176,11 @@ module _ (xs d : List ℕ) where
     left h = rw by-bytes (sets-eq (escapedBytes xs) d 0 (omega arith) ∙ rw zero-add)
 
 -- and what an accepted one says
-abbrev tag : Escaping → ℕ
+abbrev tag : Writing → ℕ
 tag (Written n) = 0
 tag (Refused r) = 1
 
-abbrev sizeOf : Escaping → ℕ
+abbrev sizeOf : Writing → ℕ
 sizeOf (Written n) = n
 sizeOf (Refused r) = 0
 

@@ -10,7 +10,7 @@ use Rattle.scan.specs.Text.{Stands}
 use Rattle.utf8.specs.declared.Reading.{Reading}
 use Rattle.utf8.specs.Text.{prefixEnd, WellFormed}
 use Rattle.utf8.specs.Answers.{textLimit, placeAt, tooLong, notUtf8, noRoom}
-use Rattle.utf8.specs.laws.Refusals.{TooLong, NotUtf8, Taken}
+use Rattle.utf8.specs.laws.Refusals.{TooLong, NotUtf8, NoRoom, Taken}
 use Rattle.string.specs.declared.tile.Tile.{Tile}
 use Rattle.string.specs.declared.tile.Tile.the-variants.{Bad}
 use Rattle.string.specs.Tile.{backquote}
@@ -64,10 +64,6 @@ BadLiteral xs = TooShort xs ⊎ (SignsDiffer xs ⊎ (NoQuoteSign xs ⊎ (Newline
 abbrev pub WithEscape : List ℕ → Type 0
 WithEscape xs = (¬ (signOf xs ≡ backquote)) × Stands backslash (innerOf xs)
 
--- 3 "result needs more room"
-abbrev pub NoRoom : Reading → ℕ → List ℕ → Type 0
-NoRoom r room xs = room < length (unquoted r xs)
-
 abbrev pub UnquotingGiven : Type 0
 UnquotingGiven =
     (r : Reading) (room : ℕ) (xs : List ℕ) →
@@ -75,6 +71,6 @@ UnquotingGiven =
     (u ≡ Refused tooLong ↔ TooLong textLimit xs)
     × (u ≡ Refused (notUtf8 (placeAt xs (prefixEnd xs))) ↔ (¬ (TooLong textLimit xs)) × NotUtf8 xs)
     × (u ≡ Refused badLiteral ↔ Taken textLimit xs × BadLiteral xs)
-    × (u ≡ Refused noRoom ↔ Taken textLimit xs × (¬ (BadLiteral xs)) × WithEscape xs × NoRoom r room xs)
+    × (u ≡ Refused noRoom ↔ Taken textLimit xs × (¬ (BadLiteral xs)) × WithEscape xs × NoRoom room (unquoted r xs))
     × (u ≡ Inner (length (innerOf xs)) ↔ Taken textLimit xs × (¬ (BadLiteral xs)) × (¬ (WithEscape xs)))
-    × (u ≡ Written (length (unquoted r xs)) ↔ Taken textLimit xs × (¬ (BadLiteral xs)) × WithEscape xs × (¬ (NoRoom r room xs)))
+    × (u ≡ Written (length (unquoted r xs)) ↔ Taken textLimit xs × (¬ (BadLiteral xs)) × WithEscape xs × (¬ (NoRoom room (unquoted r xs))))

@@ -7,7 +7,7 @@ use lib.ListN.{length}
 use denote.Ref.{now}
 use Rattle.scan.specs.Ascii.{ascii}
 use Rattle.duration.specs.declared.span.Duration.{Duration}
-use Rattle.duration.specs.declared.display.Displaying.the-variants.{Refused}
+use Rattle.utf8.specs.declared.Writing.the-variants.{Refused}
 use Rattle.duration.specs.Display.{textOf}
 use Rattle.duration.specs.steps.Display.{joined, textsOf}
 use Rattle.duration.proofs.display.Steps.{stored-put, joined-size, text-zero, text-written}
