@@ -11,7 +11,8 @@ use Rattle.utf8.specs.Table.{fits, sizeIn, charLength}
 use Rattle.utf8.specs.Text.{charsPast, sizeOf}
 use Rattle.utf8.specs.Answers.{validityOf, admitted, atStart}
 use Rattle.utf8.specs.Code.{isScalar, encoded, sixBits, codeOf}
-use Rattle.string.specs.Tile.{letterValue, numeralFrom, isAllowed, numbered, escapeOf, beginsEscape, tileOf}
+use Rattle.string.specs.Letters.{valueIn, letterValue}
+use Rattle.string.specs.Tile.{numeralFrom, isAllowed, numbered, escapeOf, beginsEscape, tileOf}
 use Rattle.string.specs.Tiles.{tilesPast, hasBad, pieceBytes, bytesOf}
 use Rattle.string.specs.Literal.{isQuote, isEnclosed, hasNewline}
 use Rattle.scan.specs.Sign.{isSign}
@@ -65,7 +66,7 @@ unfolding textOf partOf restOf shownAs decimalText digitsIn signOf
 written-weeks = refl
 
 pub texts-shown : Each Shown texts
-unfolding isWithin isHexDigit digitOf isScalar encoded sixBits letterValue isDigitIn numeralFrom isAllowed numbered escapeOf beginsEscape tileOf tilesPast hasBad pieceBytes bytesOf isQuote isEnclosed has hasNewline
+unfolding isWithin isHexDigit digitOf isScalar encoded sixBits letterValue valueIn isDigitIn numeralFrom isAllowed numbered escapeOf beginsEscape tileOf tilesPast hasBad pieceBytes bytesOf isQuote isEnclosed has hasNewline
 texts-shown = ((refl, refl), ((refl, refl), (timed-zero, (timed-none, (timed-decimal, (timed-units, (written-days, (written-weeks, tt))))))))
 
 -- what holds of each row of two tables holds of each of both

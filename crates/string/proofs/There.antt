@@ -64,7 +64,7 @@ module _ (q : ℕ) (l : q < 0x80) (h : 0 < q) where
       go [] r w b ih = absurd (rw (tiles-none q) at b)
       go (z ∷ zs) r w b ih =
           let a = tiles-some q l (z ∷ zs) (omega arith) in
-          by (z ∷ zs) (tileOf q (z ∷ zs)) (omega arith) r w refl a (each-fair q (z ∷ zs) l) (text-behind q (z ∷ zs) l h w) (rw a at b) ih
+          by (z ∷ zs) (tileOf q (z ∷ zs)) (omega arith) r w refl a (each-fair q (z ∷ zs) l) (text-behind q (z ∷ zs) l w) (rw a at b) ih
 
   abbrev Back : ℕ → List ℕ → Type 0
   Back k ys = (at : ℕ) → at ≡ sizesOf (take k (tilesOf q ys)) → at < length ys → BadAt q (drop at ys) → BadAmong (tilesOf q ys)

@@ -17,7 +17,8 @@ use Rattle.utf8.specs.Table.{fits, sizeIn, charLength}
 use Rattle.utf8.specs.Code.{isScalar, codeOf, sixBits, encoded}
 use Rattle.utf8.specs.Text.{charsPast, sizeOf, begunIn, charNumber}
 use Rattle.utf8.specs.Answers.{place, atStart, notUtf8, validityOf, admitted, characterAt}
-use Rattle.string.specs.Tile.{letterValue, numeralFrom, isAllowed, numbered, escapeOf, beginsEscape, tileOf}
+use Rattle.string.specs.Letters.{valueIn, letterValue}
+use Rattle.string.specs.Tile.{numeralFrom, isAllowed, numbered, escapeOf, beginsEscape, tileOf}
 use Rattle.string.specs.declared.Unquoting.{Unquoting}
 use Rattle.string.specs.declared.Unquoting.the-variants.{Inner, Written, Refused}
 use Rattle.string.specs.Tiles.{tilesPast, hasBad, pieceBytes, bytesOf}
@@ -37,7 +38,7 @@ unquote-string-gives xs r room v =
     Answers unquote-string.ps unquote-string.r unquote-string-reads.Post (λ κs a. (now (a .0) ≡ xs) × (a .1 .0 ≡ r) × (length (now (a .1 .1 .0)) ≡ room)) (λ κs. v)
 
 unquote-string-at : (xs : List ℕ) (r : Reading) (room : ℕ) → unquote-string-gives xs r room (unquotingOf r room xs)
-unfolding unquotingOf extentOf isEnclosed isQuote hasNewline hasEscape has tilesPast hasBad bytesOf pieceBytes tileOf beginsEscape escapeOf letterValue numbered numeralFrom isDigitIn isHexDigit digitOf isAllowed isScalar encoded sixBits characterAt admitted validityOf charNumber begunIn charsPast sizeOf charLength sizeIn fits codeOf isWithin
+unfolding unquotingOf extentOf isEnclosed isQuote hasNewline hasEscape has tilesPast hasBad bytesOf pieceBytes tileOf beginsEscape escapeOf letterValue valueIn numbered numeralFrom isDigitIn isHexDigit digitOf isAllowed isScalar encoded sixBits characterAt admitted validityOf charNumber begunIn charsPast sizeOf charLength sizeIn fits codeOf isWithin
 unquote-string-at xs r room κs a x e p h = cc (p .0, h .0, h .1, h .2)
 
 pub text-without-escapes-stays-in-the-literal : unquote-string-gives (ascii "'a'") Crate 0 (Inner 1)

@@ -1,12 +1,14 @@
 // A text is escaped, to stand between double quotes. It is measured first, so that a refused call writes nothing.
 use utf8::Admission;
 use utf8::Writing;
+ghost use mathlib.Core.Option.{Option·getD};
 ghost use mathlib.Core.Path.{_≡_};
 ghost use Prim.Native.Nat.{_+_, _≤_};
 ghost use lib.ListN.{length};
 ghost use lib.Seq.{sets};
 ghost use Rattle.utf8.specs.Writing.{leftBy};
-ghost use Rattle.string.specs.Escape.{letterOf, escaped, escapingOf};
+ghost use Rattle.string.specs.Letters.{letterOf};
+ghost use Rattle.string.specs.Escape.{escaped, escapingOf};
 ghost use Rattle.string.specs.steps.Bytes.{escapedByte, escapedBytes};
 
 const BACKSLASH: u8 = b'\\';
@@ -14,9 +16,9 @@ const BACKSLASH: u8 = b'\\';
 // A byte that is copied has no letter.
 const NO_LETTER: u8 = 0;
 
-// What stands behind the backslash for a byte.
+// What stands behind the backslash for a byte, or NO_LETTER.
 fn letter_of(c: u8) -> u8
-    ensures { λ r. ⌜ r ≡ letterOf c ⌝ }
+    ensures { λ r. ⌜ r ≡ Option·getD (letterOf c) 0 ⌝ }
 {
     match c {
         b'\\' => b'\\',

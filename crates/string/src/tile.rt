@@ -3,9 +3,11 @@ use scan::byte;
 use utf8::ByteOffset;
 use utf8::Character;
 use utf8::encode;
+ghost use mathlib.Core.Option.{Option·getD};
 ghost use mathlib.Core.Path.{_≡_};
 ghost use Prim.Native.Nat.{_≤_};
-ghost use Rattle.string.specs.Tile.{letterValue, numeralFrom, isByte, isAllowed, numbered, escapeOf, beginsEscape, tileOf};
+ghost use Rattle.string.specs.Letters.{letterValue};
+ghost use Rattle.string.specs.Tile.{numeralFrom, isByte, isAllowed, numbered, escapeOf, beginsEscape, tileOf};
 
 // How a tile is written: as it is, as a letter or a sign behind a backslash, as `\xhh`, as three octal digits, or as `\uhhhh` or
 // `\Uhhhhhhhh`.
@@ -63,9 +65,9 @@ const BEHIND_BACKSLASH: usize = 1;
 
 const BEHIND_LETTER: usize = 2;
 
-// The code point that a letter behind the backslash stands for.
+// The code point that a letter behind the backslash stands for, or NO_VALUE.
 fn letter_value(quote: u8, c: u8) -> u32
-    ensures { λ r. ⌜ r ≡ letterValue quote c ⌝ }
+    ensures { λ r. ⌜ r ≡ Option·getD (letterValue quote c) 0 ⌝ }
 {
     if c == quote {
         return quote as u32;

@@ -20,9 +20,10 @@ use Rattle.utf8.specs.laws.Characters.{isAscii}
 use Rattle.utf8.proofs.Ascii.{ascii-text}
 use Rattle.utf8.specs.declared.Writing.the-variants.{Written}
 use Rattle.utf8.specs.Writing.{leftBy}
-use Rattle.string.specs.Escape.{letterOf, orLetter, escapedCodes, escaped, escapingOf}
+use Rattle.string.specs.Letters.{valueIn, letterValue, letterAmong, letterOf}
+use Rattle.string.specs.Escape.{escapedCodes, escaped, escapingOf}
 use Rattle.string.proofs.escape.Given.{escaping-given}
-use Rattle.string.specs.Tile.{letterValue, numeralFrom, isAllowed, numbered, escapeOf, beginsEscape, tileOf}
+use Rattle.string.specs.Tile.{numeralFrom, isAllowed, numbered, escapeOf, beginsEscape, tileOf}
 use Rattle.string.specs.Tiles.{tilesPast, hasBad, pieceBytes, bytesOf}
 use Rattle.string.specs.Literal.{isQuote, isEnclosed, hasNewline, hasEscape, unquoted, extentOf, unquotingOf, textBy}
 use Rattle.exports.specs.Packed.{packedAs}
@@ -35,11 +36,11 @@ use Rattle.exports.proofs.strings.simmerpath_unquote_string.Reads as si
 
 -- what computes at a text, and at a literal
 escaping : Unit {0}
-unfolding escapingOf admitted validityOf charsPast sizeOf charLength sizeIn fits codeOf isWithin letterOf orLetter encoded
+unfolding escapingOf admitted validityOf charsPast sizeOf charLength sizeIn fits codeOf isWithin letterOf letterAmong letterValue valueIn encoded
 escaping = tt
 
 unquoting : Unit {0}
-unfolding readingOf unquotingOf extentOf admitted validityOf charsPast sizeOf charLength sizeIn fits codeOf isWithin isHexDigit digitOf isScalar encoded sixBits characterAt letterValue isDigitIn numeralFrom isAllowed numbered escapeOf beginsEscape tileOf tilesPast hasBad pieceBytes bytesOf isQuote isEnclosed has hasNewline hasEscape
+unfolding readingOf unquotingOf extentOf admitted validityOf charsPast sizeOf charLength sizeIn fits codeOf isWithin isHexDigit digitOf isScalar encoded sixBits characterAt letterValue valueIn isDigitIn numeralFrom isAllowed numbered escapeOf beginsEscape tileOf tilesPast hasBad pieceBytes bytesOf isQuote isEnclosed has hasNewline hasEscape
 unquoting = tt
 
 abbrev simmerpath-escape-string-gives : List ℕ → ℕ → ℕ → Type 0
@@ -62,7 +63,7 @@ abbrev quotes : ℕ → List ℕ
 quotes n = replicate n (code "\"")
 
 quotes-escaped : (n : ℕ) → (isAscii (quotes n) ≡ true) × (length (escapedCodes (quotes n)) ≡ n + n)
-unfolding letterOf orLetter
+unfolding letterOf letterAmong letterValue valueIn
 quotes-escaped zero = (refl, refl)
 quotes-escaped (suc n) = let r = quotes-escaped n in (r .0, omega (arith, r .1))
 

@@ -5,10 +5,11 @@ use native.Mathlib.Decide.{decLt, ℕ-discrete}
 use mathlib.Core.Bool.{true, not}
 use mathlib.Core.List.{List, [], _∷_}
 use mathlib.Core.Logic.{_⊎_, inl, inr}
+use mathlib.Core.Option.{some}
 use mathlib.Core.Path.{_≡_, refl, sym, _∙_}
 use lib.Dec.{eqb, ltb}
 use lib.ListN.{drop}
-use borrow.Author.Tests.{eqb-true, eqb-false, ltb-true, not-true}
+use borrow.Author.Tests.{eqb-true, ltb-true}
 use Rattle.scan.specs.Ascii.{ascii}
 use Rattle.scan.specs.Byte.{peekAt, backslash, digitOf, isDigitIn}
 use Rattle.scan.specs.Text.{Stands}
@@ -26,10 +27,12 @@ use Rattle.string.specs.declared.tile.Form.the-variants.{Hex, Octal, Poi
 use Rattle.string.specs.declared.tile.Numeral.{Numeral}
 use Rattle.string.specs.declared.tile.Numeral.the-variants.{Value, NotDigits}
 use Rattle.string.specs.declared.tile.Tile.{Tile}
-use Rattle.string.specs.Tile.{backquote, noValue, letterValue, numeralFrom, isAllowed, numberedAs, numbered, escapeOf, beginsEscape, plainOf, tileOf}
+use Rattle.string.specs.Letters.{letterValue}
+use Rattle.string.specs.Tile.{backquote, numeralFrom, isAllowed, numberedAs, numbered, escapeOf, beginsEscape, plainOf, tileOf}
 use Rattle.string.specs.laws.Tile.{TextAfter, TextBehind}
 use Rattle.string.proofs.tile.Digits.{here, turn}
 use Rattle.string.proofs.tile.Letters.{letter-told}
+use Rattle.string.proofs.tile.Forms.{by-letter}
 
 -- ASCII bytes are passed one by one
 ascii-drop : (n : ℕ) (xs : List ℕ) → ((i : ℕ) → i < n → peekAt xs i < 0x80) → WellFormed xs → WellFormed (drop n xs)
@@ -80,21 +83,19 @@ module _ (xs : List ℕ) (w : WellFormed xs) (b : peekAt xs 0 ≡ backslash) whe
   one zero m = rw b (omega arith)
   one (suc i) m = let f : ⊥ = omega arith in absurd f
 
-  letter-ascii : (q : ℕ) → q < 0x80 → 0 < q → (letterValue q (peekAt xs 1) ≡ noValue → ⊥) → peekAt xs 1 < 0x80
-  letter-ascii q l h n = go (letter-told q h (peekAt xs 1) n)
+  letter-ascii : (q v : ℕ) → q < 0x80 → letterValue q (peekAt xs 1) ≡ some v → peekAt xs 1 < 0x80
+  letter-ascii q v l e = go (letter-told q (peekAt xs 1) v e)
     where
       go : (peekAt xs 1 ≡ q) ⊎ Stands (peekAt xs 1) (ascii "abfnrtv\\") → peekAt xs 1 < 0x80
       go (inl e) = rw e l
       go (inr s) = stands-ascii (peekAt xs 1) (ascii "abfnrtv\\") refl s
 
-  escape-text : (q : ℕ) → q < 0x80 → 0 < q → TextAfter xs (escapeOf q xs)
+  escape-text : (q : ℕ) → q < 0x80 → TextAfter xs (escapeOf q xs)
   unfolding escapeOf
-  escape-text q l h =
+  escape-text q l =
       let P : Tile → Type 0 = TextAfter xs in
       let c = peekAt xs 1 in
-      let v = letterValue q c in
-      either P (not (eqb v noValue))
-      (λ e. ascii-drop 2 xs (two (letter-ascii q l h (eqb-false v noValue (not-true (eqb v noValue) e)))) w)
+      by-letter P (letterValue q c) (λ v e. ascii-drop 2 xs (two (letter-ascii q v l e)) w)
       (λ e. either P (eqb c 120) (λ e. numbered-text Hex 16 2 2 (two (omega (arith, eqb-true c 120 e))))
       (λ e. either P (eqb c 117) (λ e. numbered-text Point 16 2 4 (two (omega (arith, eqb-true c 117 e))))
       (λ e. either P (eqb c 85) (λ e. numbered-text Point 16 2 8 (two (omega (arith, eqb-true c 85 e))))
@@ -117,7 +118,7 @@ begins q c e = eqb-true c backslash (and-left (eqb c backslash) (not (eqb q back
 
 pub text-behind : TextBehind
 unfolding tileOf
-text-behind q xs l h w =
+text-behind q xs l w =
     let P : Tile → Type 0 = TextAfter xs in
     either P (eqb (peekAt xs 0) q) (λ e. tt)
-    (λ e. either P (beginsEscape q (peekAt xs 0)) (λ e. escape-text xs w (begins q (peekAt xs 0) e) q l h) (λ e. plain-text xs w))
+    (λ e. either P (beginsEscape q (peekAt xs 0)) (λ e. escape-text xs w (begins q (peekAt xs 0) e) q l) (λ e. plain-text xs w))

@@ -39,7 +39,7 @@ TextAfter xs (Piece f v n) = WellFormed (drop n xs)
 TextAfter xs Bad = Unit {0}
 
 abbrev pub TextBehind : Type 0
-TextBehind = (q : ℕ) (xs : List ℕ) → q < 0x80 → 0 < q → WellFormed xs → TextAfter xs (tileOf q xs)
+TextBehind = (q : ℕ) (xs : List ℕ) → q < 0x80 → WellFormed xs → TextAfter xs (tileOf q xs)
 
 -- n digits of a radix stand from an offset on, and amount to v
 abbrev pub Digits : ℕ → ℕ → ℕ → List ℕ → ℕ → Type 0
