@@ -27,7 +27,7 @@ use Rattle.duration.specs.declared.Timing.{Timing}
 use Rattle.duration.specs.Duration.{timingOf}
 use Rattle.duration.proofs.parse_duration.Kinds as parse
 use Rattle.duration.proofs.parse_duration.Reads as parse-reads
-use Rattle.duration.specs.Display.{textOf, displayingOf}
+use Rattle.duration.specs.Display.{durationText, displayingOf}
 use Rattle.duration.proofs.display.Answers.{fits}
 use Rattle.duration.proofs.display.display_duration.Kinds as display
 use Rattle.duration.proofs.display.display_duration.Reads as display-reads
@@ -88,7 +88,7 @@ written-called d ys s room c h few = (answer, ap (take (length ys)) content ∙ 
     answer = c .post .0 ∙ ap₂ displayingOf (c .in-room) (c .of-duration) ∙ fits d few room (omega (arith, ap length s)) ∙ ap (λ (zs : List ℕ). Written (length zs)) s
 
     content : now (c .exit .1 .0) ≡ ys ++ drop (length ys) (now (c .args .1 .0))
-    content = c .post .1 ∙ ap₂ (λ (e : Writing) (zs : List ℕ). leftBy e zs (now (c .args .1 .0))) answer (ap textOf (c .of-duration) ∙ s)
+    content = c .post .1 ∙ ap₂ (λ (e : Writing) (zs : List ℕ). leftBy e zs (now (c .args .1 .0))) answer (ap durationText (c .of-duration) ∙ s)
 
 queries-called : Each Called queries
 queries-called = let s = queries-shown in (lexes-called _ _ (s .0), (lexes-called _ _ (s .1 .0), (lexes-called _ _ (s .1 .1 .0), (refuses-called _ _ _ (s .1 .1 .1 .0), (lexes-called _ _ (s .1 .1 .1 .1 .0), (lexes-called _ _ (s .1 .1 .1 .1 .1 .0), (lexes-called _ _ (s .1 .1 .1 .1 .1 .1 .0), (refuses-called _ _ _ (s .1 .1 .1 .1 .1 .1 .1 .0), tt))))))))

@@ -22,7 +22,7 @@ use Rattle.duration.specs.Units.{isPart, behind, sumBy, counted, isUnitText, un
 use Rattle.duration.specs.declared.Timing.the-variants.{Lasts, Refused}
 use Rattle.duration.specs.Duration.{durationRead, timingOf}
 use Rattle.writing.specs.Decimal.{signOf, digitsOf as digitsIn, decimalText}
-use Rattle.duration.specs.Display.{counted as shownAs, partOf, restOf, textOf}
+use Rattle.duration.specs.Display.{countText, partText, restOf, durationText}
 use Rattle.scan.specs.Byte.{isSpace, isAlphaNumeric, isWord, isLine}
 use Rattle.utf8.specs.Text.{begunIn, charNumber}
 use Rattle.token.specs.Words.{words, kindIn, keywordOf}
@@ -57,12 +57,12 @@ unfolding timingOf durationRead admitted validityOf charsPast sizeOf charLength 
 timed-units = refl
 
 -- and those that are written
-written-days : textOf (days 90) ≡ ascii "90d"
-unfolding textOf partOf restOf shownAs decimalText digitsIn signOf
+written-days : durationText (days 90) ≡ ascii "90d"
+unfolding durationText partText restOf countText decimalText digitsIn signOf
 written-days = refl
 
-written-weeks : textOf (days 14) ≡ ascii "2w"
-unfolding textOf partOf restOf shownAs decimalText digitsIn signOf
+written-weeks : durationText (days 14) ≡ ascii "2w"
+unfolding durationText partText restOf countText decimalText digitsIn signOf
 written-weeks = refl
 
 pub texts-shown : Each Shown texts

@@ -9,7 +9,7 @@ ghost use mathlib.Core.Path.{_≡_};
 ghost use lib.ListN.{length};
 ghost use Rattle.utf8.specs.Writing.{leftBy};
 ghost use Rattle.duration.specs.Duration.{timingOf};
-ghost use Rattle.duration.specs.Display.{textOf, displayingOf};
+ghost use Rattle.duration.specs.Display.{durationText, displayingOf};
 ghost use Rattle.exports.specs.Duration.{durationCode, secsLeft, nanosLeft, durationOf};
 ghost use Rattle.exports.specs.Written.{writtenCode};
 
@@ -33,7 +33,7 @@ pub extern "C" fn simmerpath_parse_duration(text: &[u8], secs: &mut u64, nanos: 
 #[no_mangle]
 pub extern "C" fn simmerpath_display_duration(secs: u64, nanos: u32, out: &mut [u8]) -> u64
     ensures { λ r. ⌜ r ≡ writtenCode (displayingOf (length (now (out .entry))) (durationOf secs nanos)) ⌝ }
-    ensures { λ _. ⌜ now (out .exit) ≡ leftBy (displayingOf (length (now (out .entry))) (durationOf secs nanos)) (textOf (durationOf secs nanos)) (now (out .entry)) ⌝ }
+    ensures { λ _. ⌜ now (out .exit) ≡ leftBy (displayingOf (length (now (out .entry))) (durationOf secs nanos)) (durationText (durationOf secs nanos)) (now (out .entry)) ⌝ }
 {
     let d = display::display_duration(Duration { secs, nanos }, out);
     let Writing::Written(n) = d else {

@@ -10,7 +10,7 @@ use Rattle.duration.specs.declared.span.Duration.{Duration}
 use Rattle.duration.specs.Unit.{nanosASecond}
 use Rattle.utf8.specs.declared.Writing.{Writing}
 use Rattle.utf8.specs.declared.Writing.the-variants.{Written, Refused}
-use Rattle.duration.specs.Display.{overRange, textOf, displayingOf}
+use Rattle.duration.specs.Display.{overRange, durationText, displayingOf}
 
 abbrev pub Bounded : ℕ → Writing → Type 0
 Bounded room (Written n) = n ≤ room
@@ -20,4 +20,4 @@ pub displaying-bound : (room : ℕ) (d : Duration) → Bounded room (displayingO
 unfolding displayingOf
 displaying-bound room d =
     either (Bounded room) (leb nanosASecond (d .nanos)) (λ e. omega arith)
-    (λ e. either (Bounded room) (leb (length (textOf d)) room) (λ f. leb-true (length (textOf d)) room f) (λ f. omega arith))
+    (λ e. either (Bounded room) (leb (length (durationText d)) room) (λ f. leb-true (length (durationText d)) room f) (λ f. omega arith))

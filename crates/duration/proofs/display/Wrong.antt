@@ -13,7 +13,7 @@ use Rattle.writing.specs.Decimal.{signOf, digitsOf, decimalText}
 use Rattle.duration.specs.declared.span.Duration.{Duration}
 use Rattle.utf8.specs.declared.Writing.{Writing}
 use Rattle.utf8.specs.declared.Writing.the-variants.{Written, Refused}
-use Rattle.duration.specs.Display.{counted, partOf, restOf, textOf, displayingOf}
+use Rattle.duration.specs.Display.{countText, partText, restOf, durationText, displayingOf}
 use Rattle.duration.proofs.display.display_duration.Kinds as display-duration
 use Rattle.duration.proofs.display.display_duration.Reads as display-duration-reads
 
@@ -29,23 +29,23 @@ display-duration-at : (d : Duration) (room : ℕ) → display-duration-gives d r
 display-duration-at d room κs a x e p h = cc (p .0, h .0, h .1)
 
 pub room-of-just-the-length-is-enough : display-duration-gives (duration 1 0) 2 (Written 2)
-unfolding displayingOf textOf partOf restOf counted decimalText digitsOf signOf
+unfolding displayingOf durationText partText restOf countText decimalText digitsOf signOf
 room-of-just-the-length-is-enough = display-duration-at _ _
 
 pub room-to-spare-is-no-refusal : display-duration-gives (duration 1 0) 30 (Written 2)
-unfolding displayingOf textOf partOf restOf counted decimalText digitsOf signOf
+unfolding displayingOf durationText partText restOf countText decimalText digitsOf signOf
 room-to-spare-is-no-refusal = display-duration-at _ _
 
 pub no-room-is-refused-with-three : display-duration-gives (duration 1 0) 1 (Refused noRoom)
-unfolding displayingOf textOf partOf restOf counted decimalText digitsOf signOf
+unfolding displayingOf durationText partText restOf countText decimalText digitsOf signOf
 no-room-is-refused-with-three = display-duration-at _ _
 
 pub whole-second-of-nanoseconds-is-over-range : display-duration-gives (duration 0 1000000000) 30 (Refused (atStart 54))
-unfolding displayingOf textOf partOf restOf counted decimalText digitsOf signOf
+unfolding displayingOf durationText partText restOf countText decimalText digitsOf signOf
 whole-second-of-nanoseconds-is-over-range = display-duration-at _ _
 
 pub most-nanoseconds-are-written : display-duration-gives (duration 0 999999999) 30 (Written 5)
-unfolding displayingOf textOf partOf restOf counted decimalText digitsOf signOf
+unfolding displayingOf durationText partText restOf countText decimalText digitsOf signOf
 most-nanoseconds-are-written = display-duration-at _ _
 
 -- a duration, and what the buffer holds before and after
@@ -53,37 +53,37 @@ abbrev display-duration-leaves-out : Duration → List ℕ → List ℕ → Type
 display-duration-leaves-out d out left =
     Leaves display-duration.ps display-duration.r display-duration-reads.Post (λ κs a. (a .0 ≡ d) × (now (a .1 .0) ≡ out)) (λ κs e. now (e .1 .0)) left
 
-display-duration-left-out : (d : Duration) (out : List ℕ) → display-duration-leaves-out d out (leftBy (displayingOf (length out) d) (textOf d) out)
+display-duration-left-out : (d : Duration) (out : List ℕ) → display-duration-leaves-out d out (leftBy (displayingOf (length out) d) (durationText d) out)
 display-duration-left-out d out κs a x e p h = cc (p .0, p .1, h .0, h .1)
 
 pub second-is-written-and-the-rest-stays : display-duration-leaves-out (duration 1 0) (ascii "?????") (ascii "1s???")
-unfolding displayingOf textOf partOf restOf counted decimalText digitsOf signOf
+unfolding displayingOf durationText partText restOf countText decimalText digitsOf signOf
 second-is-written-and-the-rest-stays = display-duration-left-out _ _
 
 pub zero-is-written-as-no-seconds : display-duration-leaves-out (duration 0 0) (ascii "?????") (ascii "0s???")
-unfolding displayingOf textOf partOf restOf counted decimalText digitsOf signOf
+unfolding displayingOf durationText partText restOf countText decimalText digitsOf signOf
 zero-is-written-as-no-seconds = display-duration-left-out _ _
 
 pub sixty-seconds-are-a-minute : display-duration-leaves-out (duration 60 0) (ascii "?????") (ascii "1m???")
-unfolding displayingOf textOf partOf restOf counted decimalText digitsOf signOf
+unfolding displayingOf durationText partText restOf countText decimalText digitsOf signOf
 sixty-seconds-are-a-minute = display-duration-left-out _ _
 
 pub one-day-is-a-day : display-duration-leaves-out (duration 86400 0) (ascii "?????") (ascii "1d???")
-unfolding displayingOf textOf partOf restOf counted decimalText digitsOf signOf
+unfolding displayingOf durationText partText restOf countText decimalText digitsOf signOf
 one-day-is-a-day = display-duration-left-out _ _
 
 pub eight-days-are-no-week-and-a-day : display-duration-leaves-out (duration 691200 0) (ascii "?????") (ascii "8d???")
-unfolding displayingOf textOf partOf restOf counted decimalText digitsOf signOf
+unfolding displayingOf durationText partText restOf countText decimalText digitsOf signOf
 eight-days-are-no-week-and-a-day = display-duration-left-out _ _
 
 pub minute-is-taken-away-from-the-seconds : display-duration-leaves-out (duration 61 0) (ascii "???????") (ascii "1m1s???")
-unfolding displayingOf textOf partOf restOf counted decimalText digitsOf signOf
+unfolding displayingOf durationText partText restOf countText decimalText digitsOf signOf
 minute-is-taken-away-from-the-seconds = display-duration-left-out _ _
 
 pub refusal-for-room-writes-nothing : display-duration-leaves-out (duration 1 0) (ascii "?") (ascii "?")
-unfolding displayingOf textOf partOf restOf counted decimalText digitsOf signOf
+unfolding displayingOf durationText partText restOf countText decimalText digitsOf signOf
 refusal-for-room-writes-nothing = display-duration-left-out _ _
 
 pub refusal-for-range-writes-nothing : display-duration-leaves-out (duration 1 1000000000) (ascii "?????") (ascii "?????")
-unfolding displayingOf textOf partOf restOf counted decimalText digitsOf signOf
+unfolding displayingOf durationText partText restOf countText decimalText digitsOf signOf
 refusal-for-range-writes-nothing = display-duration-left-out _ _

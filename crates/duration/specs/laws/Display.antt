@@ -11,7 +11,7 @@ use Rattle.utf8.specs.laws.Refusals.{NoRoom}
 use Rattle.duration.specs.declared.span.Duration.{Duration}
 use Rattle.duration.specs.Unit.{units, nanosAMilli, nanosASecond}
 use Rattle.duration.specs.Units.{behind, sumBy, lasting}
-use Rattle.duration.specs.Display.{overRange, millisOf, textOf, displayingOf}
+use Rattle.duration.specs.Display.{overRange, millisOf, durationText, displayingOf}
 
 -- 54 "nanoseconds over range in writing"
 abbrev pub OverRange : Duration → Type 0
@@ -21,20 +21,20 @@ abbrev pub DisplayingGiven : Type 0
 DisplayingGiven =
     (room : ℕ) (d : Duration) →
     (displayingOf room d ≡ Refused (atStart overRange) ↔ OverRange d)
-    × (displayingOf room d ≡ Refused noRoom ↔ (¬ (OverRange d)) × NoRoom room (textOf d))
-    × (displayingOf room d ≡ Written (length (textOf d)) ↔ (¬ (OverRange d)) × (¬ (NoRoom room (textOf d))))
+    × (displayingOf room d ≡ Refused noRoom ↔ (¬ (OverRange d)) × NoRoom room (durationText d))
+    × (displayingOf room d ≡ Written (length (durationText d)) ↔ (¬ (OverRange d)) × (¬ (NoRoom room (durationText d))))
 
 -- no text is longer
-abbrev pub longest : ℕ
-longest = 30
+abbrev pub longestText : ℕ
+longestText = 30
 
 abbrev pub TextFew : Type 0
-TextFew = (d : Duration) → d .secs < 2 ^ 64 → d .nanos < nanosASecond → length (textOf d) ≤ longest
+TextFew = (d : Duration) → d .secs < 2 ^ 64 → d .nanos < nanosASecond → length (durationText d) ≤ longestText
 
 -- every text that is written is a unit text, and its parts amount to the duration's milliseconds, counting each number for what it is
 abbrev pub Denotes : Type 0
-Denotes = (d : Duration) → (behind units (textOf d) ≡ []) × (sumBy (λ v. v) units (textOf d) ≡ millisOf d)
+Denotes = (d : Duration) → (behind units (durationText d) ≡ []) × (sumBy (λ v. v) units (durationText d) ≡ millisOf d)
 
 -- so it denotes the duration again, where that is a whole number of milliseconds
 abbrev pub DenotesAgain : Type 0
-DenotesAgain = (d : Duration) → d .nanos < nanosASecond → d .nanos % nanosAMilli ≡ 0 → lasting (sumBy (λ v. v) units (textOf d)) ≡ d
+DenotesAgain = (d : Duration) → d .nanos < nanosASecond → d .nanos % nanosAMilli ≡ 0 → lasting (sumBy (λ v. v) units (durationText d)) ≡ d

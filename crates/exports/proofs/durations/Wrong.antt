@@ -23,7 +23,7 @@ use Rattle.decimal.specs.Value.{valueFrom, decimalIn, decimalOf}
 use Rattle.duration.specs.Units.{isPart, behind, sumBy, counted, isUnitText, unitsOf}
 use Rattle.duration.specs.Duration.{durationRead, timingOf}
 use Rattle.writing.specs.Decimal.{signOf, digitsOf, decimalText}
-use Rattle.duration.specs.Display.{counted as shownAs, partOf, restOf, textOf, displayingOf}
+use Rattle.duration.specs.Display.{countText, partText, restOf, durationText, displayingOf}
 use Rattle.exports.specs.Packed.{packedAs}
 use Rattle.exports.specs.Duration.{durationCode, secsLeft, nanosLeft, durationOf}
 use Rattle.exports.specs.Written.{writtenCode}
@@ -38,7 +38,7 @@ unfolding timingOf durationRead admitted validityOf charsPast sizeOf charLength 
 reading = tt
 
 displaying : Unit {0}
-unfolding displayingOf textOf partOf restOf shownAs decimalText digitsOf signOf
+unfolding displayingOf durationText partText restOf countText decimalText digitsOf signOf
 displaying = tt
 
 abbrev simmerpath-parse-duration-gives : List ℕ → ℕ → Type 0
@@ -113,7 +113,7 @@ abbrev simmerpath-display-duration-leaves-out : ℕ → ℕ → List ℕ → Lis
 simmerpath-display-duration-leaves-out secs nanos out v =
     Leaves simmerpath-display-duration.ps simmerpath-display-duration.r simmerpath-display-duration-reads.Post (Given secs nanos out) (λ κs e. now (e .1 .1 .0)) v
 
-simmerpath-display-duration-left-out : (secs nanos : ℕ) (out : List ℕ) → simmerpath-display-duration-leaves-out secs nanos out (leftBy (displayingOf (length out) (durationOf secs nanos)) (textOf (durationOf secs nanos)) out)
+simmerpath-display-duration-left-out : (secs nanos : ℕ) (out : List ℕ) → simmerpath-display-duration-leaves-out secs nanos out (leftBy (displayingOf (length out) (durationOf secs nanos)) (durationText (durationOf secs nanos)) out)
 simmerpath-display-duration-left-out secs nanos out κs a x e p h = cc (p .1, h .0, h .1, h .2)
 
 pub seconds-are-displayed : simmerpath-display-duration-leaves-out 2 0 (ascii "....") (ascii "2s..")

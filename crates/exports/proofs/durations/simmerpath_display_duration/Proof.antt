@@ -8,7 +8,7 @@ use denote.Ref.{now}
 use Rattle.duration.specs.declared.span.Duration.{Duration}
 use Rattle.utf8.specs.declared.Writing.{Writing}
 use Rattle.utf8.specs.Writing.{leftBy, notWritten}
-use Rattle.duration.specs.Display.{textOf, displayingOf}
+use Rattle.duration.specs.Display.{durationText, displayingOf}
 use Rattle.exports.specs.Packed.{packedOf}
 use Rattle.exports.specs.Duration.{durationOf}
 use Rattle.exports.specs.Written.{writtenCode}
@@ -45,8 +45,8 @@ module _ (c : tie.After-display-duration) where
   code-is : (d : Writing) → c .display-duration .result ≡ d → writtenCode d ≡ writtenCode answer
   code-is d t = ap writtenCode (sym t ∙ c .display-duration .ensures .0)
 
-  left-is : c .display-duration .last .1 .0 ≡ leftBy answer (textOf shown) lent
-  left-is = c .display-duration .ensures .1 ∙ ap (λ (d : Writing). leftBy d (textOf shown) lent) (c .display-duration .ensures .0)
+  left-is : c .display-duration .last .1 .0 ≡ leftBy answer (durationText shown) lent
+  left-is = c .display-duration .ensures .1 ∙ ap (λ (d : Writing). leftBy d (durationText shown) lent) (c .display-duration .ensures .0)
 
 same-length : tie.Need-same-length
 same-length c = search needs
