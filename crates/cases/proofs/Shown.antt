@@ -6,15 +6,15 @@ use lib.Ieee.{round, size, span, climb, units as floatUnits, odd, lt, le}
 use Rattle.scan.specs.Ascii.{ascii}
 use Rattle.scan.specs.Run.{runLength}
 use Rattle.scan.specs.Text.{has, sameText}
-use Rattle.scan.specs.Byte.{isWithin, isHexDigit, digitOf, isDigitIn, lowered, isIn, isAlpha}
+use Rattle.scan.specs.Byte.{isWithin, isHexDigit, digitOf, isDigitIn, lowered, isIn, isAlpha, isQuote}
 use Rattle.utf8.specs.Table.{fits, sizeIn, charLength}
 use Rattle.utf8.specs.Text.{charsPast, sizeOf}
 use Rattle.utf8.specs.Answers.{validityOf, admitted, atStart}
 use Rattle.utf8.specs.Code.{isScalar, encoded, sixBits, codeOf}
-use Rattle.string.specs.Letters.{valueIn, letterValue}
-use Rattle.string.specs.Tile.{numeralFrom, isAllowed, numbered, escapeOf, beginsEscape, tileOf}
+use Rattle.string.specs.Letters.{lookedUp, letterValue}
+use Rattle.string.specs.Tile.{amountFrom, isAllowed, numbered, escapeOf, beginsEscape, tileOf}
 use Rattle.string.specs.Tiles.{tilesPast, hasBad, pieceBytes, bytesOf}
-use Rattle.string.specs.Literal.{isQuote, isEnclosed, hasNewline}
+use Rattle.string.specs.Literal.{isEnclosed, hasNewline}
 use Rattle.scan.specs.Sign.{isSign}
 use Rattle.decimal.specs.Grammar.{hasDigits, exponentHasDigits, isNumeral, isInfinite, isNan}
 use Rattle.decimal.specs.Value.{valueFrom, isZeros, trailing, isExact, nearest, scaledBy, decimalIn, decimalOf}
@@ -66,7 +66,7 @@ unfolding durationText partText restOf countText decimalText digitsIn signOf
 written-weeks = refl
 
 pub texts-shown : Each Shown texts
-unfolding isWithin isHexDigit digitOf isScalar encoded sixBits letterValue valueIn isDigitIn numeralFrom isAllowed numbered escapeOf beginsEscape tileOf tilesPast hasBad pieceBytes bytesOf isQuote isEnclosed has hasNewline
+unfolding isWithin isHexDigit digitOf isScalar encoded sixBits letterValue lookedUp isDigitIn amountFrom isAllowed numbered escapeOf beginsEscape tileOf tilesPast hasBad pieceBytes bytesOf isQuote isEnclosed has hasNewline
 texts-shown = ((refl, refl), ((refl, refl), (timed-zero, (timed-none, (timed-decimal, (timed-units, (written-days, (written-weeks, tt))))))))
 
 -- what holds of each row of two tables holds of each of both

@@ -49,7 +49,7 @@ fn not_written(u: Unquoting) -> u64
     ensures { λ r. ⌜ r ≡ unquoteCode u ⌝ }
 {
     let Unquoting::Inner(n) = u else {
-        return packing::packed(string::refused_by(u));
+        return packing::packed(string::not_unquoted(u));
     };
     INNER + n as u64
 }

@@ -12,7 +12,7 @@ use lib.ListN.{length, length-append}
 use lib.Seq.{take-append-seam, getD-append-seam}
 use borrow.Author.Tests.{ne-eqb, eqb-true, eqb-false, le-leb, not-true}
 use Rattle.scan.specs.Text.{has}
-use Rattle.scan.specs.Byte.{end, peekAt, backslash}
+use Rattle.scan.specs.Byte.{end, peekAt, backslash, doubleQuote, isQuote}
 use Rattle.proving.proofs.Below.{below}
 use Rattle.proving.proofs.Choice.{and-left, and-right}
 use Rattle.utf8.specs.declared.Reading.{Reading}
@@ -23,12 +23,12 @@ use Rattle.utf8.proofs.Laws.{none-empty, rest-well, none-ascii, text-join}
 use Rattle.utf8.proofs.Ascii.{ascii-bytes, ascii-text, one-ascii}
 use Rattle.string.specs.declared.tile.Form.the-variants.{Letter}
 use Rattle.string.specs.declared.tile.Tile.the-variants.{Piece}
-use Rattle.string.specs.Letters.{valueIn, letterValue, isFor, letterAmong, letterOf}
+use Rattle.string.specs.Letters.{lookedUp, letterValue, isFor, letterAmong, letterOf}
 use Rattle.string.specs.Tile.{beginsEscape, escapeOf, tileOf}
 use Rattle.string.specs.Escape.{escaped}
 use Rattle.string.specs.steps.Bytes.{escapedBytes}
 use Rattle.string.specs.Tiles.{tilesOf, hasBad, pieceBytes, bytesOf}
-use Rattle.string.specs.Literal.{doubleQuote, lineFeed, isQuote, innerOf, isEnclosed, hasNewline}
+use Rattle.string.specs.Literal.{lineFeed, innerOf, isEnclosed, hasNewline}
 use Rattle.string.specs.laws.ReadBack.{quoted, ReadBack, ReadBackJoin, ReadBackPart}
 use Rattle.string.proofs.escape.Escapes.{copied, lettered, high-copied, empty-escaped, bytes-join, by-characters-escaped, escape-join, escaped-text}
 use Rattle.string.proofs.Readings.{part-is-text, reads}
@@ -41,7 +41,7 @@ fineBy b none = not (eqb b doubleQuote) && (not (eqb b backslash) && not (eqb b 
 fineBy b (some l) = isFor b (letterValue doubleQuote l) && not (eqb l lineFeed)
 
 all-fine : (b : ℕ) → b < 0x80 → fineBy b (letterOf b) ≡ true
-unfolding letterOf letterAmong letterValue valueIn
+unfolding letterOf letterAmong letterValue lookedUp
 all-fine = below (λ b. fineBy b (letterOf b)) 0x80 refl
 
 is-for : (b : ℕ) (o : Option ℕ) → isFor b o ≡ true → o ≡ some b

@@ -10,7 +10,7 @@ use mathlib.Core.Path.{_≡_, refl, sym, ap, subst}
 use lib.Dec.{eqb, leb}
 use lib.ListN.{length}
 use borrow.Author.Tests.{le-leb, lt-leb, leb-false, not-true}
-use Rattle.scan.specs.Byte.{peekAt, backslash}
+use Rattle.scan.specs.Byte.{peekAt, backslash, backquote, doubleQuote, singleQuote, isQuote}
 use Rattle.proving.proofs.Choice.{exactly}
 use Rattle.proving.proofs.Tests.{Tests, affirmed, decided, tests-or, tests-and, tests-not, tests-eq}
 use Rattle.scan.proofs.Stands.{tests-has}
@@ -21,11 +21,10 @@ use Rattle.utf8.specs.laws.Refusals.{TooLong, NotUtf8, NoRoom, Taken}
 use Rattle.utf8.proofs.Given.{given-exactly}
 use Rattle.string.specs.declared.tile.Tile.{Tile}
 use Rattle.string.specs.declared.tile.Tile.the-variants.{Piece, Bad}
-use Rattle.string.specs.Tile.{backquote}
 use Rattle.string.specs.declared.Unquoting.{Unquoting}
 use Rattle.string.specs.declared.Unquoting.the-variants.{Inner, Written, Refused}
 use Rattle.string.specs.Tiles.{tilesOf, isBad, hasBad}
-use Rattle.string.specs.Literal.{doubleQuote, singleQuote, lineFeed, isQuote, signOf, innerOf, isEnclosed, hasNewline, isBadLiteral, hasEscape, unquoted, extentOf, badLiteral, unquotingOf}
+use Rattle.string.specs.Literal.{lineFeed, signOf, innerOf, isEnclosed, hasNewline, isBadLiteral, hasEscape, unquoted, extentOf, badLiteral, unquotingOf}
 use Rattle.string.specs.laws.Refusals.{TooShort, SignsDiffer, NoQuoteSign, Newline, BadAmong, BadLiteral, WithEscape, UnquotingGiven}
 
 tests-bad : (ts : List Tile) → Tests (hasBad ts) (BadAmong ts)

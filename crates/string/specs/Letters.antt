@@ -14,9 +14,9 @@ letters =
     (code "a", 0x07) ∷ (code "b", 0x08) ∷ (code "f", 0x0c) ∷ (code "n", 0x0a) ∷ (code "r", 0x0d) ∷ (code "t", 0x09) ∷ (code "v", 0x0b)
     ∷ (backslash, backslash) ∷ []
 
-unfoldable pub valueIn : List (ℕ × ℕ) → ℕ → Option ℕ
-valueIn [] c = none
-valueIn (p ∷ ps) c = cond (eqb (p .0) c) (some (p .1)) (valueIn ps c)
+unfoldable pub lookedUp : List (ℕ × ℕ) → ℕ → Option ℕ
+lookedUp [] c = none
+lookedUp (p ∷ ps) c = cond (eqb (p .0) c) (some (p .1)) (lookedUp ps c)
 
 -- "the literal's own quote sign" stands for itself; NUL is no sign
 abbrev pub isOwnSign : ℕ → ℕ → Bool
@@ -24,7 +24,7 @@ isOwnSign q c = eqb c q && ltb 0 q
 
 -- what a byte behind the backslash stands for, in a literal with the sign q
 unfoldable pub letterValue : ℕ → ℕ → Option ℕ
-letterValue q c = cond (isOwnSign q c) (some q) (valueIn letters c)
+letterValue q c = cond (isOwnSign q c) (some q) (lookedUp letters c)
 
 abbrev pub isFor : ℕ → Option ℕ → Bool
 isFor c (some v) = eqb v c

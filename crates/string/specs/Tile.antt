@@ -6,7 +6,7 @@ use mathlib.Core.Bool.{Bool, true, false, cond, _&&_, not}
 use mathlib.Core.List.{List}
 use mathlib.Core.Option.{Option, none, some}
 use lib.Dec.{eqb, leb}
-use Rattle.scan.specs.Byte.{peekAt, backslash, isDigitIn, digitOf}
+use Rattle.scan.specs.Byte.{peekAt, backslash, isDigitIn, digitOf, backquote}
 use Rattle.utf8.specs.declared.Character.{Character}
 use Rattle.utf8.specs.declared.Character.the-variants.{Scalar, Nothing, IllFormed}
 use Rattle.utf8.specs.Code.{isScalar}
@@ -14,20 +14,17 @@ use Rattle.utf8.specs.Answers.{characterAt}
 use Rattle.string.specs.Letters.{letterValue}
 use Rattle.string.specs.declared.tile.Form.{Form}
 use Rattle.string.specs.declared.tile.Form.the-variants.{Plain, Letter, Hex, Octal, Point}
-use Rattle.string.specs.declared.tile.Numeral.{Numeral}
-use Rattle.string.specs.declared.tile.Numeral.the-variants.{Value, NotDigits}
+use Rattle.string.specs.declared.tile.Amount.{Amount}
+use Rattle.string.specs.declared.tile.Amount.the-variants.{Value, NotDigits}
 use Rattle.string.specs.declared.tile.Tile.{Tile}
 use Rattle.string.specs.declared.tile.Tile.the-variants.{Piece, Bad}
 
-abbrev pub backquote : ℕ
-backquote = code "`"
-
 -- n digits of a radix from an offset on, read behind those that amount to v
-unfoldable pub numeralFrom : ℕ → ℕ → ℕ → ℕ → List ℕ → Numeral
-numeralFrom radix v zero at xs = Value v
-numeralFrom radix v (suc n) at xs =
+unfoldable pub amountFrom : ℕ → ℕ → ℕ → ℕ → List ℕ → Amount
+amountFrom radix v zero at xs = Value v
+amountFrom radix v (suc n) at xs =
     let c = peekAt xs at in
-    cond (isDigitIn radix c) (numeralFrom radix (v * radix + digitOf c) n (suc at) xs) NotDigits
+    cond (isDigitIn radix c) (amountFrom radix (v * radix + digitOf c) n (suc at) xs) NotDigits
 
 -- "`\x` and octal": the escapes that stand for one byte in the documented reading
 abbrev pub isByte : Form → Bool
@@ -41,13 +38,13 @@ isByte Point = false
 unfoldable pub isAllowed : Form → ℕ → Bool
 isAllowed f v = cond (isByte f) (leb v 0xff) (isScalar v)
 
-abbrev pub numberedAs : Form → ℕ → Numeral → Tile
+abbrev pub numberedAs : Form → ℕ → Amount → Tile
 numberedAs f size (Value v) = cond (isAllowed f v) (Piece f v size) Bad
 numberedAs f size NotDigits = Bad
 
 -- an escape by n digits of a radix from an offset on
 unfoldable pub numbered : Form → ℕ → ℕ → ℕ → List ℕ → Tile
-numbered f radix at n xs = numberedAs f (at + n) (numeralFrom radix 0 n at xs)
+numbered f radix at n xs = numberedAs f (at + n) (amountFrom radix 0 n at xs)
 
 -- an escape by a letter that stands for a character, or another
 abbrev pub letteredOr : Option ℕ → Tile → Tile

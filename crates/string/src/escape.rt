@@ -1,4 +1,5 @@
 // A text is escaped, to stand between double quotes. It is measured first, so that a refused call writes nothing.
+use crate::tile;
 use utf8::Admission;
 use utf8::Writing;
 ghost use mathlib.Core.Option.{Option·getD};
@@ -10,8 +11,6 @@ ghost use Rattle.utf8.specs.Writing.{leftBy};
 ghost use Rattle.string.specs.Letters.{letterOf};
 ghost use Rattle.string.specs.Escape.{escaped, escapingOf};
 ghost use Rattle.string.specs.steps.Bytes.{escapedByte, escapedBytes};
-
-const BACKSLASH: u8 = b'\\';
 
 // A byte that is copied has no letter.
 const NO_LETTER: u8 = 0;
@@ -61,7 +60,7 @@ fn put_escaped(c: u8, out: &mut [u8], at: usize) -> usize
         out[at] = c;
         return at + 1;
     }
-    out[at] = BACKSLASH;
+    out[at] = tile::BACKSLASH;
     out[at + 1] = letter;
     at + 2
 }

@@ -7,7 +7,7 @@ ghost use mathlib.Core.Option.{Option·getD};
 ghost use mathlib.Core.Path.{_≡_};
 ghost use Prim.Native.Nat.{_≤_};
 ghost use Rattle.string.specs.Letters.{letterValue};
-ghost use Rattle.string.specs.Tile.{numeralFrom, isByte, isAllowed, numbered, escapeOf, beginsEscape, tileOf};
+ghost use Rattle.string.specs.Tile.{amountFrom, isByte, isAllowed, numbered, escapeOf, beginsEscape, tileOf};
 
 // How a tile is written: as it is, as a letter or a sign behind a backslash, as `\xhh`, as three octal digits, or as `\uhhhh` or
 // `\Uhhhhhhhh`.
@@ -26,22 +26,22 @@ pub enum Tile {
 }
 
 // What digits amount to.
-pub enum Numeral {
+pub enum Amount {
     Value(u32),
     NotDigits,
 }
 
-const BACKSLASH: u8 = b'\\';
+pub const BACKSLASH: u8 = b'\\';
 
-const BACKQUOTE: u8 = b'`';
+pub const BACKQUOTE: u8 = b'`';
+
+pub const LINE_FEED: u8 = b'\n';
 
 const ALERT: u32 = 0x07;
 
 const BACKSPACE: u32 = 0x08;
 
 const TAB: u32 = 0x09;
-
-const LINE_FEED: u32 = 0x0a;
 
 const VERTICAL_TAB: u32 = 0x0b;
 
@@ -76,7 +76,7 @@ fn letter_value(quote: u8, c: u8) -> u32
         b'a' => ALERT,
         b'b' => BACKSPACE,
         b'f' => FORM_FEED,
-        b'n' => LINE_FEED,
+        b'n' => LINE_FEED as u32,
         b'r' => CARRIAGE_RETURN,
         b't' => TAB,
         b'v' => VERTICAL_TAB,
@@ -86,21 +86,21 @@ fn letter_value(quote: u8, c: u8) -> u32
 }
 
 // What the `count` digits of a radix from an offset on amount to.
-fn read_digits(s: &[u8], at: usize, count: usize, radix: usize) -> Numeral
+fn read_digits(s: &[u8], at: usize, count: usize, radix: usize) -> Amount
     requires { ⌜ (at ≤ 2) × (count ≤ 8) × (radix ≤ 16) ⌝ }
-    ensures { λ r. ⌜ r ≡ numeralFrom radix 0 count at (now (s .entry)) ⌝ }
+    ensures { λ r. ⌜ r ≡ amountFrom radix 0 count at (now (s .entry)) ⌝ }
 {
     let mut value = 0;
     let mut i = 0;
     while i < count {
         let c = byte::peek(s, at + i);
         if !byte::is_digit_in(radix, c) {
-            return Numeral::NotDigits;
+            return Amount::NotDigits;
         }
         value = value * radix as u32 + byte::digit_of(c) as u32;
         i += 1;
     }
-    Numeral::Value(value)
+    Amount::Value(value)
 }
 
 // Whether a tile stands for one byte in the documented reading.
@@ -132,7 +132,7 @@ fn numbered(s: &[u8], form: Form, radix: usize, at: usize, count: usize) -> Tile
     ensures { λ r. ⌜ r ≡ numbered form radix at count (now (s .entry)) ⌝ }
 {
     let n = read_digits(s, at, count, radix);
-    let Numeral::Value(value) = n else {
+    let Amount::Value(value) = n else {
         return Tile::Bad;
     };
     if !is_allowed(form, value) {

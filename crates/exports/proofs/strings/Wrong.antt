@@ -9,7 +9,7 @@ use mathlib.Core.Path.{_≡_, refl, ap, _∙_}
 use lib.ListN.{length, replicate, length-replicate}
 use denote.Ref.{now}
 use Rattle.scan.specs.Ascii.{ascii}
-use Rattle.scan.specs.Byte.{isWithin, isHexDigit, digitOf, isDigitIn}
+use Rattle.scan.specs.Byte.{isWithin, isHexDigit, digitOf, isDigitIn, isQuote}
 use Rattle.proving.proofs.One.{Answers, Leaves}
 use Rattle.scan.specs.Text.{has}
 use Rattle.utf8.specs.Table.{fits, sizeIn, charLength}
@@ -20,12 +20,12 @@ use Rattle.utf8.specs.laws.Characters.{isAscii}
 use Rattle.utf8.proofs.Ascii.{ascii-text}
 use Rattle.utf8.specs.declared.Writing.the-variants.{Written}
 use Rattle.utf8.specs.Writing.{leftBy}
-use Rattle.string.specs.Letters.{valueIn, letterValue, letterAmong, letterOf}
+use Rattle.string.specs.Letters.{lookedUp, letterValue, letterAmong, letterOf}
 use Rattle.string.specs.Escape.{escapedCodes, escaped, escapingOf}
 use Rattle.string.proofs.escape.Given.{escaping-given}
-use Rattle.string.specs.Tile.{numeralFrom, isAllowed, numbered, escapeOf, beginsEscape, tileOf}
+use Rattle.string.specs.Tile.{amountFrom, isAllowed, numbered, escapeOf, beginsEscape, tileOf}
 use Rattle.string.specs.Tiles.{tilesPast, hasBad, pieceBytes, bytesOf}
-use Rattle.string.specs.Literal.{isQuote, isEnclosed, hasNewline, hasEscape, unquoted, extentOf, unquotingOf, textBy}
+use Rattle.string.specs.Literal.{isEnclosed, hasNewline, hasEscape, unquoted, extentOf, unquotingOf, textBy}
 use Rattle.exports.specs.Packed.{packedAs}
 use Rattle.exports.specs.Written.{writtenCode}
 use Rattle.exports.specs.String.{readingOf, innerFrom, unquoteCode}
@@ -36,11 +36,11 @@ use Rattle.exports.proofs.strings.simmerpath_unquote_string.Reads as si
 
 -- what computes at a text, and at a literal
 escaping : Unit {0}
-unfolding escapingOf admitted validityOf charsPast sizeOf charLength sizeIn fits codeOf isWithin letterOf letterAmong letterValue valueIn encoded
+unfolding escapingOf admitted validityOf charsPast sizeOf charLength sizeIn fits codeOf isWithin letterOf letterAmong letterValue lookedUp encoded
 escaping = tt
 
 unquoting : Unit {0}
-unfolding readingOf unquotingOf extentOf admitted validityOf charsPast sizeOf charLength sizeIn fits codeOf isWithin isHexDigit digitOf isScalar encoded sixBits characterAt letterValue valueIn isDigitIn numeralFrom isAllowed numbered escapeOf beginsEscape tileOf tilesPast hasBad pieceBytes bytesOf isQuote isEnclosed has hasNewline hasEscape
+unfolding readingOf unquotingOf extentOf admitted validityOf charsPast sizeOf charLength sizeIn fits codeOf isWithin isHexDigit digitOf isScalar encoded sixBits characterAt letterValue lookedUp isDigitIn amountFrom isAllowed numbered escapeOf beginsEscape tileOf tilesPast hasBad pieceBytes bytesOf isQuote isEnclosed has hasNewline hasEscape
 unquoting = tt
 
 abbrev simmerpath-escape-string-gives : List ℕ → ℕ → ℕ → Type 0
@@ -63,7 +63,7 @@ abbrev quotes : ℕ → List ℕ
 quotes n = replicate n (code "\"")
 
 quotes-escaped : (n : ℕ) → (isAscii (quotes n) ≡ true) × (length (escapedCodes (quotes n)) ≡ n + n)
-unfolding letterOf letterAmong letterValue valueIn
+unfolding letterOf letterAmong letterValue lookedUp
 quotes-escaped zero = (refl, refl)
 quotes-escaped (suc n) = let r = quotes-escaped n in (r .0, omega (arith, r .1))
 

@@ -33,7 +33,7 @@ use Rattle.utf8.proofs.Inverse.{decode-encode, long-code}
 use Rattle.utf8.specs.declared.Writing.{Writing}
 use Rattle.utf8.specs.declared.Writing.the-variants.{Written, Refused}
 use Rattle.utf8.specs.Writing.{leftBy}
-use Rattle.string.specs.Letters.{valueIn, letterValue, isFor, letterAmong, letterOf}
+use Rattle.string.specs.Letters.{lookedUp, letterValue, isFor, letterAmong, letterOf}
 use Rattle.string.specs.Escape.{orLetter, escaped, escapingAs, escapingOf}
 use Rattle.string.specs.laws.Escape.{EscapeJoin, EscapedText}
 use Rattle.string.specs.steps.Bytes.{escapedByte, escapedBytes}
@@ -86,7 +86,7 @@ empty-escaped = refl
 
 -- what is not ASCII has no letter
 high : (c : ℕ) → 0x80 ≤ c → letterOf c ≡ none
-unfolding letterOf letterAmong letterValue valueIn
+unfolding letterOf letterAmong letterValue lookedUp
 high c h =
     rw (ne-eqb 92 c (λ e. omega arith), ne-eqb 34 c (λ e. omega arith), ne-eqb 10 c (λ e. omega arith), ne-eqb 13 c (λ e. omega arith), ne-eqb 9 c (λ e. omega arith))
 

@@ -17,7 +17,7 @@ use Rattle.utf8.specs.Answers.{place, atStart, notUtf8, validityOf, admitted}
 use Rattle.utf8.specs.declared.Writing.{Writing}
 use Rattle.utf8.specs.declared.Writing.the-variants.{Written, Refused}
 use Rattle.utf8.specs.Writing.{leftBy}
-use Rattle.string.specs.Letters.{valueIn, letterValue, letterAmong, letterOf}
+use Rattle.string.specs.Letters.{lookedUp, letterValue, letterAmong, letterOf}
 use Rattle.string.specs.Escape.{escaped, escapingOf}
 use Rattle.string.proofs.escape.Given.{escaping-given}
 use Rattle.string.proofs.escape.escape_string.Kinds as escape-string
@@ -29,7 +29,7 @@ escape-string-gives xs room v =
     Answers escape-string.ps escape-string.r escape-string-reads.Post (λ κs a. (now (a .0) ≡ xs) × (length (now (a .1 .0)) ≡ room)) (λ κs. v)
 
 escape-string-at : (xs : List ℕ) (room : ℕ) → escape-string-gives xs room (escapingOf room xs)
-unfolding escapingOf letterOf letterAmong letterValue valueIn encoded sixBits admitted validityOf charNumber begunIn charsPast sizeOf charLength sizeIn fits codeOf isWithin
+unfolding escapingOf letterOf letterAmong letterValue lookedUp encoded sixBits admitted validityOf charNumber begunIn charsPast sizeOf charLength sizeIn fits codeOf isWithin
 escape-string-at xs room κs a x e p h = p .0 ∙ ap₂ escapingOf (h .1) (h .0)
 
 pub text-that-has-room-is-written : escape-string-gives (ascii "a") 3 (Written 1)

@@ -10,7 +10,7 @@ use mathlib.Core.Option.{Option, none, some}
 use mathlib.Core.Path.{_≡_, refl, sym, ap, subst, _∙_}
 use lib.Dec.{eqb}
 use borrow.Author.Tests.{le-leb, eq-eqb, ne-eqb, eqb-true, leb-true}
-use Rattle.scan.specs.Byte.{peekAt, backslash, isWithin, isHexDigit, digitOf, isDigitIn}
+use Rattle.scan.specs.Byte.{peekAt, backslash, isWithin, isHexDigit, digitOf, isDigitIn, backquote}
 use Rattle.proving.proofs.Choice.{either, told}
 use Rattle.proving.proofs.Tests.{Tests, denied, tests-and, tests-not, tests-eq}
 use Rattle.utf8.specs.Table.{charLength}
@@ -20,13 +20,13 @@ use Rattle.utf8.specs.Answers.{characterAt}
 use Rattle.utf8.proofs.Bounds.{first-character}
 use Rattle.string.specs.declared.tile.Form.{Form}
 use Rattle.string.specs.declared.tile.Form.the-variants.{Letter, Hex, Octal, Point}
-use Rattle.string.specs.declared.tile.Numeral.{Numeral}
-use Rattle.string.specs.declared.tile.Numeral.the-variants.{Value, NotDigits}
+use Rattle.string.specs.declared.tile.Amount.{Amount}
+use Rattle.string.specs.declared.tile.Amount.the-variants.{Value, NotDigits}
 use Rattle.string.specs.declared.tile.Tile.{Tile}
 use Rattle.string.specs.declared.tile.Tile.the-variants.{Piece, Bad}
 use Rattle.string.specs.Letters.{letterValue}
-use Rattle.string.specs.Tile.{backquote, numeralFrom, isAllowed, numberedAs, numbered, escapeOf, beginsEscape, plainOf, tileOf}
-use Rattle.string.specs.laws.Tile.{Digits, IsEscape, Begun, BadWhen}
+use Rattle.string.specs.Tile.{amountFrom, isAllowed, numberedAs, numbered, escapeOf, beginsEscape, plainOf, tileOf}
+use Rattle.string.specs.laws.Tile.{AmountTo, IsEscape, EscapeBegun, BadWhen}
 use Rattle.string.proofs.tile.Digits.{here, digits-small}
 use Rattle.string.proofs.tile.Letters.{isSome, letter-some, letter-told}
 use Rattle.string.proofs.tile.Forms as forms
@@ -43,14 +43,14 @@ piece-good f v n e b = told tag (sym e) b (λ z. omega arith)
 
 -- an escape by digits is bad exactly where there are none, or none that it may have
 module _ (f : Form) (radix at n : ℕ) (xs : List ℕ) where
-  numbered-good : (v : ℕ) → Digits radix at n xs v → isAllowed f v ≡ true → Good (numbered f radix at n xs)
+  numbered-good : (v : ℕ) → AmountTo radix at n xs v → isAllowed f v ≡ true → Good (numbered f radix at n xs)
   numbered-good v d a = piece-good f v (at + n) (unfold numbered in rw (d, a))
 
-  numbered-bad : ((v : ℕ) → Digits radix at n xs v → isAllowed f v ≡ true → ⊥) → numbered f radix at n xs ≡ Bad
+  numbered-bad : ((v : ℕ) → AmountTo radix at n xs v → isAllowed f v ≡ true → ⊥) → numbered f radix at n xs ≡ Bad
   unfolding numbered
-  numbered-bad never = go (numeralFrom radix 0 n at xs) refl
+  numbered-bad never = go (amountFrom radix 0 n at xs) refl
     where
-      go : (m : Numeral) → numeralFrom radix 0 n at xs ≡ m → numberedAs f (at + n) m ≡ Bad
+      go : (m : Amount) → amountFrom radix 0 n at xs ≡ m → numberedAs f (at + n) m ≡ Bad
       go (Value v) e = either (λ (t : Tile). t ≡ Bad) (isAllowed f v) (λ a. absurd (never v e a)) (λ a. refl)
       go NotDigits e = refl
 
@@ -122,9 +122,9 @@ module _ (q : ℕ) (xs : List ℕ) where
   first = peekAt xs 0
 
   abbrev Why : Type 0
-  Why = (first ≡ q) ⊎ ((Begun q xs × (IsEscape q xs → ⊥)) ⊎ ((Begun q xs → ⊥) × (charLength xs ≡ 0)))
+  Why = (first ≡ q) ⊎ ((EscapeBegun q xs × (IsEscape q xs → ⊥)) ⊎ ((EscapeBegun q xs → ⊥) × (charLength xs ≡ 0)))
 
-  tests-begun : Tests (beginsEscape q first) (Begun q xs)
+  tests-begun : Tests (beginsEscape q first) (EscapeBegun q xs)
   unfolding beginsEscape
   tests-begun = tests-and (tests-eq first backslash) (tests-not (tests-eq q backquote))
 

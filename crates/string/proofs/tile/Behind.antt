@@ -11,7 +11,7 @@ use lib.Dec.{eqb, ltb}
 use lib.ListN.{drop}
 use borrow.Author.Tests.{eqb-true, ltb-true}
 use Rattle.scan.specs.Ascii.{ascii}
-use Rattle.scan.specs.Byte.{peekAt, backslash, digitOf, isDigitIn}
+use Rattle.scan.specs.Byte.{peekAt, backslash, digitOf, isDigitIn, backquote}
 use Rattle.scan.specs.Text.{Stands}
 use Rattle.proving.proofs.Choice.{either, and-left, and-right}
 use Rattle.scan.proofs.byte.Classes.{digit-bounds}
@@ -24,11 +24,11 @@ use Rattle.utf8.proofs.Bounds.{first-character}
 use Rattle.utf8.proofs.Laws.{ascii-head, rest-text}
 use Rattle.string.specs.declared.tile.Form.{Form}
 use Rattle.string.specs.declared.tile.Form.the-variants.{Hex, Octal, Point}
-use Rattle.string.specs.declared.tile.Numeral.{Numeral}
-use Rattle.string.specs.declared.tile.Numeral.the-variants.{Value, NotDigits}
+use Rattle.string.specs.declared.tile.Amount.{Amount}
+use Rattle.string.specs.declared.tile.Amount.the-variants.{Value, NotDigits}
 use Rattle.string.specs.declared.tile.Tile.{Tile}
 use Rattle.string.specs.Letters.{letterValue}
-use Rattle.string.specs.Tile.{backquote, numeralFrom, isAllowed, numberedAs, numbered, escapeOf, beginsEscape, plainOf, tileOf}
+use Rattle.string.specs.Tile.{amountFrom, isAllowed, numberedAs, numbered, escapeOf, beginsEscape, plainOf, tileOf}
 use Rattle.string.specs.laws.Tile.{TextAfter, TextBehind}
 use Rattle.string.proofs.tile.Digits.{here, turn}
 use Rattle.string.proofs.tile.Letters.{letter-told}
@@ -42,7 +42,7 @@ ascii-drop (suc n) (x ∷ xs) a w =
     ascii-drop n xs (λ i l. a (suc i) (omega arith)) (omega (arith, ascii-head x xs (a 0 (omega arith)) .0, w))
 
 -- each place of digits
-places : (radix : ℕ) (xs : List ℕ) (n v at w : ℕ) → numeralFrom radix v n at xs ≡ Value w → (i : ℕ) → at ≤ i → i < at + n → peekAt xs i < 0x80
+places : (radix : ℕ) (xs : List ℕ) (n v at w : ℕ) → amountFrom radix v n at xs ≡ Value w → (i : ℕ) → at ≤ i → i < at + n → peekAt xs i < 0x80
 places radix xs zero v at w e i l m = let f : ⊥ = omega arith in absurd f
 places radix xs (suc n) v at w e i l m =
     let d = here radix xs n v at w e in
@@ -61,16 +61,16 @@ stands-ascii c (y ∷ ys) a (inr s) = stands-ascii c ys (and-right (ltb y 0x80) 
 module _ (xs : List ℕ) (w : WellFormed xs) (b : peekAt xs 0 ≡ backslash) where
   numbered-text : (f : Form) (radix at n : ℕ) → ((i : ℕ) → i < at → peekAt xs i < 0x80) → TextAfter xs (numbered f radix at n xs)
   unfolding numbered
-  numbered-text f radix at n a = go (numeralFrom radix 0 n at xs) refl
+  numbered-text f radix at n a = go (amountFrom radix 0 n at xs) refl
     where
-      all : (v : ℕ) → numeralFrom radix 0 n at xs ≡ Value v → (i : ℕ) → i < at + n → peekAt xs i < 0x80
+      all : (v : ℕ) → amountFrom radix 0 n at xs ≡ Value v → (i : ℕ) → i < at + n → peekAt xs i < 0x80
       all v e i l = by (decLt i at)
         where
           by : Dec (i < at) → peekAt xs i < 0x80
           by (yes m) = a i m
           by (no m) = places radix xs n 0 at v e i (omega arith) l
 
-      go : (m : Numeral) → numeralFrom radix 0 n at xs ≡ m → TextAfter xs (numberedAs f (at + n) m)
+      go : (m : Amount) → amountFrom radix 0 n at xs ≡ m → TextAfter xs (numberedAs f (at + n) m)
       go (Value v) e = either (TextAfter xs) (isAllowed f v) (λ t. ascii-drop (at + n) xs (all v e) w) (λ t. tt)
       go NotDigits e = tt
 

@@ -10,8 +10,8 @@ use Rattle.scan.specs.Byte.{end, peekAt, isWithin, isHexDigit, isDigitIn}
 use Rattle.string.specs.declared.tile.Form.the-variants.{Letter, Hex, Octal, Point}
 use Rattle.string.specs.declared.tile.Tile.{Tile}
 use Rattle.string.specs.declared.tile.Tile.the-variants.{Piece, Bad}
-use Rattle.string.specs.Letters.{valueIn, letterValue}
-use Rattle.string.specs.Tile.{numeralFrom, letteredOr, numbered, escapeOf}
+use Rattle.string.specs.Letters.{lookedUp, letterValue}
+use Rattle.string.specs.Tile.{amountFrom, letteredOr, numbered, escapeOf}
 
 -- a fact of each way that an escape goes on
 pub by-letter : (P : Tile → Type 0) (o : Option ℕ) {other : Tile} → ((v : ℕ) → o ≡ some v → P (Piece Letter v 2)) → (o ≡ none → P other) → P (letteredOr o other)
@@ -20,7 +20,7 @@ by-letter P none f g = g refl
 
 module _ (q : ℕ) (xs : List ℕ) where
   pub past-end : q < end → length xs ≤ 1 → Bad ≡ escapeOf q xs
-  unfolding escapeOf letterValue valueIn numbered numeralFrom isDigitIn isHexDigit isWithin
+  unfolding escapeOf letterValue lookedUp numbered amountFrom isDigitIn isHexDigit isWithin
   past-end h l = rw (List·getD-eq-default xs end l, ne-eqb end q (λ e. omega arith))
 
   abbrev second : ℕ

@@ -14,7 +14,7 @@ use Rattle.scan.specs.Text.{has, Stands}
 use Rattle.proving.proofs.Choice.{either, and-left, and-right}
 use Rattle.proving.proofs.Tests.{Tests}
 use Rattle.scan.proofs.Stands.{tests-has}
-use Rattle.string.specs.Letters.{letters, valueIn, isOwnSign, letterValue}
+use Rattle.string.specs.Letters.{letters, lookedUp, isOwnSign, letterValue}
 
 abbrev pub isSome : Option ℕ → Bool
 isSome (some v) = true
@@ -36,23 +36,23 @@ abbrev values : List (ℕ × ℕ) → List ℕ
 values rs = map (λ (r : ℕ × ℕ). r .1) rs
 
 -- a table gives a value exactly to its letters, and the values are the table's
-in-table : (rs : List (ℕ × ℕ)) (c : ℕ) → isSome (valueIn rs c) ≡ has c (keys rs)
-unfolding valueIn has
+in-table : (rs : List (ℕ × ℕ)) (c : ℕ) → isSome (lookedUp rs c) ≡ has c (keys rs)
+unfolding lookedUp has
 in-table [] c = refl
 in-table (r ∷ rs) c = go (eqb (r .0) c) (in-table rs c)
   where
-    go : (b : Bool) → isSome (valueIn rs c) ≡ has c (keys rs) → isSome (cond b (some (r .1)) (valueIn rs c)) ≡ b || has c (keys rs)
+    go : (b : Bool) → isSome (lookedUp rs c) ≡ has c (keys rs) → isSome (cond b (some (r .1)) (lookedUp rs c)) ≡ b || has c (keys rs)
     go true e = refl
     go false e = e
 
-value-passes : (p : ℕ → Bool) (rs : List (ℕ × ℕ)) (c : ℕ) → every p (values rs) ≡ true → passes p (valueIn rs c) ≡ true
-unfolding valueIn
+value-passes : (p : ℕ → Bool) (rs : List (ℕ × ℕ)) (c : ℕ) → every p (values rs) ≡ true → passes p (lookedUp rs c) ≡ true
+unfolding lookedUp
 value-passes p [] c a = refl
 value-passes p (r ∷ rs) c a =
     either (λ (o : Option ℕ). passes p o ≡ true) (eqb (r .0) c) (λ e. and-left (p (r .1)) (every p (values rs)) a)
     (λ e. value-passes p rs c (and-right (p (r .1)) (every p (values rs)) a))
 
-tests-table : (c : ℕ) → Tests (isSome (valueIn letters c)) (Stands c (ascii "abfnrtv\\"))
+tests-table : (c : ℕ) → Tests (isSome (lookedUp letters c)) (Stands c (ascii "abfnrtv\\"))
 tests-table c = subst (λ (b : Bool). Tests b (Stands c (ascii "abfnrtv\\"))) (sym (in-table letters c)) (tests-has c (ascii "abfnrtv\\"))
 
 module _ (q c : ℕ) where

@@ -24,11 +24,11 @@ use Rattle.utf8.proofs.Bounds.{first-character, byte-scalar, encoded-bound}
 use Rattle.utf8.proofs.Inverse.{decode-encode}
 use Rattle.string.specs.declared.tile.Form.{Form}
 use Rattle.string.specs.declared.tile.Form.the-variants.{Plain, Letter, Hex, Octal, Point}
-use Rattle.string.specs.declared.tile.Numeral.{Numeral}
-use Rattle.string.specs.declared.tile.Numeral.the-variants.{Value, NotDigits}
+use Rattle.string.specs.declared.tile.Amount.{Amount}
+use Rattle.string.specs.declared.tile.Amount.the-variants.{Value, NotDigits}
 use Rattle.string.specs.declared.tile.Tile.{Tile}
-use Rattle.string.specs.Letters.{valueIn, letterValue}
-use Rattle.string.specs.Tile.{numeralFrom, isAllowed, numberedAs, numbered, escapeOf, beginsEscape, plainOf, tileOf}
+use Rattle.string.specs.Letters.{lookedUp, letterValue}
+use Rattle.string.specs.Tile.{amountFrom, isAllowed, numberedAs, numbered, escapeOf, beginsEscape, plainOf, tileOf}
 use Rattle.string.specs.laws.Tile.{Fair, FairTile, EachFair}
 use Rattle.string.proofs.tile.Letters.{isSome, passes, letter-passes}
 use Rattle.string.proofs.tile.Forms.{by-letter}
@@ -66,7 +66,7 @@ module _ (q : ℕ) (h : q < 0x80) where
       ltb-true v 0x80 (sym (ap (passes p) e) ∙ letter-passes q c p (λ s. lt-ltb q 0x80 h) refl)
 
   no-letter : letterValue q end ≡ none
-  unfolding letterValue valueIn
+  unfolding letterValue lookedUp
   no-letter = rw (ne-eqb end q (λ e. omega arith))
 
   letter-fair : (xs : List ℕ) (v : ℕ) → letterValue q (peekAt xs 1) ≡ some v → Fair (length xs) Letter v 2
@@ -82,9 +82,9 @@ module _ (q : ℕ) (h : q < 0x80) where
 
 numbered-fair : (f : Form) (radix at n : ℕ) (xs : List ℕ) → 4 ≤ at + suc n → FairTile (length xs) (numbered f radix at (suc n) xs)
 unfolding numbered
-numbered-fair f radix at n xs h = go (numeralFrom radix 0 (suc n) at xs) refl
+numbered-fair f radix at n xs h = go (amountFrom radix 0 (suc n) at xs) refl
   where
-    go : (m : Numeral) → numeralFrom radix 0 (suc n) at xs ≡ m → FairTile (length xs) (numberedAs f (at + suc n) m)
+    go : (m : Amount) → amountFrom radix 0 (suc n) at xs ≡ m → FairTile (length xs) (numberedAs f (at + suc n) m)
     go (Value v) e =
         either (FairTile (length xs)) (isAllowed f v)
         (λ t. record { some = omega arith; within = digits-within radix xs n 0 at v e; allowed = t; few = omega (arith, encoded-bound v) })

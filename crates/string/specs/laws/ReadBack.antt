@@ -5,6 +5,7 @@ use mathlib.Core.List.{List, [], _∷_, _++_}
 use mathlib.Core.Path.{_≡_}
 use lib.Dec.{leb}
 use lib.ListN.{length}
+use Rattle.scan.specs.Byte.{doubleQuote}
 use Rattle.utf8.specs.declared.Reading.{Reading}
 use Rattle.utf8.specs.declared.Reading.the-variants.{Crate, Documented}
 use Rattle.utf8.specs.Text.{WellFormed}
@@ -16,7 +17,7 @@ use Rattle.string.specs.declared.Unquoting.{Unquoting}
 use Rattle.string.specs.declared.Unquoting.the-variants.{Inner, Written, Refused}
 use Rattle.string.specs.Escape.{escaped}
 use Rattle.string.specs.Tiles.{tilesOf}
-use Rattle.string.specs.Literal.{doubleQuote, signOf, innerOf, isBadLiteral, unquoted, unquotingOf, textBy, partOf}
+use Rattle.string.specs.Literal.{signOf, innerOf, isBadLiteral, unquoted, unquotingOf, textBy, partOf}
 
 -- an answer that is no refusal names the text of the literal, in the literal or in the buffer as it was left
 abbrev pub isRead : Unquoting → Bool

@@ -5,7 +5,7 @@ use mathlib.Core.List.{List, [], _∷_}
 use mathlib.Core.Logic.{_↔_, _⊎_}
 use mathlib.Core.Path.{_≡_}
 use lib.ListN.{length, take, drop}
-use Rattle.scan.specs.Byte.{peekAt, backslash}
+use Rattle.scan.specs.Byte.{peekAt, backslash, backquote, doubleQuote, singleQuote}
 use Rattle.scan.specs.Text.{Stands}
 use Rattle.utf8.specs.declared.Reading.{Reading}
 use Rattle.utf8.specs.Text.{prefixEnd, WellFormed}
@@ -13,11 +13,10 @@ use Rattle.utf8.specs.Answers.{textLimit, placeAt, tooLong, notUtf8, noRoom}
 use Rattle.utf8.specs.laws.Refusals.{TooLong, NotUtf8, NoRoom, Taken}
 use Rattle.string.specs.declared.tile.Tile.{Tile}
 use Rattle.string.specs.declared.tile.Tile.the-variants.{Bad}
-use Rattle.string.specs.Tile.{backquote}
 use Rattle.string.specs.declared.Unquoting.the-variants.{Inner, Written, Refused}
-use Rattle.string.specs.laws.Tile.{IsEscape, Begun}
-use Rattle.string.specs.Tiles.{sizeOf, tilesOf}
-use Rattle.string.specs.Literal.{doubleQuote, singleQuote, lineFeed, signOf, innerOf, unquoted, badLiteral, unquotingOf}
+use Rattle.string.specs.laws.Tile.{IsEscape, EscapeBegun}
+use Rattle.string.specs.Tiles.{tileSize, tilesOf}
+use Rattle.string.specs.Literal.{lineFeed, signOf, innerOf, unquoted, badLiteral, unquotingOf}
 
 -- "At least two bytes,
 abbrev pub TooShort : List ℕ → Type 0
@@ -43,13 +42,13 @@ BadAmong (t ∷ ts) = (t ≡ Bad) ⊎ BadAmong ts
 -- which in text means that where a tile starts, the sign stands, or a backslash that begins none of 01's escapes (`tile`, specs/Laws)
 abbrev pub sizesOf : List Tile → ℕ
 sizesOf [] = 0
-sizesOf (t ∷ ts) = sizeOf t + sizesOf ts
+sizesOf (t ∷ ts) = tileSize t + sizesOf ts
 
 abbrev pub Starts : ℕ → List ℕ → ℕ → Type 0
 Starts q ys at = (k : ℕ) × (at ≡ sizesOf (take k (tilesOf q ys)))
 
 abbrev pub BadAt : ℕ → List ℕ → Type 0
-BadAt q zs = (peekAt zs 0 ≡ q) ⊎ (Begun q zs × (¬ (IsEscape q zs)))
+BadAt q zs = (peekAt zs 0 ≡ q) ⊎ (EscapeBegun q zs × (¬ (IsEscape q zs)))
 
 abbrev pub BadThere : Type 0
 BadThere =

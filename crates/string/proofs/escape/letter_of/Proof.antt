@@ -1,32 +1,32 @@
 -- The arms are the letters that escaping writes, each for what it stands for.
 use mathlib.Core.Path.{sym}
 use borrow.Author.Tests.{ne-eqb}
-use Rattle.string.specs.Letters.{valueIn, letterValue, letterAmong, letterOf}
+use Rattle.string.specs.Letters.{lookedUp, letterValue, letterAmong, letterOf}
 use Rattle.string.proofs.escape.letter_of.Statement.{statement}
 use Rattle.string.proofs.escape.letter_of.Tie as tie
 
 returns : tie.Need-returns
-unfolding letterOf letterAmong letterValue valueIn
+unfolding letterOf letterAmong letterValue lookedUp
 returns c = rw (c .match .keys1)
 
 returns-2 : tie.Need-returns-2
-unfolding letterOf letterAmong letterValue valueIn
+unfolding letterOf letterAmong letterValue lookedUp
 returns-2 c = rw (c .match .keys2)
 
 returns-3 : tie.Need-returns-3
-unfolding letterOf letterAmong letterValue valueIn
+unfolding letterOf letterAmong letterValue lookedUp
 returns-3 c = rw (c .match .keys3)
 
 returns-4 : tie.Need-returns-4
-unfolding letterOf letterAmong letterValue valueIn
+unfolding letterOf letterAmong letterValue lookedUp
 returns-4 c = rw (c .match .keys4)
 
 returns-5 : tie.Need-returns-5
-unfolding letterOf letterAmong letterValue valueIn
+unfolding letterOf letterAmong letterValue lookedUp
 returns-5 c = rw (c .match .keys5)
 
 returns-6 : tie.Need-returns-6
-unfolding letterOf letterAmong letterValue valueIn
+unfolding letterOf letterAmong letterValue lookedUp
 returns-6 c =
     let r = c .match .rest in
     let x = c .before .args .c in

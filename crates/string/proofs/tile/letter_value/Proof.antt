@@ -7,13 +7,13 @@ use mathlib.Core.Path.{_≡_, refl, sym}
 use lib.Dec.{eqb}
 use borrow.Author.Needs.{needs}
 use borrow.Author.Tests.{eq-eqb, ne-eqb, lt-ltb}
-use Rattle.string.specs.Letters.{letterValue, valueIn}
+use Rattle.string.specs.Letters.{letterValue, lookedUp}
 use Rattle.string.proofs.tile.letter_value.Statement.{statement}
 use Rattle.string.proofs.tile.letter_value.Tie as tie
 
 -- the sign, where it is one; and NUL is no letter
 own : (q : ℕ) → q ≡ Option·getD (letterValue q q) 0
-unfolding letterValue valueIn
+unfolding letterValue lookedUp
 own zero = refl
 own (suc q) = rw (eq-eqb (suc q) (suc q) refl, lt-ltb 0 (suc q) (omega arith))
 
@@ -24,42 +24,45 @@ other : (c : tie.Else1) → eqb (c .before .args .c) (c .before .args .quote) �
 other c = ne-eqb (c .before .args .c) (c .before .args .quote) (c .if1 .left)
 
 returns-2 : tie.Need-returns-2
-unfolding letterValue valueIn
+unfolding letterValue lookedUp
 returns-2 c = rw (other (c .before), c .match .keys1)
 
 returns-3 : tie.Need-returns-3
-unfolding letterValue valueIn
+unfolding letterValue lookedUp
 returns-3 c = rw (other (c .before), c .match .keys2)
 
 returns-4 : tie.Need-returns-4
-unfolding letterValue valueIn
+unfolding letterValue lookedUp
 returns-4 c = rw (other (c .before), c .match .keys3)
 
 returns-5 : tie.Need-returns-5
-unfolding letterValue valueIn
+unfolding letterValue lookedUp
 returns-5 c = rw (other (c .before), c .match .keys4)
 
 returns-6 : tie.Need-returns-6
-unfolding letterValue valueIn
+unfolding letterValue lookedUp
 returns-6 c = rw (other (c .before), c .match .keys5)
 
 returns-7 : tie.Need-returns-7
-unfolding letterValue valueIn
+unfolding letterValue lookedUp
 returns-7 c = rw (other (c .before), c .match .keys6)
 
 returns-8 : tie.Need-returns-8
-unfolding letterValue valueIn
+unfolding letterValue lookedUp
 returns-8 c = rw (other (c .before), c .match .keys7)
 
 cast-result : tie.Need-cast-result
 cast-result c = search needs
 
+cast-result-2 : tie.Need-cast-result-2
+cast-result-2 c = search needs
+
 returns-9 : tie.Need-returns-9
-unfolding letterValue valueIn
+unfolding letterValue lookedUp
 returns-9 c = rw (other (c .before), c .match .keys8)
 
 returns-10 : tie.Need-returns-10
-unfolding letterValue valueIn
+unfolding letterValue lookedUp
 returns-10 c =
     let r = c .match .rest in
     let x = c .before .before .args .c in
@@ -81,6 +84,7 @@ letter-value-spec =
     (tie.spec
     returns
     cast-result
+    cast-result-2
     returns-2
     returns-3
     returns-4
