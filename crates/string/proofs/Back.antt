@@ -31,7 +31,7 @@ use Rattle.string.specs.Tiles.{tilesOf, hasBad, pieceBytes, bytesOf}
 use Rattle.string.specs.Literal.{lineFeed, innerOf, isEnclosed, hasNewline}
 use Rattle.string.specs.laws.ReadBack.{quoted, ReadBack, ReadBackJoin, ReadBackPart}
 use Rattle.string.proofs.escape.Escapes.{copied, lettered, high-copied, empty-escaped, bytes-join, by-characters-escaped, escape-join, escaped-text}
-use Rattle.string.proofs.Readings.{part-is-text, reads}
+use Rattle.string.proofs.Readings.{part-is-text, good-read}
 use Rattle.string.proofs.Contents.{tiles-none, first-piece}
 use Rattle.string.proofs.Plain.{plain-bad, plain-bytes, has-join, has-not}
 
@@ -176,5 +176,5 @@ read-back-part r xs d w l h =
     let b = read-back r xs w in
     let literal = quoted (escaped xs) in
     let t : WellFormed literal = quoted-text (escaped xs) (escaped-text xs w) in
-    let e = reads r literal (length d) ((λ n. omega arith), t) (b .0) (omega (arith, ap length (b .1))) in
+    let e = good-read r (length d) literal ((λ n. omega arith), t) (b .0) (omega (arith, ap length (b .1))) in
     (e, part-is-text r literal d e ∙ b .1)

@@ -17,8 +17,7 @@ use Rattle.string.specs.declared.tile.Form.{Form}
 use Rattle.string.specs.declared.tile.Tile.{Tile}
 use Rattle.string.specs.declared.tile.Tile.the-variants.{Piece, Bad}
 use Rattle.string.specs.Tile.{tileOf}
-use Rattle.string.specs.laws.Tile.{Fair, FairTile}
-use Rattle.string.proofs.tile.Tiles.{each-fair}
+use Rattle.string.proofs.tile.Tiles.{Fair, FairTile, each-fair}
 use Rattle.string.specs.declared.Extent.the-variants as extent
 use Rattle.string.specs.Tiles.{tileSize, tilesPast, tilesOf, hasBad, givesByte, pieceBytes, tileBytes, bytesOf}
 use Rattle.string.specs.steps.Measure.{isSingle, tilesExtent}

@@ -125,7 +125,7 @@ tag (extent.Text false n) = 0
 tag (extent.Text true n) = 1
 tag extent.Bad = 2
 
-abbrev pub sizeOf : Extent → ℕ
+abbrev sizeOf : Extent → ℕ
 sizeOf (extent.Text b n) = n
 sizeOf extent.Bad = 0
 

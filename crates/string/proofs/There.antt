@@ -15,9 +15,9 @@ use Rattle.utf8.proofs.Laws.{none-empty}
 use Rattle.string.specs.declared.tile.Tile.{Tile}
 use Rattle.string.specs.declared.tile.Tile.the-variants.{Piece, Bad}
 use Rattle.string.specs.Tile.{tileOf}
-use Rattle.string.specs.laws.Tile.{FairTile, TextAfter, IsEscape, EscapeBegun}
-use Rattle.string.proofs.tile.Tiles.{each-fair}
-use Rattle.string.proofs.tile.Behind.{text-behind}
+use Rattle.string.specs.laws.Tile.{IsEscape, EscapeBegun}
+use Rattle.string.proofs.tile.Tiles.{FairTile, each-fair}
+use Rattle.string.proofs.tile.Behind.{TextAfter, text-behind}
 use Rattle.string.proofs.tile.Bad.{bad-when}
 use Rattle.string.specs.Tiles.{tileSize, tilesOf}
 use Rattle.string.specs.laws.Refusals.{BadAmong, sizesOf, Starts, BadAt, BadThere}

@@ -1,10 +1,11 @@
 -- What holds of writing a duration, as statements: document 01's rows 54 and 3 for it, each given exactly when, how long a text is, and
--- what it denotes. Their proofs stand in `proofs/Given`, `proofs/Bounds` and `proofs/Denotes`.
+-- what it denotes. Their proofs stand in `proofs/display`: `Given`, `Answers`, `Bounds` and `Denotes`.
 use Prim.Native.Nat.{ℕ, _%_, _^_, _≤_, _<_}
 use mathlib.Core.List.{[]}
-use mathlib.Core.Logic.{_↔_}
+use mathlib.Core.Logic.{_↔_, _⊎_}
 use mathlib.Core.Path.{_≡_}
 use lib.ListN.{length}
+use Rattle.utf8.specs.declared.Writing.{Writing}
 use Rattle.utf8.specs.declared.Writing.the-variants.{Written, Refused}
 use Rattle.utf8.specs.Answers.{atStart, noRoom}
 use Rattle.utf8.specs.laws.Refusals.{NoRoom}
@@ -23,6 +24,14 @@ DisplayingGiven =
     (displayingOf room d ≡ Refused (atStart overRange) ↔ OverRange d)
     × (displayingOf room d ≡ Refused noRoom ↔ (¬ (OverRange d)) × NoRoom room (durationText d))
     × (displayingOf room d ≡ Written (length (durationText d)) ↔ (¬ (OverRange d)) × (¬ (NoRoom room (durationText d))))
+
+-- what each answer tells: the text was written, no more bytes than there was room for; or it is refused with 54 or 3
+abbrev pub DisplayTells : ℕ → Duration → Writing → Type 0
+DisplayTells room d (Written n) = (n ≡ length (durationText d)) × (n ≤ room)
+DisplayTells room d (Refused r) = (r ≡ atStart overRange) ⊎ (r ≡ noRoom)
+
+abbrev pub DisplayAnswers : Type 0
+DisplayAnswers = (room : ℕ) (d : Duration) → DisplayTells room d (displayingOf room d)
 
 -- no text is longer
 abbrev pub longestText : ℕ

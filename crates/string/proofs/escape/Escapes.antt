@@ -5,23 +5,22 @@ use native.Mathlib.Nat.{zero-add}
 use native.Mathlib.Numerals.{add-one}
 use native.Mathlib.Omega.{arith}
 use native.Mathlib.Decide.{decLt}
-use mathlib.Core.Bool.{Bool, true, false, cond, _&&_}
+use mathlib.Core.Bool.{Bool, true, _&&_}
 use mathlib.Core.List.{List, [], _∷_, _++_, append-assoc, append-nil}
 use mathlib.Core.Option.{Option, none, some, Option·getD}
 use mathlib.Core.Path.{_≡_, refl, sym, ap, _∙_}
-use lib.Dec.{leb, ltb}
+use lib.Dec.{ltb}
 use lib.ListN.{length, getD, drop}
 use lib.Seq.{take-length, drop-cons, sets, sets-eq}
 use borrow.Author.Tests.{ne-eqb, le-leb, lt-leb, lt-ltb}
 use Rattle.scan.specs.Ascii.{ascii}
 use Rattle.scan.specs.Byte.{peekAt, backslash, doubleQuote}
-use Rattle.proving.proofs.Choice.{either, and-left, and-right, told}
+use Rattle.proving.proofs.Choice.{either, and-left, and-right}
 use Rattle.utf8.specs.Table.{charLength}
 use Rattle.utf8.specs.Code.{codeOf, encoded}
 use Rattle.utf8.specs.Text.{WellFormed}
 use Rattle.utf8.specs.declared.CharNumber.{CharNumber}
 use Rattle.utf8.specs.declared.Refusal.{Refusal}
-use Rattle.utf8.specs.declared.Admission.{Admission}
 use Rattle.utf8.specs.declared.Admission.the-variants as admission
 use Rattle.utf8.specs.Answers.{textLimit, noRoom, admitted}
 use Rattle.utf8.proofs.Chars.{chars-none}
@@ -30,11 +29,10 @@ use Rattle.utf8.proofs.Laws.{none-empty, rest-well, none-ascii, ascii-code, one
 use Rattle.utf8.proofs.Ascii.{ascii-text, one-ascii}
 use Rattle.utf8.proofs.Given.{admitted-text}
 use Rattle.utf8.proofs.Inverse.{decode-encode, long-code}
-use Rattle.utf8.specs.declared.Writing.{Writing}
 use Rattle.utf8.specs.declared.Writing.the-variants.{Written, Refused}
 use Rattle.utf8.specs.Writing.{leftBy}
 use Rattle.string.specs.Letters.{lookedUp, letterValue, isFor, letterAmong, letterOf}
-use Rattle.string.specs.Escape.{orLetter, escaped, escapingAs, escapingOf}
+use Rattle.string.specs.Escape.{orLetter, escaped, escapingOf}
 use Rattle.string.specs.laws.Escape.{EscapeJoin, EscapedText}
 use Rattle.string.specs.steps.Bytes.{escapedByte, escapedBytes}
 use Rattle.string.proofs.tile.Letters.{passes, every, none-is}
@@ -186,24 +184,3 @@ module _ (xs d : List ℕ) where
 
     pub left : length (escapedBytes xs) ≤ length d → sets d 0 (escapedBytes xs) ≡ leftBy (Written (length (escapedBytes xs))) (escaped xs) d
     left h = rw by-bytes (sets-eq (escapedBytes xs) d 0 (omega arith) ∙ rw zero-add)
-
--- and what an accepted one says
-abbrev tag : Writing → ℕ
-tag (Written n) = 0
-tag (Refused r) = 1
-
-abbrev sizeOf : Writing → ℕ
-sizeOf (Written n) = n
-sizeOf (Refused r) = 0
-
-pub written-told : (room : ℕ) (xs : List ℕ) (n : ℕ) → escapingOf room xs ≡ Written n → WellFormed xs × (n ≡ length (escaped xs))
-unfolding escapingOf
-written-told room xs n = go (admitted textLimit xs) refl
-  where
-    fits : (t : Bool) → cond t (Written (length (escaped xs))) (Refused noRoom) ≡ Written n → n ≡ length (escaped xs)
-    fits true e = sym (ap sizeOf e)
-    fits false e = told tag e refl (λ z. omega arith)
-
-    go : (a : Admission) → admitted textLimit xs ≡ a → escapingAs room xs a ≡ Written n → WellFormed xs × (n ≡ length (escaped xs))
-    go (admission.Admitted m) a e = (admitted-text textLimit xs m a .1, fits (leb (length (escaped xs)) room) e)
-    go (admission.Refused r) a e = told tag e refl (λ z. omega arith)

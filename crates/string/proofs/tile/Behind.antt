@@ -27,12 +27,16 @@ use Rattle.string.specs.declared.tile.Form.the-variants.{Hex, Octal, Poi
 use Rattle.string.specs.declared.tile.Amount.{Amount}
 use Rattle.string.specs.declared.tile.Amount.the-variants.{Value, NotDigits}
 use Rattle.string.specs.declared.tile.Tile.{Tile}
+use Rattle.string.specs.declared.tile.Tile.the-variants.{Piece, Bad}
 use Rattle.string.specs.Letters.{letterValue}
 use Rattle.string.specs.Tile.{amountFrom, isAllowed, numberedAs, numbered, escapeOf, beginsEscape, plainOf, tileOf}
-use Rattle.string.specs.laws.Tile.{TextAfter, TextBehind}
 use Rattle.string.proofs.tile.Digits.{here, turn}
 use Rattle.string.proofs.tile.Letters.{letter-told}
 use Rattle.string.proofs.tile.Forms.{by-letter}
+
+abbrev pub TextAfter : List ℕ → Tile → Type 0
+TextAfter xs (Piece f v n) = WellFormed (drop n xs)
+TextAfter xs Bad = Unit {0}
 
 -- ASCII bytes are passed one by one
 ascii-drop : (n : ℕ) (xs : List ℕ) → ((i : ℕ) → i < n → peekAt xs i < 0x80) → WellFormed xs → WellFormed (drop n xs)
@@ -116,7 +120,7 @@ begins : (q c : ℕ) → beginsEscape q c ≡ true → c ≡ backslash
 unfolding beginsEscape
 begins q c e = eqb-true c backslash (and-left (eqb c backslash) (not (eqb q backquote)) e)
 
-pub text-behind : TextBehind
+pub text-behind : (q : ℕ) (xs : List ℕ) → q < 0x80 → WellFormed xs → TextAfter xs (tileOf q xs)
 unfolding tileOf
 text-behind q xs l w =
     let P : Tile → Type 0 = TextAfter xs in

@@ -15,7 +15,7 @@ use borrow.Author.Tests.{ne-eqb, lt-ltb, ltb-true}
 use Rattle.scan.specs.Byte.{end, peekAt}
 use Rattle.proving.proofs.Choice.{either}
 use Rattle.utf8.specs.Table.{charLength}
-use Rattle.utf8.specs.Code.{codeOf}
+use Rattle.utf8.specs.Code.{codeOf, encoded}
 use Rattle.utf8.specs.declared.Character.the-variants.{Nothing, IllFormed}
 use Rattle.utf8.specs.Answers.{characterAt}
 use Rattle.utf8.proofs.Chars.{char-bound}
@@ -27,12 +27,23 @@ use Rattle.string.specs.declared.tile.Form.the-variants.{Plain, Letter, 
 use Rattle.string.specs.declared.tile.Amount.{Amount}
 use Rattle.string.specs.declared.tile.Amount.the-variants.{Value, NotDigits}
 use Rattle.string.specs.declared.tile.Tile.{Tile}
+use Rattle.string.specs.declared.tile.Tile.the-variants.{Piece, Bad}
 use Rattle.string.specs.Letters.{lookedUp, letterValue}
 use Rattle.string.specs.Tile.{amountFrom, isAllowed, numberedAs, numbered, escapeOf, beginsEscape, plainOf, tileOf}
-use Rattle.string.specs.laws.Tile.{Fair, FairTile, EachFair}
 use Rattle.string.proofs.tile.Letters.{isSome, passes, letter-passes}
 use Rattle.string.proofs.tile.Forms.{by-letter}
 use Rattle.string.proofs.tile.Digits.{digits-within}
+
+-- a tile takes one byte at least, and no more than there are; its form may have its value, and has as many bytes as that character, or more
+pub record Fair (room : ℕ) (form : Form) (value size : ℕ) : Type 0 where
+  pub some : 0 < size
+  pub within : size ≤ room
+  pub allowed : isAllowed form value ≡ true
+  pub few : length (encoded value) ≤ size
+
+abbrev pub FairTile : ℕ → Tile → Type 0
+FairTile room (Piece f v n) = Fair room f v n
+FairTile room Bad = Unit {0}
 
 module _ (xs : List ℕ) where
   abbrev n : ℕ
@@ -91,7 +102,8 @@ numbered-fair f radix at n xs h = go (amountFrom radix 0 (suc n) at xs) refl
         (λ t. tt)
     go NotDigits e = tt
 
-pub each-fair : EachFair
+-- every tile is such a one, where the sign is ASCII, as quote signs are
+pub each-fair : (q : ℕ) (xs : List ℕ) → q < 0x80 → FairTile (length xs) (tileOf q xs)
 unfolding tileOf escapeOf
 each-fair q xs h =
     let P : Tile → Type 0 = FairTile (length xs) in

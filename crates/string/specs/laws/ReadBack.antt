@@ -10,6 +10,7 @@ use Rattle.utf8.specs.declared.Reading.{Reading}
 use Rattle.utf8.specs.declared.Reading.the-variants.{Crate, Documented}
 use Rattle.utf8.specs.Text.{WellFormed}
 use Rattle.utf8.specs.Answers.{textLimit}
+use Rattle.utf8.specs.laws.Refusals.{Taken}
 use Rattle.string.specs.declared.tile.Tile.{Tile}
 use Rattle.string.specs.declared.tile.Tile.the-variants.{Piece, Bad}
 use Rattle.string.specs.Tile.{isByte}
@@ -30,6 +31,12 @@ PartIsText =
     (r : Reading) (xs d : List ℕ) →
     let u = unquotingOf r (length d) xs in
     isRead u ≡ true → partOf u xs (textBy u (unquoted r xs) d) ≡ unquoted r xs
+
+-- and a literal that is not bad is read, where the limit and the room are kept
+abbrev pub GoodRead : Type 0
+GoodRead =
+    (r : Reading) (room : ℕ) (xs : List ℕ) → Taken textLimit xs → isBadLiteral xs ≡ false → length (unquoted r xs) ≤ room →
+    isRead (unquotingOf r room xs) ≡ true
 
 -- the two readings give the same where no byte escape has a value of 80 hex or more
 abbrev pub isHighByte : Tile → Bool

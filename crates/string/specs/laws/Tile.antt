@@ -1,45 +1,18 @@
--- What the crates above may know of a tile, as statements; `proofs/Tiles`, `proofs/Behind` and `proofs/Bad` have their proofs.
+-- When a tile is bad, by 01's list of escapes; `proofs/tile/Bad` has the proof.
 use Prim.Native.Nat.{ℕ, _<_, _≤_}
 use Prim.Native.Char.{code}
 use mathlib.Core.Bool.{true}
 use mathlib.Core.List.{List}
 use mathlib.Core.Logic.{_↔_, _⊎_}
 use mathlib.Core.Path.{_≡_}
-use lib.ListN.{length, drop}
 use Rattle.scan.specs.Ascii.{ascii}
 use Rattle.scan.specs.Byte.{peekAt, backslash, backquote}
 use Rattle.scan.specs.Text.{Stands}
 use Rattle.utf8.specs.Table.{charLength}
-use Rattle.utf8.specs.Code.{isScalar, encoded}
-use Rattle.utf8.specs.Text.{WellFormed}
-use Rattle.string.specs.declared.tile.Form.{Form}
-use Rattle.string.specs.declared.tile.Tile.{Tile}
-use Rattle.string.specs.declared.tile.Tile.the-variants.{Piece, Bad}
+use Rattle.utf8.specs.Code.{isScalar}
+use Rattle.string.specs.declared.tile.Tile.the-variants.{Bad}
 use Rattle.string.specs.declared.tile.Amount.the-variants.{Value}
-use Rattle.string.specs.Tile.{amountFrom, isAllowed, tileOf}
-
--- a tile takes one byte at least, and no more than there are; its form may have its value, and has as many bytes as that character, or more
-pub record Fair (room : ℕ) (form : Form) (value size : ℕ) : Type 0 where
-  pub some : 0 < size
-  pub within : size ≤ room
-  pub allowed : isAllowed form value ≡ true
-  pub few : length (encoded value) ≤ size
-
-abbrev pub FairTile : ℕ → Tile → Type 0
-FairTile room (Piece f v n) = Fair room f v n
-FairTile room Bad = Unit {0}
-
--- every tile is such a one, where the sign is ASCII, as quote signs are
-abbrev pub EachFair : Type 0
-EachFair = (q : ℕ) (xs : List ℕ) → q < 0x80 → FairTile (length xs) (tileOf q xs)
-
--- behind a tile of text there is text
-abbrev pub TextAfter : List ℕ → Tile → Type 0
-TextAfter xs (Piece f v n) = WellFormed (drop n xs)
-TextAfter xs Bad = Unit {0}
-
-abbrev pub TextBehind : Type 0
-TextBehind = (q : ℕ) (xs : List ℕ) → q < 0x80 → WellFormed xs → TextAfter xs (tileOf q xs)
+use Rattle.string.specs.Tile.{amountFrom, tileOf}
 
 -- n digits of a radix stand from an offset on, and amount to v
 abbrev pub AmountTo : ℕ → ℕ → ℕ → List ℕ → ℕ → Type 0
