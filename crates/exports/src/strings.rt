@@ -43,7 +43,7 @@ fn reading_of(documented: u32) -> Reading
 }
 
 // What is told of a text that was not written: how many bytes of it stand in the literal itself, or its refusal.
-fn not_written(u: Unquoting) -> u64
+fn unwritten_code(u: Unquoting) -> u64
     requires { ⌜ ((n : ℕ) → u ≡ Written n → ⊥) ⌝ }
     requires { ⌜ ((n : ℕ) → u ≡ Inner n → n < innerFrom) ⌝ }
     ensures { λ r. ⌜ r ≡ unquoteCode u ⌝ }
@@ -63,7 +63,7 @@ pub extern "C" fn simmerpath_unquote_string(literal: &[u8], documented: u32, tex
 {
     let u = string::unquote_string(literal, reading_of(documented), text);
     let Unquoting::Written(n) = u else {
-        return not_written(u);
+        return unwritten_code(u);
     };
     n as u64
 }

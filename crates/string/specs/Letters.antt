@@ -1,4 +1,5 @@
--- The letters that stand behind a backslash for a character, in one table: reading looks a letter up, and escaping a character.
+-- The letters that stand behind a backslash for a character, in one table: reading looks a letter up, and escaping a character. Document 01
+-- has the letters, and Go's specification, "Rune literals", what each stands for.
 use Prim.Native.Nat.{ℕ}
 use Prim.Native.Char.{code}
 use mathlib.Core.Bool.{Bool, false, cond, _&&_}
@@ -14,6 +15,7 @@ letters =
     (code "a", 0x07) ∷ (code "b", 0x08) ∷ (code "f", 0x0c) ∷ (code "n", 0x0a) ∷ (code "r", 0x0d) ∷ (code "t", 0x09) ∷ (code "v", 0x0b)
     ∷ (backslash, backslash) ∷ []
 
+-- what a letter of a table stands for
 unfoldable pub lookedUp : List (ℕ × ℕ) → ℕ → Option ℕ
 lookedUp [] c = none
 lookedUp (p ∷ ps) c = cond (eqb (p .0) c) (some (p .1)) (lookedUp ps c)
@@ -26,6 +28,7 @@ isOwnSign q c = eqb c q && ltb 0 q
 unfoldable pub letterValue : ℕ → ℕ → Option ℕ
 letterValue q c = cond (isOwnSign q c) (some q) (lookedUp letters c)
 
+-- it stands for a character
 abbrev pub isFor : ℕ → Option ℕ → Bool
 isFor c (some v) = eqb v c
 isFor c none = false

@@ -42,8 +42,6 @@ pub enum Extent {
     Bad,
 }
 
-const LAST_ASCII: u32 = 0x7f;
-
 // The bytes of the two signs.
 const SIGNS: usize = 2;
 
@@ -87,7 +85,7 @@ fn gives_byte(reading: Reading, form: Form) -> bool
 fn is_single(reading: Reading, form: Form, value: u32) -> bool
     ensures { λ r. ⌜ r ≡ isSingle reading form value ⌝ }
 {
-    value <= LAST_ASCII || gives_byte(reading, form)
+    value <= tile::LAST_ASCII || gives_byte(reading, form)
 }
 
 // How many bytes a tile gives.

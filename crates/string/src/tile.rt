@@ -54,7 +54,7 @@ const NO_VALUE: u32 = 0;
 
 const LARGEST_BYTE: u32 = 0xff;
 
-const LAST_ASCII: usize = 0x7f;
+pub const LAST_ASCII: u32 = 0x7f;
 
 const HEX: usize = 16;
 
@@ -184,7 +184,7 @@ pub fn unquote_char(s: &[u8], quote: u8) -> Tile
     if begins_escape(quote, first) {
         return escape(s, quote);
     }
-    if first <= LAST_ASCII {
+    if first <= LAST_ASCII as usize {
         let value = first as u32;
         return Tile::Piece {
             form: Form::Plain,

@@ -17,6 +17,11 @@ use Rattle.duration.specs.Display.{countText, partText, restOf, duration
 use Rattle.duration.proofs.display.display_duration.Kinds as display-duration
 use Rattle.duration.proofs.display.display_duration.Reads as display-duration-reads
 
+-- what computes at a duration
+shown : Unit {0}
+unfolding displayingOf durationText partText restOf countText decimalText digitsOf signOf
+shown = tt
+
 abbrev duration : ℕ → ℕ → Duration
 duration s n = record { secs = s; nanos = n }
 
@@ -29,23 +34,23 @@ display-duration-at : (d : Duration) (room : ℕ) → display-duration-gives d r
 display-duration-at d room κs a x e p h = cc (p .0, h .0, h .1)
 
 pub room-of-just-the-length-is-enough : display-duration-gives (duration 1 0) 2 (Written 2)
-unfolding displayingOf durationText partText restOf countText decimalText digitsOf signOf
+unfolding shown
 room-of-just-the-length-is-enough = display-duration-at _ _
 
 pub room-to-spare-is-no-refusal : display-duration-gives (duration 1 0) 30 (Written 2)
-unfolding displayingOf durationText partText restOf countText decimalText digitsOf signOf
+unfolding shown
 room-to-spare-is-no-refusal = display-duration-at _ _
 
 pub no-room-is-refused-with-three : display-duration-gives (duration 1 0) 1 (Refused noRoom)
-unfolding displayingOf durationText partText restOf countText decimalText digitsOf signOf
+unfolding shown
 no-room-is-refused-with-three = display-duration-at _ _
 
 pub whole-second-of-nanoseconds-is-over-range : display-duration-gives (duration 0 1000000000) 30 (Refused (atStart 54))
-unfolding displayingOf durationText partText restOf countText decimalText digitsOf signOf
+unfolding shown
 whole-second-of-nanoseconds-is-over-range = display-duration-at _ _
 
 pub most-nanoseconds-are-written : display-duration-gives (duration 0 999999999) 30 (Written 5)
-unfolding displayingOf durationText partText restOf countText decimalText digitsOf signOf
+unfolding shown
 most-nanoseconds-are-written = display-duration-at _ _
 
 -- a duration, and what the buffer holds before and after
@@ -57,33 +62,33 @@ display-duration-left-out : (d : Duration) (out : List ℕ) → display-duration
 display-duration-left-out d out κs a x e p h = cc (p .0, p .1, h .0, h .1)
 
 pub second-is-written-and-the-rest-stays : display-duration-leaves-out (duration 1 0) (ascii "?????") (ascii "1s???")
-unfolding displayingOf durationText partText restOf countText decimalText digitsOf signOf
+unfolding shown
 second-is-written-and-the-rest-stays = display-duration-left-out _ _
 
 pub zero-is-written-as-no-seconds : display-duration-leaves-out (duration 0 0) (ascii "?????") (ascii "0s???")
-unfolding displayingOf durationText partText restOf countText decimalText digitsOf signOf
+unfolding shown
 zero-is-written-as-no-seconds = display-duration-left-out _ _
 
 pub sixty-seconds-are-a-minute : display-duration-leaves-out (duration 60 0) (ascii "?????") (ascii "1m???")
-unfolding displayingOf durationText partText restOf countText decimalText digitsOf signOf
+unfolding shown
 sixty-seconds-are-a-minute = display-duration-left-out _ _
 
 pub one-day-is-a-day : display-duration-leaves-out (duration 86400 0) (ascii "?????") (ascii "1d???")
-unfolding displayingOf durationText partText restOf countText decimalText digitsOf signOf
+unfolding shown
 one-day-is-a-day = display-duration-left-out _ _
 
 pub eight-days-are-no-week-and-a-day : display-duration-leaves-out (duration 691200 0) (ascii "?????") (ascii "8d???")
-unfolding displayingOf durationText partText restOf countText decimalText digitsOf signOf
+unfolding shown
 eight-days-are-no-week-and-a-day = display-duration-left-out _ _
 
 pub minute-is-taken-away-from-the-seconds : display-duration-leaves-out (duration 61 0) (ascii "???????") (ascii "1m1s???")
-unfolding displayingOf durationText partText restOf countText decimalText digitsOf signOf
+unfolding shown
 minute-is-taken-away-from-the-seconds = display-duration-left-out _ _
 
 pub refusal-for-room-writes-nothing : display-duration-leaves-out (duration 1 0) (ascii "?") (ascii "?")
-unfolding displayingOf durationText partText restOf countText decimalText digitsOf signOf
+unfolding shown
 refusal-for-room-writes-nothing = display-duration-left-out _ _
 
 pub refusal-for-range-writes-nothing : display-duration-leaves-out (duration 1 1000000000) (ascii "?????") (ascii "?????")
-unfolding displayingOf durationText partText restOf countText decimalText digitsOf signOf
+unfolding shown
 refusal-for-range-writes-nothing = display-duration-left-out _ _

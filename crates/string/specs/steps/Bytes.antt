@@ -1,4 +1,4 @@
--- Escaping byte by byte, as the code goes: on text it is the escaping of its characters (`proofs/Escapes`).
+-- Escaping byte by byte, as the code goes: on text it is the escaping of its characters (`proofs/escape/Escapes`).
 use Prim.Native.Nat.{ℕ}
 use mathlib.Core.List.{List, [], _∷_, _++_}
 use Rattle.string.specs.Letters.{letterOf}

@@ -62,15 +62,15 @@ module _ (c : tie.After-unquote-string) where
 unwritten : (u : Unquoting) → OneOf (0 ∷ 2 ∷ []) (tagOf unquoting.the-type u) → (n : ℕ) → u ≡ Written n → ⊥
 unwritten u t n e = let k = ap (tagOf unquoting.the-type) e in ⊎-elim (λ z. omega arith) (λ z. omega arith) t
 
-not-written-requires : tie.Need-not-written-requires
-not-written-requires c κs =
+unwritten-code-requires : tie.Need-unwritten-code-requires
+unwritten-code-requires c κs =
     (unwritten _ (c .match .keys2), λ n e. let t = told-is (c .before .before .before) _ e in omega (arith, t .0 .0, t .2))
 
 same-length : tie.Need-same-length
 same-length c = search needs
 
 returns : tie.Need-returns
-returns c = let d = c .before .before .before .before in (c .not-written .ensures ∙ code-is d _ refl, left-is d)
+returns c = let d = c .before .before .before .before in (c .unwritten-code .ensures ∙ code-is d _ refl, left-is d)
 
 same-length-2 : tie.Need-same-length-2
 same-length-2 c = search needs
@@ -85,7 +85,7 @@ simmerpath-unquote-string-spec =
     reading-of-requires
     unquote-string-requires
     enum-known-u
-    not-written-requires
+    unwritten-code-requires
     same-length
     returns
     same-length-2

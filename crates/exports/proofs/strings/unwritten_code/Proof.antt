@@ -13,8 +13,8 @@ use Rattle.string.proofs.Unquoting as unquoting
 use Rattle.exports.specs.Packed.{packedOf}
 use Rattle.exports.specs.String.{unquoteCode}
 use borrow.Author.Needs.{needs}
-use Rattle.exports.proofs.strings.not_written.Statement.{statement}
-use Rattle.exports.proofs.strings.not_written.Tie as tie
+use Rattle.exports.proofs.strings.unwritten_code.Statement.{statement}
+use Rattle.exports.proofs.strings.unwritten_code.Tie as tie
 
 enum-known-u : tie.Need-enum-known-u
 enum-known-u c = search needs
@@ -42,7 +42,7 @@ add-result c = omega (arith, c .before .before .before .pre .1 _ (c .before .u .
 returns-2 : tie.Need-returns-2
 returns-2 c = ap unquoteCode (sym (c .before .u .given .1))
 
-pub not-written-spec : {M : Type 1} → statement M
-not-written-spec =
+pub unwritten-code-spec : {M : Type 1} → statement M
+unwritten-code-spec =
     tie.close
     (tie.spec enum-known-u not-unquoted-requires packed-requires returns add-result returns-2)
