@@ -6,14 +6,15 @@ use lib.Ieee.{round, size, span, climb, units as floatUnits, odd, lt, le}
 use Rattle.scan.specs.Ascii.{ascii}
 use Rattle.scan.specs.Run.{runLength}
 use Rattle.scan.specs.Text.{has, sameText}
-use Rattle.scan.specs.Byte.{isWithin, isHexDigit, digitOf, isDigitIn, lowered, isIn, isAlpha}
+use Rattle.scan.specs.Byte.{isWithin, isHexDigit, digitOf, isDigitIn, lowered, isIn, isAlpha, isQuote}
 use Rattle.utf8.specs.Table.{fits, sizeIn, charLength}
 use Rattle.utf8.specs.Text.{charsPast, sizeOf}
 use Rattle.utf8.specs.Answers.{validityOf, admitted, atStart}
 use Rattle.utf8.specs.Code.{isScalar, encoded, sixBits, codeOf}
-use Rattle.string.specs.Tile.{letterValue, numeralFrom, isAllowed, numbered, escapeOf, beginsEscape, tileOf}
+use Rattle.string.specs.Letters.{lookedUp, letterValue}
+use Rattle.string.specs.Tile.{amountFrom, isAllowed, numbered, escapeOf, beginsEscape, tileOf}
 use Rattle.string.specs.Tiles.{tilesPast, hasBad, pieceBytes, bytesOf}
-use Rattle.string.specs.Literal.{isQuote, isEnclosed, hasNewline}
+use Rattle.string.specs.Literal.{isEnclosed, hasNewline}
 use Rattle.scan.specs.Sign.{isSign}
 use Rattle.decimal.specs.Grammar.{hasDigits, exponentHasDigits, isNumeral, isInfinite, isNan}
 use Rattle.decimal.specs.Value.{isScaled, isSome, isExactRange, isInExact, numeralRead, decimalIn, decimalOf}
@@ -21,7 +22,7 @@ use Rattle.duration.specs.Units.{isPart, behind, sumBy, counted, isUnitText, un
 use Rattle.duration.specs.declared.Timing.the-variants.{Lasts, Refused}
 use Rattle.duration.specs.Duration.{durationRead, timingOf}
 use Rattle.writing.specs.Decimal.{digitFor, digitsWithin, decimalText}
-use Rattle.duration.specs.Display.{counted as shownAs, partOf, restOf, textOf}
+use Rattle.duration.specs.Display.{countText, partText, restOf, durationText}
 use Rattle.scan.specs.Byte.{isSpace, isAlphaNumeric, isWord, isLine}
 use Rattle.scan.specs.Digits.{valueFrom}
 use Rattle.utf8.specs.Text.{begunIn, charNumber}
@@ -57,16 +58,16 @@ unfolding timingOf durationRead admitted validityOf charsPast sizeOf charLength 
 timed-units = refl
 
 -- and those that are written
-written-days : textOf (days 90) ≡ ascii "90d"
-unfolding textOf partOf restOf shownAs decimalText digitsWithin digitFor
+written-days : durationText (days 90) ≡ ascii "90d"
+unfolding durationText partText restOf countText decimalText digitsWithin digitFor
 written-days = refl
 
-written-weeks : textOf (days 14) ≡ ascii "2w"
-unfolding textOf partOf restOf shownAs decimalText digitsWithin digitFor
+written-weeks : durationText (days 14) ≡ ascii "2w"
+unfolding durationText partText restOf countText decimalText digitsWithin digitFor
 written-weeks = refl
 
 pub texts-shown : Each Shown texts
-unfolding isWithin isHexDigit digitOf isScalar encoded sixBits letterValue isDigitIn numeralFrom isAllowed numbered escapeOf beginsEscape tileOf tilesPast hasBad pieceBytes bytesOf isQuote isEnclosed has hasNewline
+unfolding isWithin isHexDigit digitOf isScalar encoded sixBits letterValue lookedUp isDigitIn amountFrom isAllowed numbered escapeOf beginsEscape tileOf tilesPast hasBad pieceBytes bytesOf isQuote isEnclosed has hasNewline
 texts-shown = ((refl, refl), ((refl, refl), (timed-zero, (timed-none, (timed-decimal, (timed-units, (written-days, (written-weeks, tt))))))))
 
 -- what holds of each row of two tables holds of each of both

@@ -6,5 +6,4 @@ pub mod Given
 pub mod Parts
 pub mod Denotes
 pub mod Unique
-pub mod Reach
 pub mod Wrong

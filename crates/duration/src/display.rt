@@ -1,21 +1,16 @@
 // A duration is written in its units: its text is measured first, so that a refused call writes nothing.
 use crate::span;
 use crate::span::Duration;
-use utf8::Refusal;
+use utf8::Writing;
 ghost use mathlib.Core.Path.{_≡_};
 ghost use Prim.Native.Nat.{_+_, _*_, _≤_, _<_};
 ghost use lib.ListN.{length};
 ghost use lib.Seq.{sets};
+ghost use Rattle.utf8.specs.Writing.{leftBy};
 ghost use Rattle.writing.specs.Decimal.{decimalText};
-ghost use Rattle.duration.specs.Unit.{day, nanosASecond};
-ghost use Rattle.duration.specs.Display.{rows, counted, written, millisOf, textOf, displayingOf, leftBy, refusedBy};
-ghost use Rattle.duration.specs.steps.Display.{Stored, wholeOf, longestUnit, longestPart, joined, sizes, textsOf};
-
-// How many bytes of a duration's text were written, or why none were.
-pub enum Displaying {
-    Written(usize),
-    Refused(Refusal),
-}
+ghost use Rattle.duration.specs.Unit.{units, day, nanosASecond};
+ghost use Rattle.duration.specs.Display.{countText, written, millisOf, durationText, displayingOf};
+ghost use Rattle.duration.specs.steps.Display.{Stored, wholeOf, longestUnit, longestPart, chained, sizes, textsOf};
 
 // Document 01's refusal of nanoseconds that are a second or more.
 pub const OVER_RANGE: usize = 54;
@@ -59,7 +54,7 @@ fn whole(days: u64, rest: u64, size: u64) -> u64
 // How many there are of each unit in a duration, of which what is under a millisecond is dropped.
 fn counts_of(duration: Duration) -> Counts
     requires { ⌜ duration .nanos < nanosASecond ⌝ }
-    ensures { λ r. ⌜ joined (textsOf r) ≡ written rows (millisOf duration) ⌝ }
+    ensures { λ r. ⌜ chained (textsOf r) ≡ written units (millisOf duration) ⌝ }
 {
     let all = duration.secs / SECONDS_A_DAY;
     let under = duration.secs % SECONDS_A_DAY * Duration::SECOND
@@ -95,7 +90,7 @@ fn digits(n: u64) -> usize
 // How many bytes a count and its unit have; none where there are none.
 fn part_size(count: u64, unit: &[u8]) -> usize
     requires { ⌜ length (now unit) ≤ longestUnit ⌝ }
-    ensures { λ r. ⌜ (r ≡ length (counted count (now (unit .entry)))) × (r ≤ longestPart) ⌝ }
+    ensures { λ r. ⌜ (r ≡ length (countText count (now (unit .entry)))) × (r ≤ longestPart) ⌝ }
 {
     if count == 0 {
         return 0;
@@ -118,8 +113,8 @@ fn text_size(counts: Counts) -> usize
 
 // Writes a count and its unit at a place where they fit, nothing where there are none, and answers the place past them.
 fn put_part(out: &mut [u8], at: usize, count: u64, unit: &[u8]) -> usize
-    requires { ⌜ at + length (counted count (now unit)) ≤ length (now out) ⌝ }
-    ensures { λ r. ⌜ Stored (counted count (now (unit .entry))) (now (out .entry)) at r (now (out .exit)) ⌝ }
+    requires { ⌜ at + length (countText count (now unit)) ≤ length (now out) ⌝ }
+    ensures { λ r. ⌜ Stored (countText count (now (unit .entry))) (now (out .entry)) at r (now (out .exit)) ⌝ }
 {
     if count == 0 {
         return at;
@@ -131,7 +126,7 @@ fn put_part(out: &mut [u8], at: usize, count: u64, unit: &[u8]) -> usize
 // Writes counts and their units at the front of a buffer that they fit.
 fn put_parts(out: &mut [u8], counts: Counts)
     requires { ⌜ sizes (textsOf counts) ≤ length (now out) ⌝ }
-    ensures { λ _. ⌜ now (out .exit) ≡ sets (now (out .entry)) 0 (joined (textsOf counts)) ⌝ }
+    ensures { λ _. ⌜ now (out .exit) ≡ sets (now (out .entry)) 0 (chained (textsOf counts)) ⌝ }
 {
     let at = put_part(out, 0, counts.years, b"y");
     let at = put_part(out, at, counts.weeks, b"w");
@@ -143,33 +138,23 @@ fn put_parts(out: &mut [u8], counts: Counts)
 }
 
 // Writes the text of a duration at the front of a lent buffer; nothing where it is refused.
-pub fn display_duration(duration: Duration, out: &mut [u8]) -> Displaying
+pub fn display_duration(duration: Duration, out: &mut [u8]) -> Writing
     ensures { λ r. ⌜ r ≡ displayingOf (length (now (out .entry))) duration ⌝ }
-    ensures { λ r. ⌜ now (out .exit) ≡ leftBy r (textOf duration) (now (out .entry)) ⌝ }
+    ensures { λ r. ⌜ now (out .exit) ≡ leftBy r (durationText duration) (now (out .entry)) ⌝ }
 {
     if duration.nanos >= NANOS_A_SECOND {
-        return Displaying::Refused(utf8::at_start(OVER_RANGE));
+        return Writing::Refused(utf8::at_start(OVER_RANGE));
     }
     let zero = span::is_zero(duration);
     let counts = counts_of(duration);
     let n = if zero { ZERO.len() } else { text_size(counts) };
     if out.len() < n {
-        return Displaying::Refused(utf8::at_start(utf8::NO_ROOM));
+        return Writing::Refused(utf8::at_start(utf8::NO_ROOM));
     }
     if zero {
         writing::put_text(out, 0, &ZERO);
     } else {
         put_parts(out, counts);
     }
-    Displaying::Written(n)
-}
-
-// Why a duration is not written; where it is, a refusal of no number.
-pub fn refused_by(answer: Displaying) -> Refusal
-    ensures { λ r. ⌜ r ≡ refusedBy answer ⌝ }
-{
-    let Displaying::Refused(r) = answer else {
-        return utf8::at_start(utf8::NO_REFUSAL);
-    };
-    r
+    Writing::Written(n)
 }

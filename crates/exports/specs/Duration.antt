@@ -1,10 +1,9 @@
--- What the C functions over `duration` and `display` answer, and what they leave in what was lent, by cases over the answers.
+-- What the C function that reads a duration answers, and what it leaves in what was lent, by cases over `duration`'s answer; and the
+-- duration that the one that writes it is given.
 use Prim.Native.Nat.{ℕ}
 use Rattle.duration.specs.declared.span.Duration.{Duration}
 use Rattle.duration.specs.declared.Timing.{Timing}
 use Rattle.duration.specs.declared.Timing.the-variants.{Lasts, Refused}
-use Rattle.duration.specs.declared.display.Displaying.{Displaying}
-use Rattle.duration.specs.declared.display.Displaying.the-variants as displaying
 use Rattle.exports.specs.Packed.{packedOf}
 
 -- 0, or the refusal
@@ -23,8 +22,3 @@ nanosLeft (Refused r) old = old
 
 abbrev pub durationOf : ℕ → ℕ → Duration
 durationOf s n = record { secs = s; nanos = n }
-
--- how many bytes were written, or the refusal
-abbrev pub displayingCode : Displaying → ℕ
-displayingCode (displaying.Written n) = n
-displayingCode (displaying.Refused r) = packedOf r

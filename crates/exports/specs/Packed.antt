@@ -23,10 +23,10 @@ abbrev pub numberLimit : ℕ
 numberLimit = 127
 
 -- a number and a place that fit their bits
-pub record InRange (n b c : ℕ) : Type 0 where
+pub record FitsBits (n b c : ℕ) : Type 0 where
   pub number : n ≤ numberLimit
   pub byte : b ≤ textLimit
   pub character : c ≤ textLimit
 
 abbrev pub Packable : Refusal → Type 0
-Packable r = InRange (r .number) (r .place .byte .0) (r .place .character .0)
+Packable r = FitsBits (r .number) (r .place .byte .0) (r .place .character .0)

@@ -3,13 +3,15 @@
 use crate::packing;
 use duration::Timing;
 use duration::display;
-use duration::display::Displaying;
 use duration::span::Duration;
+use utf8::Writing;
 ghost use mathlib.Core.Path.{_≡_};
 ghost use lib.ListN.{length};
+ghost use Rattle.utf8.specs.Writing.{leftBy};
 ghost use Rattle.duration.specs.Duration.{timingOf};
-ghost use Rattle.duration.specs.Display.{textOf, displayingOf, leftBy};
-ghost use Rattle.exports.specs.Duration.{durationCode, secsLeft, nanosLeft, durationOf, displayingCode};
+ghost use Rattle.duration.specs.Display.{durationText, displayingOf};
+ghost use Rattle.exports.specs.Duration.{durationCode, secsLeft, nanosLeft, durationOf};
+ghost use Rattle.exports.specs.Written.{writtenCode};
 
 // 0 for a duration, whose seconds and nanoseconds it writes; or refusal 1, 2 or 50 to 54.
 #[no_mangle]
@@ -30,12 +32,12 @@ pub extern "C" fn simmerpath_parse_duration(text: &[u8], secs: &mut u64, nanos: 
 // How many bytes of a duration's text were written at the front of a lent buffer, or refusal 54 or 3.
 #[no_mangle]
 pub extern "C" fn simmerpath_display_duration(secs: u64, nanos: u32, out: &mut [u8]) -> u64
-    ensures { λ r. ⌜ r ≡ displayingCode (displayingOf (length (now (out .entry))) (durationOf secs nanos)) ⌝ }
-    ensures { λ _. ⌜ now (out .exit) ≡ leftBy (displayingOf (length (now (out .entry))) (durationOf secs nanos)) (textOf (durationOf secs nanos)) (now (out .entry)) ⌝ }
+    ensures { λ r. ⌜ r ≡ writtenCode (displayingOf (length (now (out .entry))) (durationOf secs nanos)) ⌝ }
+    ensures { λ _. ⌜ now (out .exit) ≡ leftBy (displayingOf (length (now (out .entry))) (durationOf secs nanos)) (durationText (durationOf secs nanos)) (now (out .entry)) ⌝ }
 {
     let d = display::display_duration(Duration { secs, nanos }, out);
-    let Displaying::Written(n) = d else {
-        return packing::packed(display::refused_by(d));
+    let Writing::Written(n) = d else {
+        return packing::packed(utf8::not_written(d));
     };
     n as u64
 }

@@ -3,15 +3,17 @@
 use crate::packing;
 use string::Unquoting;
 use string::escape;
-use string::escape::Escaping;
 use utf8::Reading;
+use utf8::Writing;
 ghost use mathlib.Core.Path.{_≡_};
 ghost use Prim.Native.Nat.{ℕ, _<_};
 ghost use lib.ListN.{length};
-ghost use Rattle.string.specs.Escape.{escaped, escapingOf, leftBy};
+ghost use Rattle.utf8.specs.Writing.{leftBy};
+ghost use Rattle.string.specs.Escape.{escaped, escapingOf};
 ghost use Rattle.string.specs.declared.Unquoting.the-variants.{Inner, Written};
 ghost use Rattle.string.specs.Literal.{unquoted, unquotingOf, textBy};
-ghost use Rattle.exports.specs.String.{escapeCode, readingOf, innerFrom, unquoteCode};
+ghost use Rattle.exports.specs.Written.{writtenCode};
+ghost use Rattle.exports.specs.String.{readingOf, innerFrom, unquoteCode};
 
 // Bit 32: a text stands in the literal itself.
 const INNER: u64 = 0x1_0000_0000;
@@ -19,12 +21,12 @@ const INNER: u64 = 0x1_0000_0000;
 // How many bytes of an escaped text were written at the front of a lent buffer, or refusal 1, 2 or 3.
 #[no_mangle]
 pub extern "C" fn simmerpath_escape_string(text: &[u8], out: &mut [u8]) -> u64
-    ensures { λ r. ⌜ r ≡ escapeCode (escapingOf (length (now (out .entry))) (now (text .entry))) ⌝ }
+    ensures { λ r. ⌜ r ≡ writtenCode (escapingOf (length (now (out .entry))) (now (text .entry))) ⌝ }
     ensures { λ _. ⌜ now (out .exit) ≡ leftBy (escapingOf (length (now (out .entry))) (now (text .entry))) (escaped (now (text .entry))) (now (out .entry)) ⌝ }
 {
     let e = escape::escape_string(text, out);
-    let Escaping::Written(size) = e else {
-        return packing::packed(escape::refused_by(e));
+    let Writing::Written(size) = e else {
+        return packing::packed(utf8::not_written(e));
     };
     size as u64
 }
@@ -41,13 +43,13 @@ fn reading_of(documented: u32) -> Reading
 }
 
 // What is told of a text that was not written: how many bytes of it stand in the literal itself, or its refusal.
-fn not_written(u: Unquoting) -> u64
+fn unwritten_code(u: Unquoting) -> u64
     requires { ⌜ ((n : ℕ) → u ≡ Written n → ⊥) ⌝ }
     requires { ⌜ ((n : ℕ) → u ≡ Inner n → n < innerFrom) ⌝ }
     ensures { λ r. ⌜ r ≡ unquoteCode u ⌝ }
 {
     let Unquoting::Inner(n) = u else {
-        return packing::packed(string::refused_by(u));
+        return packing::packed(string::not_unquoted(u));
     };
     INNER + n as u64
 }
@@ -61,7 +63,7 @@ pub extern "C" fn simmerpath_unquote_string(literal: &[u8], documented: u32, tex
 {
     let u = string::unquote_string(literal, reading_of(documented), text);
     let Unquoting::Written(n) = u else {
-        return not_written(u);
+        return unwritten_code(u);
     };
     n as u64
 }

@@ -2,16 +2,17 @@
 -- all ASCII bytes), and what is copied is neither the sign nor a backslash, so it is a tile as it is. No LF is copied.
 use Prim.Native.Nat.{ℕ, suc, _-_, _<_, _≤_}
 use native.Mathlib.Omega.{arith}
-use native.Mathlib.Decide.{decLt, ℕ-discrete}
-use mathlib.Core.Bool.{Bool, true, false, cond, _&&_, not}
+use native.Mathlib.Decide.{decLt}
+use mathlib.Core.Bool.{Bool, true, false, _&&_, not, true≢false}
 use mathlib.Core.List.{List, [], _∷_, _++_, append-nil}
-use mathlib.Core.Path.{_≡_, refl, ap, _∙_}
+use mathlib.Core.Option.{Option, none, some}
+use mathlib.Core.Path.{_≡_, refl, sym, ap, _∙_}
 use lib.Dec.{eqb}
 use lib.ListN.{length, length-append}
 use lib.Seq.{take-append-seam, getD-append-seam}
 use borrow.Author.Tests.{ne-eqb, eqb-true, eqb-false, le-leb, not-true}
 use Rattle.scan.specs.Text.{has}
-use Rattle.scan.specs.Byte.{end, peekAt, backslash}
+use Rattle.scan.specs.Byte.{end, peekAt, backslash, doubleQuote, isQuote}
 use Rattle.proving.proofs.Below.{below}
 use Rattle.proving.proofs.Choice.{and-left, and-right}
 use Rattle.utf8.specs.declared.Reading.{Reading}
@@ -23,48 +24,45 @@ use Rattle.utf8.proofs.Laws.{none-empty, rest-well, none-ascii, text-join}
 use Rattle.utf8.proofs.Ascii.{ascii-bytes, ascii-text, one-ascii}
 use Rattle.string.specs.declared.tile.Form.the-variants.{Letter}
 use Rattle.string.specs.declared.tile.Tile.the-variants.{Piece}
-use Rattle.string.specs.Tile.{letterValue, beginsEscape, escapeOf, tileOf}
-use Rattle.string.specs.Escape.{noLetter, letterOf, escaped}
+use Rattle.string.specs.Letters.{lookedUp, letterValue, isFor, letterAmong, letterOf}
+use Rattle.string.specs.Tile.{beginsEscape, escapeOf, tileOf}
+use Rattle.string.specs.Escape.{escaped}
 use Rattle.string.specs.steps.Bytes.{escapedBytes}
 use Rattle.string.specs.Tiles.{tilesOf, hasBad, pieceBytes, bytesOf}
-use Rattle.string.specs.Literal.{doubleQuote, lineFeed, isQuote, innerOf, isEnclosed, hasNewline}
+use Rattle.string.specs.Literal.{lineFeed, innerOf, isEnclosed, hasNewline}
 use Rattle.string.specs.laws.ReadBack.{quoted, ReadBack, ReadBackJoin, ReadBackPart}
-use Rattle.string.proofs.escape.Escapes.{copied, lettered, high-copied, none, bytes-join, by-characters-escaped, escape-join, escaped-text}
-use Rattle.string.proofs.Readings.{part-is-text, reads}
+use Rattle.string.proofs.escape.Escapes.{copied, lettered, high-copied, empty-escaped, bytes-join, by-characters-escaped, escape-join, escaped-text}
+use Rattle.string.proofs.Readings.{part-is-text, good-read}
 use Rattle.string.proofs.Contents.{tiles-none, first-piece}
 use Rattle.string.proofs.Plain.{plain-bad, plain-bytes, has-join, has-not}
 
 -- an ASCII byte is copied, and is then no sign, backslash or LF; or its letter stands for it, and is no LF
-abbrev fine : ℕ → Bool
-fine b =
-    cond (eqb (letterOf b) noLetter)
-    (not (eqb b doubleQuote) && (not (eqb b backslash) && not (eqb b lineFeed)))
-    (eqb (letterValue doubleQuote (letterOf b)) b && not (eqb (letterOf b) lineFeed))
+abbrev fineBy : ℕ → Option ℕ → Bool
+fineBy b none = not (eqb b doubleQuote) && (not (eqb b backslash) && not (eqb b lineFeed))
+fineBy b (some l) = isFor b (letterValue doubleQuote l) && not (eqb l lineFeed)
 
-all-fine : (b : ℕ) → b < 0x80 → fine b ≡ true
-unfolding letterOf letterValue
-all-fine = below fine 0x80 refl
+all-fine : (b : ℕ) → b < 0x80 → fineBy b (letterOf b) ≡ true
+unfolding letterOf letterAmong letterValue lookedUp
+all-fine = below (λ b. fineBy b (letterOf b)) 0x80 refl
+
+is-for : (b : ℕ) (o : Option ℕ) → isFor b o ≡ true → o ≡ some b
+is-for b (some v) e = ap (λ (n : ℕ). some n) (eqb-true v b e)
+is-for b none e = absurd (true≢false (sym e))
 
 -- a byte behind a backslash, and what follows the two
-module _ (b : ℕ) (l : b < 0x80) (n : letterOf b ≡ noLetter → ⊥) (ys : List ℕ) where
-  fine-letter : eqb (letterValue doubleQuote (letterOf b)) b && not (eqb (letterOf b) lineFeed) ≡ true
-  fine-letter = let f = all-fine b l in rw (ne-eqb (letterOf b) noLetter n) at f
+module _ (b : ℕ) (h : b < 0x80) (l : ℕ) (s : letterOf b ≡ some l) (ys : List ℕ) where
+  fine-letter : isFor b (letterValue doubleQuote l) && not (eqb l lineFeed) ≡ true
+  fine-letter = let f = all-fine b h in rw s at f
 
-  stands : letterValue doubleQuote (letterOf b) ≡ b
-  stands = eqb-true (letterValue doubleQuote (letterOf b)) b (and-left (eqb (letterValue doubleQuote (letterOf b)) b) (not (eqb (letterOf b) lineFeed)) fine-letter)
-
-  tile : tileOf doubleQuote (backslash ∷ letterOf b ∷ ys) ≡ Piece Letter b 2
+  tile : tileOf doubleQuote (backslash ∷ l ∷ ys) ≡ Piece Letter b 2
   unfolding tileOf beginsEscape escapeOf
-  tile = rw (stands, ne-eqb b 0 (λ e. n (zero-letter b e)))
-    where
-      zero-letter : (b : ℕ) → b ≡ 0 → letterOf b ≡ noLetter
-      zero-letter b e = unfold letterOf in rw e
+  tile = rw (is-for b (letterValue doubleQuote l) (and-left (isFor b (letterValue doubleQuote l)) (not (eqb l lineFeed)) fine-letter))
 
-  tiles : tilesOf doubleQuote (backslash ∷ letterOf b ∷ ys) ≡ Piece Letter b 2 ∷ tilesOf doubleQuote ys
-  tiles = first-piece doubleQuote (omega arith) (backslash ∷ letterOf b ∷ ys) Letter b 2 (omega arith) tile
+  tiles : tilesOf doubleQuote (backslash ∷ l ∷ ys) ≡ Piece Letter b 2 ∷ tilesOf doubleQuote ys
+  tiles = first-piece doubleQuote (omega arith) (backslash ∷ l ∷ ys) Letter b 2 (omega arith) tile
 
-  no-feed : eqb (letterOf b) lineFeed ≡ false
-  no-feed = not-true (eqb (letterOf b) lineFeed) (and-right (eqb (letterValue doubleQuote (letterOf b)) b) (not (eqb (letterOf b) lineFeed)) fine-letter)
+  no-feed : eqb l lineFeed ≡ false
+  no-feed = not-true (eqb l lineFeed) (and-right (isFor b (letterValue doubleQuote l)) (not (eqb l lineFeed)) fine-letter)
 
 -- it gives the byte in both readings
 letter-bytes : (r : Reading) (b : ℕ) → b < 0x80 → pieceBytes r Letter b ≡ b ∷ []
@@ -73,7 +71,7 @@ letter-bytes Crate b l = ascii-bytes b l
 letter-bytes Documented b l = ascii-bytes b l
 
 -- a byte that is copied
-fine-copy : (b : ℕ) → b < 0x80 → letterOf b ≡ noLetter → (b ≡ doubleQuote → ⊥) × (b ≡ backslash → ⊥) × (b ≡ lineFeed → ⊥)
+fine-copy : (b : ℕ) → b < 0x80 → letterOf b ≡ none → (b ≡ doubleQuote → ⊥) × (b ≡ backslash → ⊥) × (b ≡ lineFeed → ⊥)
 fine-copy b l e =
     let f = all-fine b l in
     let g : not (eqb b doubleQuote) && (not (eqb b backslash) && not (eqb b lineFeed)) ≡ true = rw e at f in
@@ -92,7 +90,7 @@ module _ (r : Reading) where
 
   at-end : Back []
   unfolding hasBad bytesOf has
-  at-end = record { good = rw (none, tiles-none doubleQuote); text = rw (none, tiles-none doubleQuote); whole = rw none }
+  at-end = record { good = rw (empty-escaped, tiles-none doubleQuote); text = rw (empty-escaped, tiles-none doubleQuote); whole = rw empty-escaped }
 
   -- a character that is copied
   copy : (bs ys : List ℕ) → One bs → escapedBytes bs ≡ bs → (peekAt bs 0 ≡ doubleQuote → ⊥) → (peekAt bs 0 ≡ backslash → ⊥) → (peekAt bs 0 ≡ lineFeed → ⊥) → Back ys → Back (bs ++ ys)
@@ -107,25 +105,25 @@ module _ (r : Reading) where
       }
 
   -- a byte that is escaped
-  letter : (b : ℕ) (ys : List ℕ) → b < 0x80 → (letterOf b ≡ noLetter → ⊥) → Back ys → Back (b ∷ ys)
+  letter : (b : ℕ) (ys : List ℕ) → b < 0x80 → (l : ℕ) → letterOf b ≡ some l → Back ys → Back (b ∷ ys)
   unfolding hasBad bytesOf has
-  letter b ys l n k =
-      let j : escapedBytes (b ∷ ys) ≡ backslash ∷ letterOf b ∷ escapedBytes ys = unfold escapedBytes in rw (lettered b n) in
-      let t = tiles b l n (escapedBytes ys) in
+  letter b ys h l s k =
+      let j : escapedBytes (b ∷ ys) ≡ backslash ∷ l ∷ escapedBytes ys = unfold escapedBytes in rw (lettered b l s) in
+      let t = tiles b h l s (escapedBytes ys) in
       record {
         good = rw (j, t) (k .good);
-        text = rw (j, t, letter-bytes r b l) (ap (λ (zs : List ℕ). b ∷ zs) (k .text));
-        whole = rw (j, no-feed b l n (escapedBytes ys)) (k .whole);
+        text = rw (j, t, letter-bytes r b h) (ap (λ (zs : List ℕ). b ∷ zs) (k .text));
+        whole = rw (j, no-feed b h l s (escapedBytes ys)) (k .whole);
       }
 
   one : (bs ys : List ℕ) → One bs → Back ys → Back (bs ++ ys)
   one bs ys o k = go bs o (decLt 1 (length bs))
     where
-      short : (b : ℕ) → b < 0x80 → One (b ∷ []) → Dec (letterOf b ≡ noLetter) → Back (b ∷ ys)
-      short b l o (yes e) =
-          let f = fine-copy b l e in
+      short : (b : ℕ) → b < 0x80 → One (b ∷ []) → (s : Option ℕ) → letterOf b ≡ s → Back (b ∷ ys)
+      short b h o none e =
+          let f = fine-copy b h e in
           copy (b ∷ []) ys o (unfold escapedBytes in rw (append-nil, copied b e)) (f .0) (f .1) (f .2) k
-      short b l o (no n) = letter b ys l n k
+      short b h o (some l) e = letter b ys h l e k
 
       go : (bs : List ℕ) → One bs → Dec (1 < length bs) → Back (bs ++ ys)
       go bs o (yes l) =
@@ -133,7 +131,7 @@ module _ (r : Reading) where
           let z = h 0 (o .some) in
           copy bs ys o (high-copied bs h) (λ e. omega arith) (λ e. omega arith) (λ e. omega arith) k
       go [] o (no l) = let f : ⊥ = omega (arith, o .some) in absurd f
-      go (b ∷ []) o (no l) = short b (one-ascii b [] (o .whole)) o (ℕ-discrete (letterOf b) noLetter)
+      go (b ∷ []) o (no l) = short b (one-ascii b [] (o .whole)) o (letterOf b) refl
       go (b ∷ b₂ ∷ bs) o (no l) = let f : ⊥ = omega arith in absurd f
 
   back : (xs : List ℕ) → WellFormed xs → Back xs
@@ -179,5 +177,5 @@ read-back-part r xs d w l h =
     let b = read-back r xs w in
     let literal = quoted (escaped xs) in
     let t : WellFormed literal = quoted-text (escaped xs) (escaped-text xs w) in
-    let e = reads r literal (length d) ((λ n. omega arith), t) (b .0) (omega (arith, ap length (b .1))) in
+    let e = good-read r (length d) literal ((λ n. omega arith), t) (b .0) (omega (arith, ap length (b .1))) in
     (e, part-is-text r literal d e ∙ b .1)

@@ -4,7 +4,7 @@ use Prim.Native.Nat.{ℕ, _≤_}
 use native.Mathlib.Omega.{arith}
 use mathlib.Core.Bool.{true, false}
 use mathlib.Core.List.{List, _++_}
-use mathlib.Core.Path.{_≡_, sym, ap, ap₂, _∙_}
+use mathlib.Core.Path.{_≡_, sym, ap, ap₂, subst, _∙_}
 use contract.Lifetimes.{Lfts}
 use borrow.Fn.Kinds.{Dens, resT, endedOf}
 use denote.Ref.{now}
@@ -16,14 +16,17 @@ use Rattle.utf8.specs.Text.{WellFormed}
 use Rattle.utf8.specs.Answers.{textLimit}
 use Rattle.utf8.specs.laws.Refusals.{Taken}
 use Rattle.utf8.proofs.Laws.{text-join}
-use Rattle.string.specs.declared.escape.Escaping.{Escaping}
-use Rattle.string.specs.declared.escape.Escaping.the-variants.{Written}
+use Rattle.utf8.specs.declared.Writing.{Writing}
+use Rattle.utf8.specs.declared.Writing.the-variants.{Written}
+use Rattle.utf8.specs.Writing.{leftBy}
 use Rattle.string.specs.declared.Unquoting.{Unquoting}
-use Rattle.string.specs.Escape.{escaped, escapingOf, leftBy}
+use Rattle.string.specs.Escape.{escaped, escapingOf}
 use Rattle.string.specs.Literal.{isBadLiteral, unquoted, unquotingOf, textBy, partOf}
+use Rattle.string.specs.laws.Escape.{EscapeTells}
 use Rattle.string.specs.laws.ReadBack.{quoted, isRead}
-use Rattle.string.proofs.escape.Escapes.{escape-join, escaped-text, written-told}
-use Rattle.string.proofs.Readings.{part-is-text, reads}
+use Rattle.string.proofs.escape.Escapes.{escape-join, escaped-text}
+use Rattle.string.proofs.escape.Answers.{escape-answers}
+use Rattle.string.proofs.Readings.{part-is-text, good-read}
 use Rattle.string.proofs.Back.{quoted-text, read-back, read-back-join}
 use Rattle.string.proofs.escape.Given.{escaping-given}
 use Rattle.string.proofs.escape.escape_string.Kinds as escape
@@ -80,10 +83,10 @@ wrote : {x ys : List ℕ} → Escaped x ys → WellFormed x × (ys ≡ escaped x
 wrote {x = x} {ys = ys} c =
     let out = now (c .call .args .1 .0) in
     let a : escapingOf (length out) x ≡ Written (c .size) = rw (c .call .of-text) at (sym (c .call .post .0) ∙ c .accepted) in
-    let w = written-told (length out) x (c .size) a in
-    let l : now (c .call .exit .1 .0) ≡ escaped x ++ drop (c .size) out = c .call .post .1 ∙ ap₂ (λ (e : Escaping) (zs : List ℕ). leftBy e (escaped zs) out) (c .accepted) (c .call .of-text) in
+    let w = subst (EscapeTells x) a (escape-answers (length out) x) in
+    let l : now (c .call .exit .1 .0) ≡ escaped x ++ drop (c .size) out = c .call .post .1 ∙ ap₂ (λ (e : Writing) (zs : List ℕ). leftBy e (escaped zs) out) (c .accepted) (c .call .of-text) in
     let f : take (c .size) (escaped x ++ drop (c .size) out) ≡ escaped x = rw (w .1) (take-append-seam (escaped x) (drop (length (escaped x)) out)) in
-    (w .0, sym (c .front) ∙ ap (take (c .size)) l ∙ f)
+    (w .0 .1, sym (c .front) ∙ ap (take (c .size)) l ∙ f)
 
 -- and what is handed back is the text of the literal, where the call was accepted
 handed : {r : Reading} {literal ys : List ℕ} {room : ℕ} (c : Read r literal room ys) → isRead (c .result) ≡ true → ys ≡ unquoted r literal
@@ -111,7 +114,7 @@ module _ {r : Reading} {literal ys : List ℕ} {room : ℕ} (c : Read r literal 
   accepted : isRead (c .result) ≡ true
   accepted =
       ap isRead (c .post .0 ∙ ap₂ (λ (v : Reading) (n : ℕ). unquotingOf v n (now (c .args .0))) (c .by-reading) (c .in-room) ∙ ap (unquotingOf r room) (c .of-literal))
-      ∙ reads r literal room ((λ n. omega arith), w) (b .0) (omega (arith, ap length (b .1)))
+      ∙ good-read r room literal ((λ n. omega arith), w) (b .0) (omega (arith, ap length (b .1)))
 
   pub read-calls : (isRead (c .result) ≡ true) × (ys ≡ x)
   read-calls = (accepted, handed c accepted ∙ b .1)

@@ -17,11 +17,10 @@ use Rattle.string.specs.declared.tile.Form.{Form}
 use Rattle.string.specs.declared.tile.Tile.{Tile}
 use Rattle.string.specs.declared.tile.Tile.the-variants.{Piece, Bad}
 use Rattle.string.specs.Tile.{tileOf}
-use Rattle.string.specs.laws.Tile.{Fair, FairTile}
-use Rattle.string.proofs.tile.Tiles.{each-fair}
+use Rattle.string.proofs.tile.Tiles.{Fair, FairTile, each-fair}
 use Rattle.string.specs.declared.Extent.the-variants as extent
-use Rattle.string.specs.Tiles.{sizeOf, tilesPast, tilesOf, hasBad, givesByte, pieceBytes, tileBytes, bytesOf}
-use Rattle.string.specs.steps.Measure.{isSingle, measured}
+use Rattle.string.specs.Tiles.{tileSize, tilesPast, tilesOf, hasBad, givesByte, pieceBytes, tileBytes, bytesOf}
+use Rattle.string.specs.steps.Measure.{isSingle, tilesExtent}
 
 piece-few : (r : Reading) {room : ℕ} {f : Form} {v n : ℕ} → Fair room f v n → length (pieceBytes r f v) ≤ n
 unfolding pieceBytes
@@ -40,7 +39,7 @@ tiles-none q = refl
 
 module _ (q : ℕ) (h : q < 0x80) where
   -- the first tile, and those behind it
-  pub tiles-some : (xs : List ℕ) → 0 < length xs → tilesOf q xs ≡ tileOf q xs ∷ tilesOf q (drop (sizeOf (tileOf q xs)) xs)
+  pub tiles-some : (xs : List ℕ) → 0 < length xs → tilesOf q xs ≡ tileOf q xs ∷ tilesOf q (drop (tileSize (tileOf q xs)) xs)
   unfolding tilesPast
   tiles-some [] l = let f : ⊥ = omega arith in absurd f
   tiles-some (x ∷ xs) l = ap (λ (ts : List Tile). tileOf q (x ∷ xs) ∷ ts) (behind (tileOf q (x ∷ xs)) (each-fair q (x ∷ xs) h))
@@ -49,7 +48,7 @@ module _ (q : ℕ) (h : q < 0x80) where
       past zero z = let f : ⊥ = omega arith in absurd f
       past (suc n) z = tiles-past q n xs
 
-      behind : (t : Tile) → FairTile (length (x ∷ xs)) t → tilesPast q (pred (sizeOf t)) xs ≡ tilesOf q (drop (sizeOf t) (x ∷ xs))
+      behind : (t : Tile) → FairTile (length (x ∷ xs)) t → tilesPast q (pred (tileSize t)) xs ≡ tilesOf q (drop (tileSize t) (x ∷ xs))
       behind (Piece f v n) a = past n (a .some)
       behind Bad a = past 1 (omega arith)
 
@@ -91,7 +90,7 @@ module _ (q : ℕ) (h : q < 0x80) where
 
 -- tiles give no more bytes than they have
 module _ (q : ℕ) (h : q < 0x80) (r : Reading) where
-  gives : (room : ℕ) (t : Tile) → 0 < room → FairTile room t → (0 < sizeOf t) × (sizeOf t ≤ room) × (length (tileBytes r t) ≤ sizeOf t)
+  gives : (room : ℕ) (t : Tile) → 0 < room → FairTile room t → (0 < tileSize t) × (tileSize t ≤ room) × (length (tileBytes r t) ≤ tileSize t)
   gives room (Piece f v n) l a = (a .some, a .within, piece-few r a)
   gives room Bad l a = (omega arith, omega arith, omega arith)
 
@@ -109,10 +108,10 @@ module _ (q : ℕ) (h : q < 0x80) (r : Reading) where
       go (y ∷ ys) l ih =
           let t = tileOf q (y ∷ ys) in
           let g = gives (length (y ∷ ys)) t (omega arith) (each-fair q (y ∷ ys) h) in
-          let k = length-drop (sizeOf t) (y ∷ ys) in
-          let i = ih (drop (sizeOf t) (y ∷ ys)) (omega (arith, k, g)) in
+          let k = length-drop (tileSize t) (y ∷ ys) in
+          let i = ih (drop (tileSize t) (y ∷ ys)) (omega (arith, k, g)) in
           rw (tiles-some q h (y ∷ ys) (omega arith))
-          (omega (arith, length-append (tileBytes r t) (bytesOf r (tilesOf q (drop (sizeOf t) (y ∷ ys)))), g, k, i))
+          (omega (arith, length-append (tileBytes r t) (bytesOf r (tilesOf q (drop (tileSize t) (y ∷ ys)))), g, k, i))
 
   pub bytes-few : (ys : List ℕ) → Few ys
   bytes-few ys = up-to (length ys) ys (omega arith)
@@ -132,12 +131,12 @@ module _ (q : ℕ) (ys : List ℕ) (at : ℕ) (l : length ys ≤ at) where
 
 -- what the measuring pass says
 module _ (r : Reading) (ts : List Tile) where
-  pub measured-bad : hasBad ts ≡ true → extent.Bad ≡ measured r ts
-  unfolding measured
+  pub measured-bad : hasBad ts ≡ true → extent.Bad ≡ tilesExtent r ts
+  unfolding tilesExtent
   measured-bad e = rw e
 
-  pub measured-text : (n : ℕ) → hasBad ts ≡ false → n ≡ length (bytesOf r ts) → extent.Text true n ≡ measured r ts
-  unfolding measured
+  pub measured-text : (n : ℕ) → hasBad ts ≡ false → n ≡ length (bytesOf r ts) → extent.Text true n ≡ tilesExtent r ts
+  unfolding tilesExtent
   measured-text n e h = rw (e, h)
 
 -- and what one tile gives

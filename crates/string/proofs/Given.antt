@@ -10,23 +10,22 @@ use mathlib.Core.Path.{_≡_, refl, sym, ap, subst}
 use lib.Dec.{eqb, leb}
 use lib.ListN.{length}
 use borrow.Author.Tests.{le-leb, lt-leb, leb-false, not-true}
-use Rattle.scan.specs.Byte.{peekAt, backslash}
+use Rattle.scan.specs.Byte.{peekAt, backslash, backquote, doubleQuote, singleQuote, isQuote}
 use Rattle.proving.proofs.Choice.{exactly}
 use Rattle.proving.proofs.Tests.{Tests, affirmed, decided, tests-or, tests-and, tests-not, tests-eq}
 use Rattle.scan.proofs.Stands.{tests-has}
 use Rattle.utf8.specs.declared.Reading.{Reading}
 use Rattle.utf8.specs.Text.{prefixEnd, WellFormed}
 use Rattle.utf8.specs.Answers.{textLimit, placeAt, tooLong, notUtf8, noRoom}
-use Rattle.utf8.specs.laws.Refusals.{TooLong, NotUtf8, Taken}
+use Rattle.utf8.specs.laws.Refusals.{TooLong, NotUtf8, NoRoom, Taken}
 use Rattle.utf8.proofs.Given.{given-exactly}
 use Rattle.string.specs.declared.tile.Tile.{Tile}
 use Rattle.string.specs.declared.tile.Tile.the-variants.{Piece, Bad}
-use Rattle.string.specs.Tile.{backquote}
 use Rattle.string.specs.declared.Unquoting.{Unquoting}
 use Rattle.string.specs.declared.Unquoting.the-variants.{Inner, Written, Refused}
 use Rattle.string.specs.Tiles.{tilesOf, isBad, hasBad}
-use Rattle.string.specs.Literal.{doubleQuote, singleQuote, lineFeed, isQuote, signOf, innerOf, isEnclosed, hasNewline, isBadLiteral, hasEscape, unquoted, extentOf, badLiteral, unquotingOf}
-use Rattle.string.specs.laws.Refusals.{TooShort, SignsDiffer, NoQuoteSign, Newline, BadAmong, BadLiteral, WithEscape, NoRoom, UnquotingGiven}
+use Rattle.string.specs.Literal.{lineFeed, signOf, innerOf, isEnclosed, hasNewline, isBadLiteral, hasEscape, unquoted, extentOf, badLiteral, unquotingOf}
+use Rattle.string.specs.laws.Refusals.{TooShort, SignsDiffer, NoQuoteSign, Newline, BadAmong, BadLiteral, WithEscape, UnquotingGiven}
 
 tests-bad : (ts : List Tile) → Tests (hasBad ts) (BadAmong ts)
 unfolding hasBad
@@ -103,9 +102,9 @@ module _ (r : Reading) (room : ℕ) (xs : List ℕ) where
   Holds long = TooLong textLimit xs
   Holds broken = (TooLong textLimit xs → ⊥) × NotUtf8 xs
   Holds bad = Taken textLimit xs × BadLiteral xs
-  Holds short = Taken textLimit xs × (BadLiteral xs → ⊥) × WithEscape xs × NoRoom r room xs
+  Holds short = Taken textLimit xs × (BadLiteral xs → ⊥) × WithEscape xs × NoRoom room (unquoted r xs)
   Holds inner = Taken textLimit xs × (BadLiteral xs → ⊥) × (WithEscape xs → ⊥)
-  Holds written = Taken textLimit xs × (BadLiteral xs → ⊥) × WithEscape xs × (NoRoom r room xs → ⊥)
+  Holds written = Taken textLimit xs × (BadLiteral xs → ⊥) × WithEscape xs × (NoRoom room (unquoted r xs) → ⊥)
 
   abbrev given : Row → Unquoting
   given long = Refused tooLong
@@ -135,7 +134,7 @@ module _ (r : Reading) (room : ℕ) (xs : List ℕ) where
   gives written h =
       rw (given-exactly textLimit xs .2 .1 (h .0), affirmed (tests-literal xs) (h .1), tests-escape xs .1 (h .2), le-leb (length (unquoted r xs)) room (omega (arith, h .3)))
 
-  some : Dec (TooLong textLimit xs) → Dec (WellFormed xs) → Dec (BadLiteral xs) → Dec (WithEscape xs) → Dec (NoRoom r room xs) → (w : Row) × Holds w
+  some : Dec (TooLong textLimit xs) → Dec (WellFormed xs) → Dec (BadLiteral xs) → Dec (WithEscape xs) → Dec (NoRoom room (unquoted r xs)) → (w : Row) × Holds w
   some (yes l) w b e d = (long, l)
   some (no l) (no w) b e d = (broken, (l, w))
   some (no l) (yes w) (yes b) e d = (bad, ((l, w), b))

@@ -5,7 +5,7 @@ pub mod Readings
 pub mod Back
 pub mod There
 pub mod Given
-pub mod Bounds
+pub mod Answers
 pub mod Calls
 pub mod Unique
 pub mod Wrong

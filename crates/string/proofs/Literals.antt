@@ -9,7 +9,7 @@ use lib.Dec.{eqb, leb}
 use lib.ListN.{length, take, drop, getD}
 use borrow.Author.Tests.{eqb-true, leb-true, le-leb, lt-leb, not-false}
 use Rattle.scan.specs.Text.{has}
-use Rattle.scan.specs.Byte.{end, peekAt}
+use Rattle.scan.specs.Byte.{end, peekAt, backquote, doubleQuote, singleQuote, isQuote}
 use Rattle.proving.proofs.Choice.{and-left, and-right, told}
 use Rattle.scan.proofs.byte.Classes.{below-not}
 use Rattle.proving.proofs.Lists.{getD-any}
@@ -21,13 +21,12 @@ use Rattle.utf8.specs.Text.{WellFormed, charNumber}
 use Rattle.utf8.specs.Answers.{textLimit, noRoom, admitted}
 use Rattle.utf8.proofs.Laws.{ascii-head}
 use Rattle.utf8.proofs.Cuts.{text-cut, boundary}
-use Rattle.string.specs.Tile.{backquote}
 use Rattle.string.specs.declared.Extent.{Extent}
 use Rattle.string.specs.declared.Extent.the-variants as extent
 use Rattle.string.specs.declared.Unquoting.the-variants.{Written, Refused}
 use Rattle.string.specs.Tiles.{tilesOf, hasBad}
-use Rattle.string.specs.Literal.{doubleQuote, singleQuote, isQuote, signOf, innerOf, isEnclosed, hasNewline, isBadLiteral, hasEscape, unquoted, extentOf, unquotingBy, unquotingOf}
-use Rattle.string.specs.steps.Measure.{measured}
+use Rattle.string.specs.Literal.{signOf, innerOf, isEnclosed, hasNewline, isBadLiteral, hasEscape, unquoted, extentOf, unquotingBy, unquotingOf}
+use Rattle.string.specs.steps.Measure.{tilesExtent}
 use Rattle.string.proofs.Plain.{neither, unescaped}
 
 pub quote-ascii : (c : ℕ) → isQuote c ≡ true → c < 0x80
@@ -94,8 +93,8 @@ module _ (r : Reading) (xs : List ℕ) where
     newline b = rw (e, b)
 
     module _ (b : hasNewline (signOf xs) (innerOf xs) ≡ false) where
-      pub measured-is : hasEscape (signOf xs) (innerOf xs) ≡ true → measured r (tilesOf (signOf xs) (innerOf xs)) ≡ extentOf r xs
-      unfolding extentOf measured
+      pub measured-is : hasEscape (signOf xs) (innerOf xs) ≡ true → tilesExtent r (tilesOf (signOf xs) (innerOf xs)) ≡ extentOf r xs
+      unfolding extentOf tilesExtent
       measured-is s = rw (e, b, s)
 
       module _ (s : hasEscape (signOf xs) (innerOf xs) ≡ false) (w : WellFormed xs) where
@@ -127,7 +126,7 @@ tag (extent.Text false n) = 0
 tag (extent.Text true n) = 1
 tag extent.Bad = 2
 
-abbrev pub sizeOf : Extent → ℕ
+abbrev sizeOf : Extent → ℕ
 sizeOf (extent.Text b n) = n
 sizeOf extent.Bad = 0
 

@@ -11,7 +11,7 @@ use lib.ListN.{length, length-append, List·getD-append}
 use lib.Seq.{drop-append-seam}
 use borrow.Author.Tests.{eq-eqb, ne-eqb}
 use Rattle.scan.specs.Text.{has}
-use Rattle.scan.specs.Byte.{end, peekAt, backslash}
+use Rattle.scan.specs.Byte.{end, peekAt, backslash, backquote}
 use Rattle.utf8.specs.declared.Reading.{Reading}
 use Rattle.utf8.specs.declared.Reading.the-variants.{Crate, Documented}
 use Rattle.utf8.specs.Code.{codeOf}
@@ -21,7 +21,7 @@ use Rattle.utf8.proofs.Texts.{character-one, by-characters}
 use Rattle.utf8.proofs.Laws.{none-empty, rest-well, none-ascii}
 use Rattle.string.specs.declared.tile.Form.the-variants.{Plain}
 use Rattle.string.specs.declared.tile.Tile.the-variants.{Piece, Bad}
-use Rattle.string.specs.Tile.{backquote, beginsEscape, tileOf}
+use Rattle.string.specs.Tile.{beginsEscape, tileOf}
 use Rattle.string.specs.Tiles.{tilesOf, hasBad, givesByte, pieceBytes, bytesOf}
 use Rattle.string.specs.Literal.{hasEscape}
 use Rattle.string.proofs.escape.Escapes.{back}

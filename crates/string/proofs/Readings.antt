@@ -15,7 +15,6 @@ use Rattle.utf8.specs.declared.Reading.{Reading}
 use Rattle.utf8.specs.declared.Reading.the-variants.{Crate, Documented}
 use Rattle.utf8.specs.Text.{WellFormed}
 use Rattle.utf8.specs.Code.{encoded}
-use Rattle.utf8.specs.laws.Refusals.{Taken}
 use Rattle.utf8.specs.Answers.{textLimit, noRoom, admitted}
 use Rattle.utf8.proofs.Ascii.{ascii-bytes}
 use Rattle.utf8.proofs.Given.{given-exactly, admitted-text}
@@ -28,7 +27,7 @@ use Rattle.string.specs.declared.Extent.the-variants as extent
 use Rattle.string.specs.declared.Unquoting.the-variants.{Written, Refused}
 use Rattle.string.specs.Tiles.{tilesOf, pieceBytes, bytesOf}
 use Rattle.string.specs.Literal.{signOf, innerOf, isBadLiteral, hasEscape, unquoted, extentOf, unquotingBy, unquotingAs, unquotingOf, textBy, partOf}
-use Rattle.string.specs.laws.ReadBack.{isRead, PartIsText, hasHighByte, ReadingsAgree}
+use Rattle.string.specs.laws.ReadBack.{isRead, PartIsText, GoodRead, hasHighByte, ReadingsAgree}
 use Rattle.string.proofs.Plain.{neither, unescaped}
 use Rattle.string.proofs.Literals.{Sound, sound, two, sign-ascii, inner-well}
 
@@ -80,9 +79,9 @@ part-is-text r xs d = go (admitted textLimit xs) refl
     go (admission.Refused s) e h = absurd (true≢false (sym h))
 
 -- a literal that is not bad is read where the limit and the room are kept
-pub reads : (r : Reading) (xs : List ℕ) (room : ℕ) → Taken textLimit xs → isBadLiteral xs ≡ false → length (unquoted r xs) ≤ room → isRead (unquotingOf r room xs) ≡ true
+pub good-read : GoodRead
 unfolding unquotingOf extentOf
-reads r xs room t b h = rw (given-exactly textLimit xs .2 .1 t, b) (go (hasEscape (signOf xs) (innerOf xs)))
+good-read r room xs t b h = rw (given-exactly textLimit xs .2 .1 t, b) (go (hasEscape (signOf xs) (innerOf xs)))
   where
     go : (e : Bool) → isRead (unquotingBy room (cond e (extent.Text true (length (unquoted r xs))) (extent.Text false (length (innerOf xs))))) ≡ true
     go true = rw (le-leb (length (unquoted r xs)) room h)

@@ -7,8 +7,8 @@ use Rattle.string.proofs.unquote_string.Kinds as unquote-string
 use Rattle.string.proofs.unquote_string.Reads as unquote-string-reads
 use Rattle.string.proofs.part.Kinds as part
 use Rattle.string.proofs.part.Reads as part-reads
-use Rattle.string.proofs.refused_by.Kinds as refused-by
-use Rattle.string.proofs.refused_by.Reads as refused-by-reads
+use Rattle.string.proofs.not_unquoted.Kinds as not-unquoted
+use Rattle.string.proofs.not_unquoted.Reads as not-unquoted-reads
 
 pub same-unquote-string : OneAnswer unquote-string.ps unquote-string.r unquote-string-reads.Post
 same-unquote-string κs a x y e f p q = p .0 ∙ sym (q .0)
@@ -19,5 +19,5 @@ same-unquote-string-text κs a x y e f p q = let s : x ≡ y = same-unquote-stri
 pub same-part : OnePart part.ps part.r part-reads.Post (λ κs x. now x)
 same-part κs a x y e f p q = p ∙ sym q
 
-pub same-refused-by : OneAnswer refused-by.ps refused-by.r refused-by-reads.Post
-same-refused-by κs a x y e f p q = p ∙ sym q
+pub same-not-unquoted : OneAnswer not-unquoted.ps not-unquoted.r not-unquoted-reads.Post
+same-not-unquoted κs a x y e f p q = p ∙ sym q

@@ -8,7 +8,7 @@ use mathlib.Core.Path.{_≡_, _∙_, ap}
 use lib.ListN.{length, replicate, length-replicate}
 use denote.Ref.{now}
 use Rattle.scan.specs.Ascii.{ascii}
-use Rattle.scan.specs.Byte.{isWithin, isHexDigit, digitOf, isDigitIn}
+use Rattle.scan.specs.Byte.{isWithin, isHexDigit, digitOf, isDigitIn, isQuote}
 use Rattle.proving.proofs.One.{Answers, Leaves, Shows}
 use Rattle.scan.specs.Text.{has}
 use Rattle.utf8.specs.declared.Reading.{Reading}
@@ -17,19 +17,20 @@ use Rattle.utf8.specs.Table.{fits, sizeIn, charLength}
 use Rattle.utf8.specs.Code.{isScalar, codeOf, sixBits, encoded}
 use Rattle.utf8.specs.Text.{charsPast, sizeOf, begunIn, charNumber}
 use Rattle.utf8.specs.Answers.{place, atStart, notUtf8, validityOf, admitted, characterAt}
-use Rattle.string.specs.Tile.{letterValue, numeralFrom, isAllowed, numbered, escapeOf, beginsEscape, tileOf}
+use Rattle.string.specs.Letters.{lookedUp, letterValue}
+use Rattle.string.specs.Tile.{amountFrom, isAllowed, numbered, escapeOf, beginsEscape, tileOf}
 use Rattle.string.specs.declared.Unquoting.{Unquoting}
 use Rattle.string.specs.declared.Unquoting.the-variants.{Inner, Written, Refused}
 use Rattle.string.specs.Tiles.{tilesPast, hasBad, pieceBytes, bytesOf}
-use Rattle.string.specs.Literal.{isQuote, isEnclosed, hasNewline, hasEscape, unquoted, extentOf, unquotingOf, textBy, partOf, refusedBy}
+use Rattle.string.specs.Literal.{isEnclosed, hasNewline, hasEscape, unquoted, extentOf, unquotingOf, textBy, partOf, notUnquoted}
 use Rattle.utf8.specs.declared.Refusal.{Refusal}
 use Rattle.string.proofs.Given.{unquoting-given}
 use Rattle.string.proofs.unquote_string.Kinds as unquote-string
 use Rattle.string.proofs.unquote_string.Reads as unquote-string-reads
 use Rattle.string.proofs.part.Kinds as part
 use Rattle.string.proofs.part.Reads as part-reads
-use Rattle.string.proofs.refused_by.Kinds as refused-by
-use Rattle.string.proofs.refused_by.Reads as refused-by-reads
+use Rattle.string.proofs.not_unquoted.Kinds as not-unquoted
+use Rattle.string.proofs.not_unquoted.Reads as not-unquoted-reads
 
 -- of a literal, in a reading, with a buffer of so many bytes
 abbrev unquote-string-gives : List ℕ → Reading → ℕ → Unquoting → Type 0
@@ -37,7 +38,7 @@ unquote-string-gives xs r room v =
     Answers unquote-string.ps unquote-string.r unquote-string-reads.Post (λ κs a. (now (a .0) ≡ xs) × (a .1 .0 ≡ r) × (length (now (a .1 .1 .0)) ≡ room)) (λ κs. v)
 
 unquote-string-at : (xs : List ℕ) (r : Reading) (room : ℕ) → unquote-string-gives xs r room (unquotingOf r room xs)
-unfolding unquotingOf extentOf isEnclosed isQuote hasNewline hasEscape has tilesPast hasBad bytesOf pieceBytes tileOf beginsEscape escapeOf letterValue numbered numeralFrom isDigitIn isHexDigit digitOf isAllowed isScalar encoded sixBits characterAt admitted validityOf charNumber begunIn charsPast sizeOf charLength sizeIn fits codeOf isWithin
+unfolding unquotingOf extentOf isEnclosed isQuote hasNewline hasEscape has tilesPast hasBad bytesOf pieceBytes tileOf beginsEscape escapeOf letterValue lookedUp numbered amountFrom isDigitIn isHexDigit digitOf isAllowed isScalar encoded sixBits characterAt admitted validityOf charNumber begunIn charsPast sizeOf charLength sizeIn fits codeOf isWithin
 unquote-string-at xs r room κs a x e p h = cc (p .0, h .0, h .1, h .2)
 
 pub text-without-escapes-stays-in-the-literal : unquote-string-gives (ascii "'a'") Crate 0 (Inner 1)
@@ -128,14 +129,14 @@ pub refusal-hands-back-nothing : part-shows (ascii "'''") (ascii "xyz") (Refused
 unfolding partOf
 refusal-hands-back-nothing = part-at _ _ _
 
-abbrev refused-by-gives : Unquoting → Refusal → Type 0
-refused-by-gives t v = Answers refused-by.ps refused-by.r refused-by-reads.Post (λ κs a. a .0 ≡ t) (λ κs. v)
+abbrev not-unquoted-gives : Unquoting → Refusal → Type 0
+not-unquoted-gives t v = Answers not-unquoted.ps not-unquoted.r not-unquoted-reads.Post (λ κs a. a .0 ≡ t) (λ κs. v)
 
-refused-by-at : (t : Unquoting) → refused-by-gives t (refusedBy t)
-refused-by-at t κs a x e p h = p ∙ ap refusedBy h
+not-unquoted-at : (t : Unquoting) → not-unquoted-gives t (notUnquoted t)
+not-unquoted-at t κs a x e p h = p ∙ ap notUnquoted h
 
-pub refusal-is-told-with-its-place : refused-by-gives (Refused (notUtf8 (place 3 2))) (notUtf8 (place 3 2))
-refusal-is-told-with-its-place = refused-by-at _
+pub refusal-is-told-with-its-place : not-unquoted-gives (Refused (notUtf8 (place 3 2))) (notUtf8 (place 3 2))
+refusal-is-told-with-its-place = not-unquoted-at _
 
-pub text-that-is-read-has-no-refusal : refused-by-gives (Inner 1) (atStart 0)
-text-that-is-read-has-no-refusal = refused-by-at _
+pub text-that-is-read-has-no-refusal : not-unquoted-gives (Inner 1) (atStart 0)
+text-that-is-read-has-no-refusal = not-unquoted-at _

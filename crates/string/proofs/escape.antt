@@ -1,5 +1,5 @@
 pub mod Escapes
 pub mod Given
-pub mod Bounds
+pub mod Answers
 pub mod Unique
 pub mod Wrong

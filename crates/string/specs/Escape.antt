@@ -1,37 +1,22 @@
 -- Escaping a text: document 01, "Escaping writes `\\ \" \n \r \t` and copies the rest, without outer quotes", said of its characters.
 use Prim.Native.Nat.{ℕ}
-use Prim.Native.Char.{code}
-use mathlib.Core.Bool.{cond}
 use mathlib.Core.List.{List, [], _∷_, _++_}
-use lib.Dec.{leb, eqb}
-use lib.ListN.{length, drop}
+use mathlib.Core.Option.{Option, none, some}
 use Rattle.scan.specs.Byte.{backslash}
 use Rattle.utf8.specs.Code.{encoded}
 use Rattle.utf8.specs.Text.{codesOf}
 use Rattle.utf8.specs.declared.Admission.{Admission}
 use Rattle.utf8.specs.declared.Admission.the-variants as admission
-use Rattle.utf8.specs.declared.Refusal.{Refusal}
-use Rattle.utf8.specs.Answers.{textLimit, noRoom, admitted, noRefusal}
-use Rattle.string.specs.declared.escape.Escaping.{Escaping}
-use Rattle.string.specs.declared.escape.Escaping.the-variants.{Written, Refused}
-
--- a character that is copied has no letter
-abbrev pub noLetter : ℕ
-noLetter = 0
-
--- what stands behind the backslash for a character
-unfoldable pub letterOf : ℕ → ℕ
-letterOf c =
-    cond (eqb c backslash) backslash
-    (cond (eqb c (code "\"")) (code "\"")
-    (cond (eqb c (code "\n")) (code "n")
-    (cond (eqb c (code "\r")) (code "r")
-    (cond (eqb c (code "\t")) (code "t")
-    noLetter))))
+use Rattle.utf8.specs.declared.Writing.{Writing}
+use Rattle.utf8.specs.declared.Writing.the-variants.{Refused}
+use Rattle.utf8.specs.Answers.{textLimit, admitted}
+use Rattle.utf8.specs.Writing.{fitted}
+use Rattle.string.specs.Letters.{letterOf}
 
 -- a backslash and the letter, or what is copied
-unfoldable pub orLetter : List ℕ → ℕ → List ℕ
-orLetter copied l = cond (eqb l noLetter) copied (backslash ∷ l ∷ [])
+abbrev pub orLetter : List ℕ → Option ℕ → List ℕ
+orLetter copied (some l) = backslash ∷ l ∷ []
+orLetter copied none = copied
 
 abbrev pub escapedCodes : List ℕ → List ℕ
 escapedCodes [] = []
@@ -40,24 +25,10 @@ escapedCodes (c ∷ cs) = orLetter (encoded c) (letterOf c) ++ escapedCodes cs
 abbrev pub escaped : List ℕ → List ℕ
 escaped xs = escapedCodes (codesOf xs)
 
--- 3, or the length
-abbrev pub fitted : ℕ → List ℕ → Escaping
-fitted room ys = cond (leb (length ys) room) (Written (length ys)) (Refused noRoom)
-
-abbrev pub escapingAs : ℕ → List ℕ → Admission → Escaping
+abbrev pub escapingAs : ℕ → List ℕ → Admission → Writing
 escapingAs room xs (admission.Admitted n) = fitted room (escaped xs)
 escapingAs room xs (admission.Refused r) = Refused r
 
 -- refusals 1 and 2, then 3
-unfoldable pub escapingOf : ℕ → List ℕ → Escaping
+unfoldable pub escapingOf : ℕ → List ℕ → Writing
 escapingOf room xs = escapingAs room xs (admitted textLimit xs)
-
--- what the buffer holds then
-abbrev pub leftBy : Escaping → List ℕ → List ℕ → List ℕ
-leftBy (Written n) ys d = ys ++ drop n d
-leftBy (Refused r) ys d = d
-
--- the refusal of an answer, and of one that has none the number 0, which is no refusal's
-abbrev pub refusedBy : Escaping → Refusal
-refusedBy (Written n) = noRefusal
-refusedBy (Refused r) = r

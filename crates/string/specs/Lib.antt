@@ -1,4 +1,5 @@
 pub mod Escape
+pub mod Letters
 pub mod Literal
 pub mod Tile
 pub mod Tiles

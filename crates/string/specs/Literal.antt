@@ -5,31 +5,21 @@ use mathlib.Core.Bool.{Bool, true, false, cond, _&&_, _||_, not}
 use mathlib.Core.List.{List, [], _++_}
 use lib.Dec.{eqb, leb, ltb}
 use lib.ListN.{length, take, drop}
-use Rattle.scan.specs.Byte.{peekAt, backslash}
+use Rattle.scan.specs.Byte.{peekAt, backslash, backquote, isQuote}
 use Rattle.scan.specs.Text.{has}
 use Rattle.utf8.specs.declared.Admission.{Admission}
 use Rattle.utf8.specs.declared.Admission.the-variants as admission
 use Rattle.utf8.specs.declared.Reading.{Reading}
 use Rattle.utf8.specs.declared.Refusal.{Refusal}
 use Rattle.utf8.specs.Answers.{textLimit, atStart, noRoom, admitted, noRefusal}
-use Rattle.string.specs.Tile.{backquote}
 use Rattle.string.specs.declared.Extent.{Extent}
 use Rattle.string.specs.declared.Extent.the-variants as extent
 use Rattle.string.specs.declared.Unquoting.{Unquoting}
 use Rattle.string.specs.declared.Unquoting.the-variants.{Inner, Written, Refused}
 use Rattle.string.specs.Tiles.{tilesOf, hasBad, bytesOf}
 
-abbrev pub doubleQuote : ℕ
-doubleQuote = code "\""
-
-abbrev pub singleQuote : ℕ
-singleQuote = code "'"
-
 abbrev pub lineFeed : ℕ
 lineFeed = code "\n"
-
-unfoldable pub isQuote : ℕ → Bool
-isQuote c = eqb c doubleQuote || (eqb c singleQuote || eqb c backquote)
 
 -- the literal's sign, and what stands between it and the last byte
 abbrev pub signOf : List ℕ → ℕ
@@ -97,8 +87,8 @@ partOf (Inner n) xs d = cond (ltb n (length xs)) (take n (drop 1 xs)) []
 partOf (Written n) xs d = cond (leb n (length d)) (take n d) []
 partOf (Refused s) xs d = []
 
--- the refusal of an answer, and of one that has none the number 0, which is no refusal's
-abbrev pub refusedBy : Unquoting → Refusal
-refusedBy (Inner n) = noRefusal
-refusedBy (Written n) = noRefusal
-refusedBy (Refused r) = r
+-- why a literal has no text
+abbrev pub notUnquoted : Unquoting → Refusal
+notUnquoted (Inner n) = noRefusal
+notUnquoted (Written n) = noRefusal
+notUnquoted (Refused r) = r

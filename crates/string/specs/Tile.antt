@@ -4,46 +4,27 @@ use Prim.Native.Nat.{ℕ, zero, suc, _+_, _*_}
 use Prim.Native.Char.{code}
 use mathlib.Core.Bool.{Bool, true, false, cond, _&&_, not}
 use mathlib.Core.List.{List}
+use mathlib.Core.Option.{Option, none, some}
 use lib.Dec.{eqb, leb}
-use Rattle.scan.specs.Byte.{peekAt, backslash, isDigitIn, digitOf}
+use Rattle.scan.specs.Byte.{peekAt, backslash, isDigitIn, digitOf, backquote}
 use Rattle.utf8.specs.declared.Character.{Character}
 use Rattle.utf8.specs.declared.Character.the-variants.{Scalar, Nothing, IllFormed}
 use Rattle.utf8.specs.Code.{isScalar}
 use Rattle.utf8.specs.Answers.{characterAt}
+use Rattle.string.specs.Letters.{letterValue}
 use Rattle.string.specs.declared.tile.Form.{Form}
 use Rattle.string.specs.declared.tile.Form.the-variants.{Plain, Letter, Hex, Octal, Point}
-use Rattle.string.specs.declared.tile.Numeral.{Numeral}
-use Rattle.string.specs.declared.tile.Numeral.the-variants.{Value, NotDigits}
+use Rattle.string.specs.declared.tile.Amount.{Amount}
+use Rattle.string.specs.declared.tile.Amount.the-variants.{Value, NotDigits}
 use Rattle.string.specs.declared.tile.Tile.{Tile}
 use Rattle.string.specs.declared.tile.Tile.the-variants.{Piece, Bad}
 
-abbrev pub backquote : ℕ
-backquote = code "`"
-
--- no letter stands for this code point
-abbrev pub noValue : ℕ
-noValue = 0
-
--- "escapes `\a \b \f \n \r \t \v \\`, the literal's own quote sign": the code point that what follows the backslash stands for
-unfoldable pub letterValue : ℕ → ℕ → ℕ
-letterValue q c =
-    cond (eqb c q) q
-    (cond (eqb c (code "a")) 0x07
-    (cond (eqb c (code "b")) 0x08
-    (cond (eqb c (code "f")) 0x0c
-    (cond (eqb c (code "n")) 0x0a
-    (cond (eqb c (code "r")) 0x0d
-    (cond (eqb c (code "t")) 0x09
-    (cond (eqb c (code "v")) 0x0b
-    (cond (eqb c backslash) backslash
-    noValue))))))))
-
 -- n digits of a radix from an offset on, read behind those that amount to v
-unfoldable pub numeralFrom : ℕ → ℕ → ℕ → ℕ → List ℕ → Numeral
-numeralFrom radix v zero at xs = Value v
-numeralFrom radix v (suc n) at xs =
+unfoldable pub amountFrom : ℕ → ℕ → ℕ → ℕ → List ℕ → Amount
+amountFrom radix v zero at xs = Value v
+amountFrom radix v (suc n) at xs =
     let c = peekAt xs at in
-    cond (isDigitIn radix c) (numeralFrom radix (v * radix + digitOf c) n (suc at) xs) NotDigits
+    cond (isDigitIn radix c) (amountFrom radix (v * radix + digitOf c) n (suc at) xs) NotDigits
 
 -- "`\x` and octal": the escapes that stand for one byte in the documented reading
 abbrev pub isByte : Form → Bool
@@ -57,20 +38,24 @@ isByte Point = false
 unfoldable pub isAllowed : Form → ℕ → Bool
 isAllowed f v = cond (isByte f) (leb v 0xff) (isScalar v)
 
-abbrev pub numberedAs : Form → ℕ → Numeral → Tile
+abbrev pub numberedAs : Form → ℕ → Amount → Tile
 numberedAs f size (Value v) = cond (isAllowed f v) (Piece f v size) Bad
 numberedAs f size NotDigits = Bad
 
 -- an escape by n digits of a radix from an offset on
 unfoldable pub numbered : Form → ℕ → ℕ → ℕ → List ℕ → Tile
-numbered f radix at n xs = numberedAs f (at + n) (numeralFrom radix 0 n at xs)
+numbered f radix at n xs = numberedAs f (at + n) (amountFrom radix 0 n at xs)
+
+-- an escape by a letter that stands for a character, or another
+abbrev pub letteredOr : Option ℕ → Tile → Tile
+letteredOr (some v) other = Piece Letter v 2
+letteredOr none other = other
 
 -- "`\xhh`, three octal digits .., `\uhhhh`, `\Uhhhhhhhh`"; what does not begin with three octal digits is none
 unfoldable pub escapeOf : ℕ → List ℕ → Tile
 escapeOf q xs =
     let c = peekAt xs 1 in
-    let v = letterValue q c in
-    cond (not (eqb v noValue)) (Piece Letter v 2)
+    letteredOr (letterValue q c)
     (cond (eqb c (code "x")) (numbered Hex 16 2 2 xs)
     (cond (eqb c (code "u")) (numbered Point 16 2 4 xs)
     (cond (eqb c (code "U")) (numbered Point 16 2 8 xs)

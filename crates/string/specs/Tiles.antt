@@ -13,15 +13,15 @@ use Rattle.string.specs.declared.tile.Tile.the-variants.{Piece, Bad}
 use Rattle.string.specs.Tile.{isByte, tileOf}
 
 -- how many bytes a tile has; of a bad one the first is passed
-abbrev pub sizeOf : Tile → ℕ
-sizeOf (Piece f v n) = n
-sizeOf Bad = 1
+abbrev pub tileSize : Tile → ℕ
+tileSize (Piece f v n) = n
+tileSize Bad = 1
 
 -- k bytes are passed over, which the tile before has taken; then come the tiles
 unfoldable pub tilesPast : ℕ → ℕ → List ℕ → List Tile
 tilesPast q k [] = []
 tilesPast q (suc k) (x ∷ xs) = tilesPast q k xs
-tilesPast q zero (x ∷ xs) = let t = tileOf q (x ∷ xs) in t ∷ tilesPast q (pred (sizeOf t)) xs
+tilesPast q zero (x ∷ xs) = let t = tileOf q (x ∷ xs) in t ∷ tilesPast q (pred (tileSize t)) xs
 
 -- the tiles of the content of a literal with the sign q
 abbrev pub tilesOf : ℕ → List ℕ → List Tile

@@ -1,27 +1,23 @@
 // A text is escaped, to stand between double quotes. It is measured first, so that a refused call writes nothing.
+use crate::tile;
 use utf8::Admission;
-use utf8::Refusal;
+use utf8::Writing;
+ghost use mathlib.Core.Option.{Option·getD};
 ghost use mathlib.Core.Path.{_≡_};
 ghost use Prim.Native.Nat.{_+_, _≤_};
 ghost use lib.ListN.{length};
 ghost use lib.Seq.{sets};
-ghost use Rattle.string.specs.Escape.{letterOf, escaped, escapingOf, leftBy, refusedBy};
+ghost use Rattle.utf8.specs.Writing.{leftBy};
+ghost use Rattle.string.specs.Letters.{letterOf};
+ghost use Rattle.string.specs.Escape.{escaped, escapingOf};
 ghost use Rattle.string.specs.steps.Bytes.{escapedByte, escapedBytes};
-
-// How many bytes of an escaped text were written, or why none were.
-pub enum Escaping {
-    Written(usize),
-    Refused(Refusal),
-}
-
-const BACKSLASH: u8 = b'\\';
 
 // A byte that is copied has no letter.
 const NO_LETTER: u8 = 0;
 
-// What stands behind the backslash for a byte.
+// What stands behind the backslash for a byte, or NO_LETTER.
 fn letter_of(c: u8) -> u8
-    ensures { λ r. ⌜ r ≡ letterOf c ⌝ }
+    ensures { λ r. ⌜ r ≡ Option·getD (letterOf c) 0 ⌝ }
 {
     match c {
         b'\\' => b'\\',
@@ -64,7 +60,7 @@ fn put_escaped(c: u8, out: &mut [u8], at: usize) -> usize
         out[at] = c;
         return at + 1;
     }
-    out[at] = BACKSLASH;
+    out[at] = tile::BACKSLASH;
     out[at + 1] = letter;
     at + 2
 }
@@ -83,28 +79,18 @@ fn write_escaped(text: &[u8], out: &mut [u8])
 }
 
 // Writes a text, escaped, at the front of a lent buffer; nothing where it is refused.
-pub fn escape_string(text: &[u8], out: &mut [u8]) -> Escaping
+pub fn escape_string(text: &[u8], out: &mut [u8]) -> Writing
     ensures { λ r. ⌜ r ≡ escapingOf (length (now (out .entry))) (now (text .entry)) ⌝ }
     ensures { λ r. ⌜ now (out .exit) ≡ leftBy r (escaped (now (text .entry))) (now (out .entry)) ⌝ }
 {
     let a = utf8::admit(text, utf8::TEXT_LIMIT);
     let Admission::Admitted(_) = a else {
-        return Escaping::Refused(utf8::not_admitted(a));
+        return Writing::Refused(utf8::not_admitted(a));
     };
     let n = escaped_length(text);
     if out.len() < n {
-        return Escaping::Refused(utf8::at_start(utf8::NO_ROOM));
+        return Writing::Refused(utf8::at_start(utf8::NO_ROOM));
     }
     write_escaped(text, out);
-    Escaping::Written(n)
-}
-
-// Why a text is not escaped; where it is, a refusal of no number.
-pub fn refused_by(answer: Escaping) -> Refusal
-    ensures { λ r. ⌜ r ≡ refusedBy answer ⌝ }
-{
-    let Escaping::Refused(r) = answer else {
-        return utf8::at_start(utf8::NO_REFUSAL);
-    };
-    r
+    Writing::Written(n)
 }

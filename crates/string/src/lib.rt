@@ -5,6 +5,7 @@ pub mod tile;
 
 use crate::tile::Form;
 use crate::tile::Tile;
+use scan::byte;
 use utf8::Admission;
 use utf8::ByteOffset;
 use utf8::Reading;
@@ -20,9 +21,9 @@ ghost use lib.Seq.{sets};
 ghost use Rattle.utf8.specs.Text.{WellFormed};
 ghost use Rattle.string.specs.Tile.{isAllowed};
 ghost use Rattle.string.specs.Tiles.{tilesOf, hasBad, givesByte, pieceBytes, bytesOf};
-ghost use Rattle.string.specs.Literal.{isQuote, isEnclosed, hasNewline, hasEscape, unquoted, extentOf, unquotingOf, textBy, partOf, refusedBy};
+ghost use Rattle.string.specs.Literal.{isEnclosed, hasNewline, hasEscape, unquoted, extentOf, unquotingOf, textBy, partOf, notUnquoted};
 ghost use Rattle.string.specs.declared.Unquoting.the-variants.{Inner, Written};
-ghost use Rattle.string.specs.steps.Measure.{isSingle, measured};
+ghost use Rattle.string.specs.steps.Measure.{isSingle, tilesExtent};
 
 // Document 01's "bad literal".
 pub const BAD_LITERAL: usize = 40;
@@ -41,27 +42,8 @@ pub enum Extent {
     Bad,
 }
 
-const BACKSLASH: u8 = b'\\';
-
-const DOUBLE_QUOTE: u8 = b'"';
-
-const SINGLE_QUOTE: u8 = b'\'';
-
-const BACKQUOTE: u8 = b'`';
-
-const LINE_FEED: u8 = b'\n';
-
-const LAST_ASCII: u32 = 0x7f;
-
 // The bytes of the two signs.
 const SIGNS: usize = 2;
-
-// Whether a byte is a quote sign.
-fn is_quote(c: u8) -> bool
-    ensures { λ r. ⌜ r ≡ isQuote c ⌝ }
-{
-    c == DOUBLE_QUOTE || (c == SINGLE_QUOTE || c == BACKQUOTE)
-}
 
 // Whether a literal stands between two quote signs that are the same.
 fn is_enclosed(literal: &[u8]) -> bool
@@ -72,21 +54,21 @@ fn is_enclosed(literal: &[u8]) -> bool
         return false;
     }
     let sign = literal[0];
-    literal[n - 1] == sign && is_quote(sign)
+    literal[n - 1] == sign && byte::is_quote(sign as usize)
 }
 
 // Whether there is a line feed where none may be.
 fn has_newline(sign: u8, inner: &[u8]) -> bool
     ensures { λ r. ⌜ r ≡ hasNewline sign (now (inner .entry)) ⌝ }
 {
-    sign != BACKQUOTE && scan::contains(inner, LINE_FEED)
+    sign != tile::BACKQUOTE && scan::contains(inner, tile::LINE_FEED)
 }
 
 // Whether there is an escape.
 fn has_escape(sign: u8, inner: &[u8]) -> bool
     ensures { λ r. ⌜ r ≡ hasEscape sign (now (inner .entry)) ⌝ }
 {
-    sign != BACKQUOTE && scan::contains(inner, BACKSLASH)
+    sign != tile::BACKQUOTE && scan::contains(inner, tile::BACKSLASH)
 }
 
 // Whether a tile gives one byte, and not a character.
@@ -103,7 +85,7 @@ fn gives_byte(reading: Reading, form: Form) -> bool
 fn is_single(reading: Reading, form: Form, value: u32) -> bool
     ensures { λ r. ⌜ r ≡ isSingle reading form value ⌝ }
 {
-    value <= LAST_ASCII || gives_byte(reading, form)
+    value <= tile::LAST_ASCII || gives_byte(reading, form)
 }
 
 // How many bytes a tile gives.
@@ -119,7 +101,7 @@ fn piece_size(reading: Reading, form: Form, value: u32) -> usize
 // How many bytes the tiles of a content give.
 fn measure(inner: &[u8], sign: u8, reading: Reading) -> Extent
     requires { ⌜ sign < 0x80 ⌝ }
-    ensures { λ r. ⌜ r ≡ measured reading (tilesOf sign (now (inner .entry))) ⌝ }
+    ensures { λ r. ⌜ r ≡ tilesExtent reading (tilesOf sign (now (inner .entry))) ⌝ }
 {
     let mut n = 0;
     let mut from = 0;
@@ -225,8 +207,8 @@ pub fn unquote_string(literal: &[u8], reading: Reading, text: &mut [u8]) -> Unqu
 }
 
 // Why a literal has no text; where it has one, a refusal of no number.
-pub fn refused_by(answer: Unquoting) -> Refusal
-    ensures { λ r. ⌜ r ≡ refusedBy answer ⌝ }
+pub fn not_unquoted(answer: Unquoting) -> Refusal
+    ensures { λ r. ⌜ r ≡ notUnquoted answer ⌝ }
 {
     let Unquoting::Refused(r) = answer else {
         return utf8::at_start(utf8::NO_REFUSAL);

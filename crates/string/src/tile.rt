@@ -3,9 +3,11 @@ use scan::byte;
 use utf8::ByteOffset;
 use utf8::Character;
 use utf8::encode;
+ghost use mathlib.Core.Option.{Option·getD};
 ghost use mathlib.Core.Path.{_≡_};
 ghost use Prim.Native.Nat.{_≤_};
-ghost use Rattle.string.specs.Tile.{letterValue, numeralFrom, isByte, isAllowed, numbered, escapeOf, beginsEscape, tileOf};
+ghost use Rattle.string.specs.Letters.{letterValue};
+ghost use Rattle.string.specs.Tile.{amountFrom, isByte, isAllowed, numbered, escapeOf, beginsEscape, tileOf};
 
 // How a tile is written: as it is, as a letter or a sign behind a backslash, as `\xhh`, as three octal digits, or as `\uhhhh` or
 // `\Uhhhhhhhh`.
@@ -24,22 +26,22 @@ pub enum Tile {
 }
 
 // What digits amount to.
-pub enum Numeral {
+pub enum Amount {
     Value(u32),
     NotDigits,
 }
 
-const BACKSLASH: u8 = b'\\';
+pub const BACKSLASH: u8 = b'\\';
 
-const BACKQUOTE: u8 = b'`';
+pub const BACKQUOTE: u8 = b'`';
+
+pub const LINE_FEED: u8 = b'\n';
 
 const ALERT: u32 = 0x07;
 
 const BACKSPACE: u32 = 0x08;
 
 const TAB: u32 = 0x09;
-
-const LINE_FEED: u32 = 0x0a;
 
 const VERTICAL_TAB: u32 = 0x0b;
 
@@ -52,7 +54,7 @@ const NO_VALUE: u32 = 0;
 
 const LARGEST_BYTE: u32 = 0xff;
 
-const LAST_ASCII: usize = 0x7f;
+pub const LAST_ASCII: u32 = 0x7f;
 
 const HEX: usize = 16;
 
@@ -63,9 +65,9 @@ const BEHIND_BACKSLASH: usize = 1;
 
 const BEHIND_LETTER: usize = 2;
 
-// The code point that a letter behind the backslash stands for.
+// The code point that a letter behind the backslash stands for, or NO_VALUE.
 fn letter_value(quote: u8, c: u8) -> u32
-    ensures { λ r. ⌜ r ≡ letterValue quote c ⌝ }
+    ensures { λ r. ⌜ r ≡ Option·getD (letterValue quote c) 0 ⌝ }
 {
     if c == quote {
         return quote as u32;
@@ -74,7 +76,7 @@ fn letter_value(quote: u8, c: u8) -> u32
         b'a' => ALERT,
         b'b' => BACKSPACE,
         b'f' => FORM_FEED,
-        b'n' => LINE_FEED,
+        b'n' => LINE_FEED as u32,
         b'r' => CARRIAGE_RETURN,
         b't' => TAB,
         b'v' => VERTICAL_TAB,
@@ -84,21 +86,21 @@ fn letter_value(quote: u8, c: u8) -> u32
 }
 
 // What the `count` digits of a radix from an offset on amount to.
-fn read_digits(s: &[u8], at: usize, count: usize, radix: usize) -> Numeral
+fn read_digits(s: &[u8], at: usize, count: usize, radix: usize) -> Amount
     requires { ⌜ (at ≤ 2) × (count ≤ 8) × (radix ≤ 16) ⌝ }
-    ensures { λ r. ⌜ r ≡ numeralFrom radix 0 count at (now (s .entry)) ⌝ }
+    ensures { λ r. ⌜ r ≡ amountFrom radix 0 count at (now (s .entry)) ⌝ }
 {
     let mut value = 0;
     let mut i = 0;
     while i < count {
         let c = byte::peek(s, at + i);
         if !byte::is_digit_in(radix, c) {
-            return Numeral::NotDigits;
+            return Amount::NotDigits;
         }
         value = value * radix as u32 + byte::digit_of(c) as u32;
         i += 1;
     }
-    Numeral::Value(value)
+    Amount::Value(value)
 }
 
 // Whether a tile stands for one byte in the documented reading.
@@ -130,7 +132,7 @@ fn numbered(s: &[u8], form: Form, radix: usize, at: usize, count: usize) -> Tile
     ensures { λ r. ⌜ r ≡ numbered form radix at count (now (s .entry)) ⌝ }
 {
     let n = read_digits(s, at, count, radix);
-    let Numeral::Value(value) = n else {
+    let Amount::Value(value) = n else {
         return Tile::Bad;
     };
     if !is_allowed(form, value) {
@@ -182,7 +184,7 @@ pub fn unquote_char(s: &[u8], quote: u8) -> Tile
     if begins_escape(quote, first) {
         return escape(s, quote);
     }
-    if first <= LAST_ASCII {
+    if first <= LAST_ASCII as usize {
         let value = first as u32;
         return Tile::Piece {
             form: Form::Plain,

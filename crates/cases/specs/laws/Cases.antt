@@ -12,7 +12,7 @@ use Rattle.duration.specs.declared.span.Duration.{Duration}
 use Rattle.duration.specs.declared.Timing.{Timing}
 use Rattle.duration.specs.declared.Timing.the-variants.{Lasts, Refused}
 use Rattle.duration.specs.Duration.{timingOf}
-use Rattle.duration.specs.Display.{textOf}
+use Rattle.duration.specs.Display.{durationText}
 use Rattle.string.specs.Literal.{isBadLiteral, unquoted}
 use Rattle.lex.specs.declared.Lexing.the-variants as lexing
 use Rattle.lex.specs.Lex.{entriesOf, refusedAt, measured, kindOf}
@@ -67,7 +67,7 @@ Shown (lexes q ks) = (measured q ≡ lexing.Count (length ks)) × (map kindOf (e
 Shown (refuses q r p) = measured q ≡ lexing.Refused (refusedAt q r p)
 Shown (literal r xs ys) = (isBadLiteral xs ≡ false) × (unquoted r xs ≡ ys)
 Shown (timed xs t) = timingOf xs ≡ t
-Shown (written d ys) = textOf d ≡ ys
+Shown (written d ys) = durationText d ≡ ys
 
 abbrev pub Each : (Case → Type 0) → List Case → Type 0
 Each P [] = Unit {0}

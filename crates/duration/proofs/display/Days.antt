@@ -5,12 +5,12 @@ use native.Mathlib.Omega.{arith}
 use mathlib.Core.Bool.{Bool, true, false, cond, not}
 use mathlib.Core.List.{List, [], _∷_, _++_}
 use mathlib.Core.Path.{_≡_, ap, sym, _∙_}
-use lib.Dec.{eqb}
+use lib.Dec.{eqb, ltb}
 use lib.ListN.{drop}
 use borrow.Author.Tests.{eq-eqb, ne-eqb}
 use Rattle.scan.specs.Ascii.{ascii}
-use Rattle.duration.specs.Unit.{Unit, milli, second, minute, hour, day}
-use Rattle.duration.specs.Display.{Row, row, rows, counted, partOf, restOf, written}
+use Rattle.duration.specs.Unit.{Unit, units, milli, second, minute, hour, day}
+use Rattle.duration.specs.Display.{countText, partText, restOf, written}
 use Rattle.duration.specs.steps.Display.{wholeOf}
 
 module _ (days rest k : ℕ) (some : 0 < k) (under : rest < day) where
@@ -32,14 +32,14 @@ module _ (days rest k : ℕ) (some : 0 < k) (under : rest < day) where
       other (omega arith) (ap (λ (n : ℕ). n % k) d ∙ mul-mod-left q k)))
 
 -- what a unit that is written only where nothing remains writes, and what it leaves
-pub whole-row : (u : Unit) (ws : List Row) (ms : ℕ) {n : ℕ} → n ≡ wholeOf (u .size) ms → written (row true u ∷ ws) ms ≡ counted n (u .text) ++ written ws (ms - n * u .size)
-unfolding partOf restOf counted
-whole-row u ws ms e = rw e (go (eqb (ms % u .size) 0))
+pub whole-unit : (u : Unit) (us : List Unit) (ms : ℕ) {n : ℕ} → ltb day (u .size) ≡ true → n ≡ wholeOf (u .size) ms → written (u ∷ us) ms ≡ countText n (u .text) ++ written us (ms - n * u .size)
+unfolding partText restOf countText
+whole-unit u us ms l e = rw (l, e) (go (eqb (ms % u .size) 0))
   where
-    go : (b : Bool) → cond (not b) [] (counted (ms / u .size) (u .text)) ++ written ws (cond (not b) ms (ms % u .size))
-        ≡ counted (cond b (ms / u .size) 0) (u .text) ++ written ws (ms - cond b (ms / u .size) 0 * u .size)
+    go : (b : Bool) → cond (not b) [] (countText (ms / u .size) (u .text)) ++ written us (cond (not b) ms (ms % u .size))
+        ≡ countText (cond b (ms / u .size) 0) (u .text) ++ written us (ms - cond b (ms / u .size) 0 * u .size)
     go true = rw (mod-eq-sub-div-mul ms (u .size))
-    go false = ap (written ws) (omega arith)
+    go false = ap (written us) (omega arith)
 
 in-minutes : (n : ℕ) → n % hour % minute ≡ n % minute
 in-minutes n = omega arith
@@ -49,9 +49,9 @@ in-seconds n = omega arith
 
 -- what days and the rest write below years and weeks
 pub below-weeks : (days rest : ℕ) → rest < day
-    → written (drop 2 rows) (days * day + rest)
-    ≡ counted days (ascii "d") ++ (counted (rest / hour) (ascii "h") ++ (counted (rest % hour / minute) (ascii "m") ++ (counted (rest % minute / second) (ascii "s") ++ (counted (rest % second) (ascii "ms") ++ []))))
-unfolding partOf restOf
+    → written (drop 2 units) (days * day + rest)
+    ≡ countText days (ascii "d") ++ (countText (rest / hour) (ascii "h") ++ (countText (rest % hour / minute) (ascii "m") ++ (countText (rest % minute / second) (ascii "s") ++ (countText (rest % second) (ascii "ms") ++ []))))
+unfolding partText restOf
 below-weeks days rest h =
     let ms = days * day + rest in
     let d : ms / day ≡ days = omega arith in

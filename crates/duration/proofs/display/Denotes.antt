@@ -1,11 +1,11 @@
--- What is written denotes the milliseconds again: the rows are the units in their order, and of each the text has its part or goes on with
--- one of a later unit, or is over. A part's number times its unit and what the rest denotes are the milliseconds, and nothing is left
--- at the end since the last unit is one millisecond.
+-- What is written denotes the milliseconds again: of each unit in turn the text has its part, or goes on with one of a later unit, or is
+-- over. A part's number times its unit and what the rest denotes are the milliseconds, and nothing is left at the end since the last unit
+-- is one millisecond.
 use Prim.Native.Nat.{ℕ, _+_, _*_, _/_, _%_, _<_}
 use native.Mathlib.Nat.{div-add-mod'}
 use native.Mathlib.Omega.{arith}
 use mathlib.Core.Bool.{Bool, true, false, cond, _||_, true≢false}
-use mathlib.Core.List.{List, [], _∷_, _++_, map, append-assoc}
+use mathlib.Core.List.{List, [], _∷_, _++_, append-assoc}
 use mathlib.Core.Path.{_≡_, refl, sym, ap, ap₂, subst, _∙_}
 use lib.Dec.{eqb}
 use lib.ListN.{length}
@@ -23,7 +23,7 @@ use Rattle.duration.specs.Spans.{isZero}
 use Rattle.writing.specs.Decimal.{decimalText}
 use Rattle.writing.proofs.ReadBack.{digits-some, digits-all, decimal-value}
 use Rattle.duration.specs.Units.{isPart, behind, sumBy}
-use Rattle.duration.specs.Display.{Row, rows, isLeftOut, counted, partOf, restOf, written, millisOf, textOf}
+use Rattle.duration.specs.Display.{isLeftOut, countText, partText, restOf, written, millisOf, durationText}
 use Rattle.duration.specs.laws.Display.{Denotes, DenotesAgain}
 use Rattle.duration.proofs.display.Parts.{digits-first, part}
 use Rattle.duration.proofs.display.Steps.{text-zero, text-written}
@@ -83,49 +83,43 @@ module _ (u : Unit) (us : List Unit) (xs : List ℕ) (n : ℕ) (r : Reads us xs 
         sum = rw (e, t .behind, t .value, decimal-back v) (omega (arith, r .sum));
       }
 
-module _ (w : Row) (us : List Unit) (ws : List Row) (ms : ℕ) (l : Lettered (w .unit)) (o : isOf (w .unit .text) us ≡ false) where
-  abbrev u : Unit
-  u = w .unit
-
+module _ (u : Unit) (us : List Unit) (ms : ℕ) (l : Lettered u) (o : isOf (u .text) us ≡ false) where
   abbrev v : ℕ
   v = ms / u .size
 
   abbrev remains : ℕ
   remains = ms % u .size
 
-  part-reads : Reads us (written ws remains) remains → (b : Bool) → eqb v 0 ≡ b → Reads (u ∷ us) (cond b [] (decimalText v ++ u .text) ++ written ws remains) ms
+  part-reads : Reads us (written us remains) remains → (b : Bool) → eqb v 0 ≡ b → Reads (u ∷ us) (cond b [] (decimalText v ++ u .text) ++ written us remains) ms
   part-reads r true e =
       let k : remains ≡ ms = omega (arith, ap (λ (n : ℕ). n * u .size) (eqb-true v 0 e), div-add-mod' ms (u .size)) in
-      subst (Reads (u ∷ us) (written ws remains)) k (reads-skip u us (written ws remains) remains r o)
+      subst (Reads (u ∷ us) (written us remains)) k (reads-skip u us (written us remains) remains r o)
   part-reads r false e =
-      let rest = written ws remains in
+      let rest = written us remains in
       subst (λ (xs : List ℕ). Reads (u ∷ us) xs ms) (sym (append-assoc (decimalText v) (u .text) rest))
       (subst (Reads (u ∷ us) (decimalText v ++ (u .text ++ rest))) (div-add-mod' ms (u .size)) (reads-part u us rest remains r v l))
 
-  row-reads : Reads us (written ws (restOf w ms)) (restOf w ms) → Reads (u ∷ us) (written (w ∷ ws) ms) ms
-  unfolding partOf restOf counted
-  row-reads r = go (isLeftOut (w .whole) remains) r
+  unit-reads : Reads us (written us (restOf u ms)) (restOf u ms) → Reads (u ∷ us) (written (u ∷ us) ms) ms
+  unfolding partText restOf countText
+  unit-reads r = go (isLeftOut u remains) r
     where
-      go : (b : Bool) → Reads us (written ws (cond b ms remains)) (cond b ms remains)
-          → Reads (u ∷ us) (cond b [] (cond (eqb v 0) [] (decimalText v ++ u .text)) ++ written ws (cond b ms remains)) ms
-      go true r = reads-skip u us (written ws ms) ms r o
+      go : (b : Bool) → Reads us (written us (cond b ms remains)) (cond b ms remains)
+          → Reads (u ∷ us) (cond b [] (cond (eqb v 0) [] (decimalText v ++ u .text)) ++ written us (cond b ms remains)) ms
+      go true r = reads-skip u us (written us ms) ms r o
       go false r = part-reads r (eqb v 0) refl
 
-abbrev unitsIn : List Row → List Unit
-unitsIn ws = map (λ w. w .unit) ws
-
 -- each unit is told from the later ones, and nothing is left behind the last
-abbrev Told : List Row → ℕ → Type 0
+abbrev Told : List Unit → ℕ → Type 0
 Told [] ms = ms ≡ 0
-Told (w ∷ ws) ms = Lettered (w .unit) × (isOf (w .unit .text) (unitsIn ws) ≡ false) × Told ws (restOf w ms)
+Told (u ∷ us) ms = Lettered u × (isOf (u .text) us ≡ false) × Told us (restOf u ms)
 
-written-reads : (ws : List Row) (ms : ℕ) → Told ws ms → Reads (unitsIn ws) (written ws ms) ms
+written-reads : (us : List Unit) (ms : ℕ) → Told us ms → Reads us (written us ms) ms
 written-reads [] ms t = rw t reads-none
-written-reads (w ∷ ws) ms t = row-reads w (unitsIn ws) ws ms (t .0) (t .1) (written-reads ws (restOf w ms) (t .2))
+written-reads (u ∷ us) ms t = unit-reads u us ms (t .0) (t .1) (written-reads us (restOf u ms) (t .2))
 
-rows-told : (ms : ℕ) → Told rows ms
+units-told : (ms : ℕ) → Told units ms
 unfolding runLength isIn isAlpha isWithin sameText isOf restOf
-rows-told ms =
+units-told ms =
     let l : (ys : List ℕ) → _≡_ {A = ℕ} 0 0 = λ ys. refl in
     ((refl, l), refl, ((refl, l), refl, ((refl, l), refl, ((refl, l), refl, ((refl, l), refl, ((refl, l), refl, ((refl, l), refl, omega arith)))))))
 
@@ -136,12 +130,12 @@ zero-reads = (refl, refl)
 pub denotes : Denotes
 denotes d = go (isZero d) refl
   where
-    go : (b : Bool) → isZero d ≡ b → (behind units (textOf d) ≡ []) × (sumBy (λ v. v) units (textOf d) ≡ millisOf d)
+    go : (b : Bool) → isZero d ≡ b → (behind units (durationText d) ≡ []) × (sumBy (λ v. v) units (durationText d) ≡ millisOf d)
     go true e =
         let s = eqb-true (d .secs) 0 (and-left (eqb (d .secs) 0) (eqb (d .nanos) 0) e) in
         let n = eqb-true (d .nanos) 0 (and-right (eqb (d .secs) 0) (eqb (d .nanos) 0) e) in
         rw (text-zero d e) (zero-reads .0, zero-reads .1 ∙ omega (arith, s, n))
-    go false e = let r = written-reads rows (millisOf d) (rows-told (millisOf d)) in rw (text-written d e) (r .left, r .sum)
+    go false e = let r = written-reads units (millisOf d) (units-told (millisOf d)) in rw (text-written d e) (r .left, r .sum)
 
 pub denotes-again : DenotesAgain
 denotes-again d h e =

@@ -9,12 +9,13 @@ use lib.Dec.{eqb}
 use lib.ListN.{length}
 use Rattle.proving.proofs.Choice.{exactly}
 use Rattle.utf8.specs.Answers.{atStart, noRoom}
+use Rattle.utf8.specs.laws.Refusals.{NoRoom}
 use Rattle.duration.specs.declared.span.Duration.{Duration}
-use Rattle.duration.specs.declared.display.Displaying.{Displaying}
-use Rattle.duration.specs.declared.display.Displaying.the-variants.{Written, Refused}
+use Rattle.utf8.specs.declared.Writing.{Writing}
+use Rattle.utf8.specs.declared.Writing.the-variants.{Written, Refused}
 use Rattle.duration.specs.Unit.{nanosASecond}
-use Rattle.duration.specs.Display.{overRange, textOf, displayingOf}
-use Rattle.duration.specs.laws.Display.{OverRange, NoRoom, DisplayingGiven}
+use Rattle.duration.specs.Display.{overRange, durationText, displayingOf}
+use Rattle.duration.specs.laws.Display.{OverRange, DisplayingGiven}
 use Rattle.duration.proofs.display.Answers as answers
 
 data Row : Type 0 where
@@ -22,20 +23,20 @@ data Row : Type 0 where
   short : Row
   written : Row
 
-abbrev rowOf : Displaying → Row
+abbrev rowOf : Writing → Row
 rowOf (Written n) = written
 rowOf (Refused r) = cond (eqb (r .number) overRange) over short
 
 module _ (room : ℕ) (d : Duration) where
   abbrev Holds : Row → Type 0
   Holds over = OverRange d
-  Holds short = (OverRange d → ⊥) × NoRoom room d
-  Holds written = (OverRange d → ⊥) × (NoRoom room d → ⊥)
+  Holds short = (OverRange d → ⊥) × NoRoom room (durationText d)
+  Holds written = (OverRange d → ⊥) × (NoRoom room (durationText d) → ⊥)
 
-  abbrev given : Row → Displaying
+  abbrev given : Row → Writing
   given over = Refused (atStart overRange)
   given short = Refused noRoom
-  given written = Written (length (textOf d))
+  given written = Written (length (durationText d))
 
   back : (w : Row) → rowOf (given w) ≡ w
   back over = refl
@@ -47,14 +48,14 @@ module _ (room : ℕ) (d : Duration) where
   gives short h = answers.no-room d (omega (arith, h .0)) room (h .1)
   gives written h = answers.fits d (omega (arith, h .0)) room (omega (arith, h .1))
 
-  some : Dec (OverRange d) → Dec (NoRoom room d) → (w : Row) × Holds w
+  some : Dec (OverRange d) → Dec (NoRoom room (durationText d)) → (w : Row) × Holds w
   some (yes o) r = (over, o)
   some (no o) (yes r) = (short, (o, r))
   some (no o) (no r) = (written, (o, r))
 
   only : (w : Row) → displayingOf room d ≡ given w → Holds w
   only w e =
-      let v = some (decLe nanosASecond (d .nanos)) (decLt room (length (textOf d))) in
+      let v = some (decLe nanosASecond (d .nanos)) (decLt room (length (durationText d))) in
       exactly rowOf given back Holds (v .0) (v .1) (gives (v .0) (v .1)) w e
 
 pub displaying-given : DisplayingGiven

@@ -14,8 +14,9 @@ use Rattle.writing.specs.Put.{putAt, pastAt}
 use Rattle.writing.proofs.Writes.{put-stands}
 use Rattle.duration.specs.declared.span.Duration.{Duration}
 use Rattle.duration.specs.Spans.{isZero}
-use Rattle.duration.specs.Display.{rows, counted, written, millisOf, textOf}
-use Rattle.duration.specs.steps.Display.{Stored, joined, sizes}
+use Rattle.duration.specs.Unit.{units}
+use Rattle.duration.specs.Display.{countText, written, millisOf, durationText}
+use Rattle.duration.specs.steps.Display.{Stored, chained, sizes}
 
 pub stored-none : (d : List ℕ) (at : ℕ) → Stored [] d at at d
 stored-none d at = record { past = omega arith; holds = refl }
@@ -32,22 +33,22 @@ stored-on {xs} {ys} {d} {at = at} s t =
 pub stored-all : {xs d e : List ℕ} {at r : ℕ} → Stored xs d at r e → Stored (xs ++ []) d at r e
 stored-all {xs} {d} {e} {at} {r} s = subst (λ (zs : List ℕ). Stored zs d at r e) (sym (append-nil xs)) s
 
-pub joined-size : (xss : List (List ℕ)) → length (joined xss) ≡ sizes xss
-joined-size [] = refl
-joined-size (xs ∷ xss) = length-append xs (joined xss) ∙ ap (λ (n : ℕ). length xs + n) (joined-size xss)
+pub chained-size : (xss : List (List ℕ)) → length (chained xss) ≡ sizes xss
+chained-size [] = refl
+chained-size (xs ∷ xss) = length-append xs (chained xss) ∙ ap (λ (n : ℕ). length xs + n) (chained-size xss)
 
-pub counted-none : (v : ℕ) (text : List ℕ) → v ≡ 0 → counted v text ≡ []
-unfolding counted
+pub counted-none : (v : ℕ) (text : List ℕ) → v ≡ 0 → countText v text ≡ []
+unfolding countText
 counted-none v text h = rw (eq-eqb v 0 h)
 
-pub counted-some : (v : ℕ) (text : List ℕ) → (v ≡ 0 → ⊥) → counted v text ≡ decimalText v ++ text
-unfolding counted
+pub counted-some : (v : ℕ) (text : List ℕ) → (v ≡ 0 → ⊥) → countText v text ≡ decimalText v ++ text
+unfolding countText
 counted-some v text h = rw (ne-eqb v 0 h)
 
-pub text-zero : (d : Duration) → isZero d ≡ true → textOf d ≡ ascii "0s"
-unfolding textOf
+pub text-zero : (d : Duration) → isZero d ≡ true → durationText d ≡ ascii "0s"
+unfolding durationText
 text-zero d h = rw h
 
-pub text-written : (d : Duration) → isZero d ≡ false → textOf d ≡ written rows (millisOf d)
-unfolding textOf
+pub text-written : (d : Duration) → isZero d ≡ false → durationText d ≡ written units (millisOf d)
+unfolding durationText
 text-written d h = rw h

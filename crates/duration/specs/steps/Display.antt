@@ -6,10 +6,10 @@ use mathlib.Core.Path.{_≡_}
 use lib.Dec.{eqb}
 use lib.ListN.{length}
 use lib.Seq.{sets}
-use Rattle.scan.specs.Ascii.{ascii}
 use Rattle.writing.specs.Decimal.{mostDigits}
+use Rattle.duration.specs.Unit.{Unit, units}
 use Rattle.duration.specs.declared.display.Counts.{Counts}
-use Rattle.duration.specs.Display.{counted}
+use Rattle.duration.specs.Display.{countText}
 
 -- a text is stored in a list at a place, and where it ends
 pub record Stored (xs d : List ℕ) (at r : ℕ) (e : List ℕ) : Type 0 where
@@ -27,16 +27,22 @@ longestUnit = 2
 abbrev pub longestPart : ℕ
 longestPart = mostDigits + longestUnit
 
--- what each count writes with its unit, as the rows go
+-- the counts as the units go, and what each writes with its unit
+abbrev pub countsIn : Counts → List ℕ
+countsIn p = p .years ∷ p .weeks ∷ p .days ∷ p .hours ∷ p .minutes ∷ p .seconds ∷ p .millis ∷ []
+
+abbrev pub countTexts : List ℕ → List Unit → List (List ℕ)
+countTexts [] us = []
+countTexts (v ∷ vs) [] = []
+countTexts (v ∷ vs) (u ∷ us) = countText v (u .text) ∷ countTexts vs us
+
 abbrev pub textsOf : Counts → List (List ℕ)
-textsOf p =
-    counted (p .years) (ascii "y") ∷ counted (p .weeks) (ascii "w") ∷ counted (p .days) (ascii "d") ∷ counted (p .hours) (ascii "h")
-    ∷ counted (p .minutes) (ascii "m") ∷ counted (p .seconds) (ascii "s") ∷ counted (p .millis) (ascii "ms") ∷ []
+textsOf p = countTexts (countsIn p) units
 
 -- texts one behind the other, and how long they are together
-abbrev pub joined : List (List ℕ) → List ℕ
-joined [] = []
-joined (xs ∷ xss) = xs ++ joined xss
+abbrev pub chained : List (List ℕ) → List ℕ
+chained [] = []
+chained (xs ∷ xss) = xs ++ chained xss
 
 abbrev pub sizes : List (List ℕ) → ℕ
 sizes [] = 0

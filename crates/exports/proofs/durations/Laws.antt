@@ -1,20 +1,22 @@
--- The laws of durations in `specs/Laws`: an accepted answer is 0, or no more than the buffer's bytes; a refusal's number is at most 54
--- and its place within the text, by the bounds of `duration`'s and `display`'s answers.
+-- The laws of durations in `specs/laws`: an accepted answer is 0, or no more than the buffer's bytes; a refusal's number is at most 54
+-- and its place within the text, by the bounds of `duration`'s answers and what those of `display` tell.
 use native.Mathlib.Omega.{arith}
+use mathlib.Core.Logic.{inl, inr}
 use mathlib.Core.Path.{_≡_, refl, subst}
 use borrow.Author.Tests.{lt-leb}
 use Rattle.duration.specs.declared.Timing.{Timing}
 use Rattle.duration.specs.declared.Timing.the-variants.{Lasts, Refused}
 use Rattle.duration.specs.Duration.{timingOf}
 use Rattle.duration.proofs.Bounds.{timing-bound}
-use Rattle.duration.specs.declared.display.Displaying.{Displaying}
-use Rattle.duration.specs.declared.display.Displaying.the-variants as displaying
+use Rattle.utf8.specs.declared.Writing.{Writing}
+use Rattle.utf8.specs.declared.Writing.the-variants as writing
 use Rattle.duration.specs.Display.{displayingOf}
-use Rattle.duration.proofs.display.Reach as displaying-bounds
-use Rattle.duration.proofs.display.Reach.{displaying-bound}
-use Rattle.exports.specs.Packed.{refusedFrom}
-use Rattle.exports.specs.Duration.{durationCode, displayingCode}
-use Rattle.exports.specs.laws.Codes.{looksRefused, isNoDuration, DurationTold, DurationKept, isNotDisplayed, DurationDisplayTold, DurationDisplayKept}
+use Rattle.duration.specs.laws.Display.{DisplayTells}
+use Rattle.duration.proofs.display.Answers.{display-answers}
+use Rattle.exports.specs.Packed.{refusedFrom, Packable}
+use Rattle.exports.specs.Duration.{durationCode}
+use Rattle.exports.specs.Written.{writtenCode}
+use Rattle.exports.specs.laws.Codes.{looksRefused, isNoDuration, DurationTold, DurationKept, isNotWritten, DurationDisplayTold, DurationDisplayKept}
 use Rattle.exports.proofs.packing.Laws.{packed-told, placed-kept}
 
 pub duration-told : DurationTold
@@ -28,12 +30,15 @@ pub duration-kept : DurationKept
 duration-kept xs r e = let b = timing-bound xs r e in omega (arith, b)
 
 pub duration-display-told : DurationDisplayTold
-duration-display-told room d h = go (displayingOf room d) (displaying-bound room d)
+duration-display-told room d h = go (displayingOf room d) (display-answers room d)
   where
-    go : (e : Displaying) → displaying-bounds.Bounded room e → looksRefused (displayingCode e) ≡ isNotDisplayed e
-    go (displaying.Written n) b = lt-leb refusedFrom n (omega arith)
-    go (displaying.Refused r) b = packed-told r
+    go : (e : Writing) → DisplayTells room d e → looksRefused (writtenCode e) ≡ isNotWritten e
+    go (writing.Written n) t = lt-leb refusedFrom n (omega (arith, t .1))
+    go (writing.Refused r) t = packed-told r
 
 pub duration-display-kept : DurationDisplayKept
-duration-display-kept room d r e =
-    placed-kept (omega arith) (omega arith) (subst (displaying-bounds.Bounded room) e (displaying-bound room d))
+duration-display-kept room d r e = go (subst (DisplayTells room d) e (display-answers room d))
+  where
+    go : DisplayTells room d (writing.Refused r) → Packable r
+    go (inl z) = rw z (omega arith)
+    go (inr z) = rw z (omega arith)

@@ -16,6 +16,7 @@ use Rattle.utf8.specs.Table.{fits, sizeIn, charLength}
 use Rattle.utf8.specs.Code.{codeOf}
 use Rattle.utf8.specs.Text.{charsPast, sizeOf}
 use Rattle.utf8.specs.Answers.{validityOf, admitted}
+use Rattle.utf8.specs.Writing.{leftBy}
 use Rattle.scan.specs.Sign.{isSign}
 use Rattle.scan.specs.Digits.{valueFrom}
 use Rattle.decimal.specs.Grammar.{hasDigits, exponentHasDigits, isNumeral, isInfinite, isNan}
@@ -23,9 +24,10 @@ use Rattle.decimal.specs.Value.{decimalIn, decimalOf}
 use Rattle.duration.specs.Units.{isPart, behind, sumBy, counted, isUnitText, unitsOf}
 use Rattle.duration.specs.Duration.{durationRead, timingOf}
 use Rattle.writing.specs.Decimal.{digitFor, digitsWithin, decimalText}
-use Rattle.duration.specs.Display.{counted as shownAs, partOf, restOf, textOf, displayingOf, leftBy}
+use Rattle.duration.specs.Display.{countText, partText, restOf, durationText, displayingOf}
 use Rattle.exports.specs.Packed.{packedAs}
-use Rattle.exports.specs.Duration.{durationCode, secsLeft, nanosLeft, durationOf, displayingCode}
+use Rattle.exports.specs.Duration.{durationCode, secsLeft, nanosLeft, durationOf}
+use Rattle.exports.specs.Written.{writtenCode}
 use Rattle.exports.proofs.durations.simmerpath_parse_duration.Kinds as simmerpath-parse-duration
 use Rattle.exports.proofs.durations.simmerpath_parse_duration.Reads as simmerpath-parse-duration-reads
 use Rattle.exports.proofs.durations.simmerpath_display_duration.Kinds as simmerpath-display-duration
@@ -37,7 +39,7 @@ unfolding timingOf durationRead admitted validityOf charsPast sizeOf charLength 
 reading = tt
 
 displaying : Unit {0}
-unfolding displayingOf textOf partOf restOf shownAs decimalText digitsWithin digitFor
+unfolding displayingOf durationText partText restOf countText decimalText digitsWithin digitFor
 displaying = tt
 
 abbrev simmerpath-parse-duration-gives : List ℕ → ℕ → Type 0
@@ -93,7 +95,7 @@ abbrev simmerpath-display-duration-gives : ℕ → ℕ → List ℕ → ℕ → 
 simmerpath-display-duration-gives secs nanos out v =
     Answers simmerpath-display-duration.ps simmerpath-display-duration.r simmerpath-display-duration-reads.Post (Given secs nanos out) (λ κs. v)
 
-simmerpath-display-duration-at : (secs nanos : ℕ) (out : List ℕ) → simmerpath-display-duration-gives secs nanos out (displayingCode (displayingOf (length out) (durationOf secs nanos)))
+simmerpath-display-duration-at : (secs nanos : ℕ) (out : List ℕ) → simmerpath-display-duration-gives secs nanos out (writtenCode (displayingOf (length out) (durationOf secs nanos)))
 simmerpath-display-duration-at secs nanos out κs a x e p h = cc (p .0, h .0, h .1, h .2)
 
 pub duration-fits-just-its-length : simmerpath-display-duration-gives 2 0 (ascii "..") 2
@@ -112,7 +114,7 @@ abbrev simmerpath-display-duration-leaves-out : ℕ → ℕ → List ℕ → Lis
 simmerpath-display-duration-leaves-out secs nanos out v =
     Leaves simmerpath-display-duration.ps simmerpath-display-duration.r simmerpath-display-duration-reads.Post (Given secs nanos out) (λ κs e. now (e .1 .1 .0)) v
 
-simmerpath-display-duration-left-out : (secs nanos : ℕ) (out : List ℕ) → simmerpath-display-duration-leaves-out secs nanos out (leftBy (displayingOf (length out) (durationOf secs nanos)) (textOf (durationOf secs nanos)) out)
+simmerpath-display-duration-left-out : (secs nanos : ℕ) (out : List ℕ) → simmerpath-display-duration-leaves-out secs nanos out (leftBy (displayingOf (length out) (durationOf secs nanos)) (durationText (durationOf secs nanos)) out)
 simmerpath-display-duration-left-out secs nanos out κs a x e p h = cc (p .1, h .0, h .1, h .2)
 
 pub seconds-are-displayed : simmerpath-display-duration-leaves-out 2 0 (ascii "....") (ascii "2s..")

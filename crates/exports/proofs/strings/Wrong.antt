@@ -9,7 +9,7 @@ use mathlib.Core.Path.{_≡_, refl, ap, _∙_}
 use lib.ListN.{length, replicate, length-replicate}
 use denote.Ref.{now}
 use Rattle.scan.specs.Ascii.{ascii}
-use Rattle.scan.specs.Byte.{isWithin, isHexDigit, digitOf, isDigitIn}
+use Rattle.scan.specs.Byte.{isWithin, isHexDigit, digitOf, isDigitIn, isQuote}
 use Rattle.proving.proofs.One.{Answers, Leaves}
 use Rattle.scan.specs.Text.{has}
 use Rattle.utf8.specs.Table.{fits, sizeIn, charLength}
@@ -18,14 +18,17 @@ use Rattle.utf8.specs.Text.{charsPast, sizeOf}
 use Rattle.utf8.specs.Answers.{textLimit, validityOf, admitted, characterAt}
 use Rattle.utf8.specs.laws.Ascii.{isAscii}
 use Rattle.utf8.proofs.Ascii.{ascii-text}
-use Rattle.string.specs.declared.escape.Escaping.the-variants.{Written}
-use Rattle.string.specs.Escape.{letterOf, orLetter, escapedCodes, escaped, escapingOf, leftBy}
+use Rattle.utf8.specs.declared.Writing.the-variants.{Written}
+use Rattle.utf8.specs.Writing.{leftBy}
+use Rattle.string.specs.Letters.{lookedUp, letterValue, letterAmong, letterOf}
+use Rattle.string.specs.Escape.{escapedCodes, escaped, escapingOf}
 use Rattle.string.proofs.escape.Given.{escaping-given}
-use Rattle.string.specs.Tile.{letterValue, numeralFrom, isAllowed, numbered, escapeOf, beginsEscape, tileOf}
+use Rattle.string.specs.Tile.{amountFrom, isAllowed, numbered, escapeOf, beginsEscape, tileOf}
 use Rattle.string.specs.Tiles.{tilesPast, hasBad, pieceBytes, bytesOf}
-use Rattle.string.specs.Literal.{isQuote, isEnclosed, hasNewline, hasEscape, unquoted, extentOf, unquotingOf, textBy}
+use Rattle.string.specs.Literal.{isEnclosed, hasNewline, hasEscape, unquoted, extentOf, unquotingOf, textBy}
 use Rattle.exports.specs.Packed.{packedAs}
-use Rattle.exports.specs.String.{escapeCode, readingOf, innerFrom, unquoteCode}
+use Rattle.exports.specs.Written.{writtenCode}
+use Rattle.exports.specs.String.{readingOf, innerFrom, unquoteCode}
 use Rattle.exports.proofs.strings.simmerpath_escape_string.Kinds as simmerpath-escape-string
 use Rattle.exports.proofs.strings.simmerpath_escape_string.Reads as simmerpath-escape-string-reads
 use Rattle.exports.proofs.strings.simmerpath_unquote_string.Kinds as simmerpath-unquote-string
@@ -33,18 +36,18 @@ use Rattle.exports.proofs.strings.simmerpath_unquote_string.Reads as si
 
 -- what computes at a text, and at a literal
 escaping : Unit {0}
-unfolding escapingOf admitted validityOf charsPast sizeOf charLength sizeIn fits codeOf isWithin letterOf orLetter encoded
+unfolding escapingOf admitted validityOf charsPast sizeOf charLength sizeIn fits codeOf isWithin letterOf letterAmong letterValue lookedUp encoded
 escaping = tt
 
 unquoting : Unit {0}
-unfolding readingOf unquotingOf extentOf admitted validityOf charsPast sizeOf charLength sizeIn fits codeOf isWithin isHexDigit digitOf isScalar encoded sixBits characterAt letterValue isDigitIn numeralFrom isAllowed numbered escapeOf beginsEscape tileOf tilesPast hasBad pieceBytes bytesOf isQuote isEnclosed has hasNewline hasEscape
+unfolding readingOf unquotingOf extentOf admitted validityOf charsPast sizeOf charLength sizeIn fits codeOf isWithin isHexDigit digitOf isScalar encoded sixBits characterAt letterValue lookedUp isDigitIn amountFrom isAllowed numbered escapeOf beginsEscape tileOf tilesPast hasBad pieceBytes bytesOf isQuote isEnclosed has hasNewline hasEscape
 unquoting = tt
 
 abbrev simmerpath-escape-string-gives : List ℕ → ℕ → ℕ → Type 0
 simmerpath-escape-string-gives xs room v =
     Answers simmerpath-escape-string.ps simmerpath-escape-string.r simmerpath-escape-string-reads.Post (λ κs a. (now (a .0) ≡ xs) × (length (now (a .1 .0)) ≡ room)) (λ κs. v)
 
-simmerpath-escape-string-at : (xs : List ℕ) (room : ℕ) → simmerpath-escape-string-gives xs room (escapeCode (escapingOf room xs))
+simmerpath-escape-string-at : (xs : List ℕ) (room : ℕ) → simmerpath-escape-string-gives xs room (writtenCode (escapingOf room xs))
 simmerpath-escape-string-at xs room κs a x e p h = cc (p .0, h .0, h .1)
 
 pub quote-is-escaped-to-two-bytes : simmerpath-escape-string-gives (ascii "\"") 2 2
@@ -60,7 +63,7 @@ abbrev quotes : ℕ → List ℕ
 quotes n = replicate n (code "\"")
 
 quotes-escaped : (n : ℕ) → (isAscii (quotes n) ≡ true) × (length (escapedCodes (quotes n)) ≡ n + n)
-unfolding letterOf orLetter
+unfolding letterOf letterAmong letterValue lookedUp
 quotes-escaped zero = (refl, refl)
 quotes-escaped (suc n) = let r = quotes-escaped n in (r .0, omega (arith, r .1))
 
@@ -73,7 +76,7 @@ quotes-written n h =
 -- 32,768 double quotes are escaped to 65,536 bytes, more than 16 bits tell
 pub length-of-seventeen-bits-is-told : simmerpath-escape-string-gives (quotes 0x8000) 0x10000 0x10000
 length-of-seventeen-bits-is-told κs a x e p h =
-    simmerpath-escape-string-at _ _ κs a x e p h ∙ ap escapeCode (quotes-written 0x8000 (omega arith))
+    simmerpath-escape-string-at _ _ κs a x e p h ∙ ap writtenCode (quotes-written 0x8000 (omega arith))
 
 abbrev simmerpath-escape-string-leaves-out : List ℕ → List ℕ → List ℕ → Type 0
 simmerpath-escape-string-leaves-out xs out v =

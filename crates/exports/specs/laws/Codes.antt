@@ -17,8 +17,6 @@ use Rattle.utf8.specs.declared.Writing.{Writing}
 use Rattle.utf8.specs.declared.Writing.the-variants as writing
 use Rattle.utf8.specs.Encode.{notScalar, encodingOf}
 use Rattle.token.specs.Display.{displayed}
-use Rattle.string.specs.declared.escape.Escaping.{Escaping}
-use Rattle.string.specs.declared.escape.Escaping.the-variants as escaping
 use Rattle.string.specs.Escape.{escapingOf}
 use Rattle.string.specs.declared.Unquoting.{Unquoting}
 use Rattle.string.specs.declared.Unquoting.the-variants as unquoting
@@ -31,17 +29,15 @@ use Rattle.duration.specs.declared.span.Duration.{Duration}
 use Rattle.duration.specs.declared.Timing.{Timing}
 use Rattle.duration.specs.declared.Timing.the-variants as timing
 use Rattle.duration.specs.Duration.{timingOf}
-use Rattle.duration.specs.declared.display.Displaying.{Displaying}
-use Rattle.duration.specs.declared.display.Displaying.the-variants as displaying
 use Rattle.duration.specs.Display.{displayingOf}
 use Rattle.lex.specs.declared.Lexing.{Lexing}
 use Rattle.lex.specs.declared.Lexing.the-variants as lexing
 use Rattle.lex.specs.Lex.{lexed}
 use Rattle.exports.specs.Packed.{refusedFrom, packedOf, Packable}
 use Rattle.exports.specs.Utf8.{validateCode, charAtCode}
-use Rattle.exports.specs.String.{escapeCode, innerFrom, unquoteCode}
+use Rattle.exports.specs.String.{innerFrom, unquoteCode}
 use Rattle.exports.specs.Number.{parseCode}
-use Rattle.exports.specs.Duration.{durationCode, displayingCode}
+use Rattle.exports.specs.Duration.{durationCode}
 use Rattle.exports.specs.Lexer.{lexerCode}
 use Rattle.exports.specs.Written.{writtenCode}
 
@@ -101,16 +97,17 @@ TokenDisplayTold = (room k : ℕ) → let d = displayed room k in looksRefused (
 abbrev pub TokenDisplayKept : Type 0
 TokenDisplayKept = Packable noRoom
 
--- of `simmerpath_escape_string`
-abbrev pub isNotEscaped : Escaping → Bool
-isNotEscaped (escaping.Written n) = false
-isNotEscaped (escaping.Refused r) = true
+-- of a text that is written
+abbrev pub isNotWritten : Writing → Bool
+isNotWritten (writing.Written n) = false
+isNotWritten (writing.Refused r) = true
 
+-- of `simmerpath_escape_string`
 abbrev pub EscapeTold : Type 0
-EscapeTold = (room : ℕ) (xs : List ℕ) → let e = escapingOf room xs in looksRefused (escapeCode e) ≡ isNotEscaped e
+EscapeTold = (room : ℕ) (xs : List ℕ) → let e = escapingOf room xs in looksRefused (writtenCode e) ≡ isNotWritten e
 
 abbrev pub EscapeKept : Type 0
-EscapeKept = (room : ℕ) (xs : List ℕ) (r : Refusal) → escapingOf room xs ≡ escaping.Refused r → Packable r
+EscapeKept = (room : ℕ) (xs : List ℕ) (r : Refusal) → escapingOf room xs ≡ writing.Refused r → Packable r
 
 -- of `simmerpath_unquote_string`, where a caller takes another answer for a text in the literal itself from bit 32 on
 abbrev pub isInner : Unquoting → Bool
@@ -151,17 +148,13 @@ abbrev pub DurationKept : Type 0
 DurationKept = (xs : List ℕ) (r : Refusal) → timingOf xs ≡ timing.Refused r → Packable r
 
 -- of `simmerpath_display_duration`, told in a buffer of less than 2^63 bytes
-abbrev pub isNotDisplayed : Displaying → Bool
-isNotDisplayed (displaying.Written n) = false
-isNotDisplayed (displaying.Refused r) = true
-
 abbrev pub DurationDisplayTold : Type 0
 DurationDisplayTold =
     (room : ℕ) (d : Duration) → room < refusedFrom →
-    let e = displayingOf room d in looksRefused (displayingCode e) ≡ isNotDisplayed e
+    let e = displayingOf room d in looksRefused (writtenCode e) ≡ isNotWritten e
 
 abbrev pub DurationDisplayKept : Type 0
-DurationDisplayKept = (room : ℕ) (d : Duration) (r : Refusal) → displayingOf room d ≡ displaying.Refused r → Packable r
+DurationDisplayKept = (room : ℕ) (d : Duration) (r : Refusal) → displayingOf room d ≡ writing.Refused r → Packable r
 
 -- of `simmerpath_lexer`
 abbrev pub isNotLexed : Lexing → Bool

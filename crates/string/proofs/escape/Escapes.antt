@@ -5,21 +5,22 @@ use native.Mathlib.Nat.{zero-add}
 use native.Mathlib.Numerals.{add-one}
 use native.Mathlib.Omega.{arith}
 use native.Mathlib.Decide.{decLt}
-use mathlib.Core.Bool.{Bool, true, false, cond}
+use mathlib.Core.Bool.{Bool, true, _&&_}
 use mathlib.Core.List.{List, [], _∷_, _++_, append-assoc, append-nil}
+use mathlib.Core.Option.{Option, none, some, Option·getD}
 use mathlib.Core.Path.{_≡_, refl, sym, ap, _∙_}
-use lib.Dec.{eqb, leb}
+use lib.Dec.{ltb}
 use lib.ListN.{length, getD, drop}
 use lib.Seq.{take-length, drop-cons, sets, sets-eq}
-use borrow.Author.Tests.{eq-eqb, ne-eqb, le-leb, lt-leb, lt-ltb}
-use Rattle.scan.specs.Byte.{peekAt, backslash}
-use Rattle.proving.proofs.Choice.{either, told}
+use borrow.Author.Tests.{ne-eqb, le-leb, lt-leb, lt-ltb}
+use Rattle.scan.specs.Ascii.{ascii}
+use Rattle.scan.specs.Byte.{peekAt, backslash, doubleQuote}
+use Rattle.proving.proofs.Choice.{either, and-left, and-right}
 use Rattle.utf8.specs.Table.{charLength}
 use Rattle.utf8.specs.Code.{codeOf, encoded}
 use Rattle.utf8.specs.Text.{WellFormed}
 use Rattle.utf8.specs.declared.CharNumber.{CharNumber}
 use Rattle.utf8.specs.declared.Refusal.{Refusal}
-use Rattle.utf8.specs.declared.Admission.{Admission}
 use Rattle.utf8.specs.declared.Admission.the-variants as admission
 use Rattle.utf8.specs.Answers.{textLimit, noRoom, admitted}
 use Rattle.utf8.specs.laws.Characters.{One}
@@ -28,43 +29,64 @@ use Rattle.utf8.proofs.Laws.{steps, none-empty, rest-well, none-ascii, ascii-co
 use Rattle.utf8.proofs.Ascii.{ascii-text, one-ascii}
 use Rattle.utf8.proofs.Given.{admitted-text}
 use Rattle.utf8.proofs.Inverse.{decode-encode, long-code}
-use Rattle.string.specs.declared.escape.Escaping.{Escaping}
-use Rattle.string.specs.declared.escape.Escaping.the-variants.{Written, Refused}
-use Rattle.string.specs.Escape.{noLetter, letterOf, orLetter, escaped, escapingAs, escapingOf, leftBy}
+use Rattle.utf8.specs.declared.Writing.the-variants.{Written, Refused}
+use Rattle.utf8.specs.Writing.{leftBy}
+use Rattle.string.specs.Letters.{lookedUp, letterValue, isFor, letterAmong, letterOf}
+use Rattle.string.specs.Escape.{orLetter, escaped, escapingOf}
 use Rattle.string.specs.laws.Escape.{EscapeJoin, EscapedText}
 use Rattle.string.specs.steps.Bytes.{escapedByte, escapedBytes}
+use Rattle.string.proofs.tile.Letters.{passes, every, none-is}
 
 module _ (b : ℕ) where
-  pub copied : letterOf b ≡ noLetter → escapedByte b ≡ b ∷ []
-  unfolding orLetter
-  copied e = rw (eq-eqb (letterOf b) noLetter e)
+  pub copied : letterOf b ≡ none → escapedByte b ≡ b ∷ []
+  copied e = rw e
 
-  pub lettered : (letterOf b ≡ noLetter → ⊥) → escapedByte b ≡ backslash ∷ letterOf b ∷ []
-  unfolding orLetter
-  lettered n = rw (ne-eqb (letterOf b) noLetter n)
+  pub lettered : (l : ℕ) → letterOf b ≡ some l → escapedByte b ≡ backslash ∷ l ∷ []
+  lettered l e = rw e
 
   pub byte-few : length (escapedByte b) ≤ 2
-  unfolding orLetter
-  byte-few = go (eqb (letterOf b) noLetter)
+  byte-few = go (letterOf b)
     where
-      go : (t : Bool) → length (cond t (b ∷ []) (backslash ∷ letterOf b ∷ [])) ≤ 2
-      go true = omega arith
-      go false = omega arith
+      go : (o : Option ℕ) → length (orLetter (b ∷ []) o) ≤ 2
+      go (some l) = omega arith
+      go none = omega arith
+
+-- the letters that are written are ASCII, and no NUL
+abbrev isLetter : ℕ → Bool
+isLetter l = ltb 0 l && ltb l 0x80
+
+letter-among : (ls : List ℕ) (c : ℕ) → every isLetter ls ≡ true → passes isLetter (letterAmong ls c) ≡ true
+unfolding letterAmong
+letter-among [] c a = refl
+letter-among (l ∷ ls) c a =
+    either (λ (o : Option ℕ). passes isLetter o ≡ true) (isFor c (letterValue doubleQuote l)) (λ e. and-left (isLetter l) (every isLetter ls) a)
+    (λ e. letter-among ls c (and-right (isLetter l) (every isLetter ls) a))
+
+letter-is : (c : ℕ) → passes isLetter (letterOf c) ≡ true
+unfolding letterOf
+letter-is c = letter-among (ascii "\\\"nrt") c refl
+
+pub uncopied : (c : ℕ) → Option·getD (letterOf c) 0 ≡ 0 → letterOf c ≡ none
+uncopied c = none-is (letterOf c) (go (letterOf c) (letter-is c))
+  where
+    go : (o : Option ℕ) → passes isLetter o ≡ true → passes (ltb 0) o ≡ true
+    go (some l) e = and-left (ltb 0 l) (ltb l 0x80) e
+    go none e = refl
 
 -- from i on: the byte there, and what follows it
 pub next : (xs : List ℕ) (i : ℕ) → i < length xs → escapedBytes (drop i xs) ≡ escapedByte (getD xs i 0) ++ escapedBytes (drop (i + 1) xs)
 unfolding escapedBytes
 next xs i h = rw (drop-cons xs i 0 h, add-one)
 
-pub none : escapedBytes [] ≡ []
+pub empty-escaped : escapedBytes [] ≡ []
 unfolding escapedBytes
-none = refl
+empty-escaped = refl
 
 -- what is not ASCII has no letter
-high : (c : ℕ) → 0x80 ≤ c → letterOf c ≡ noLetter
-unfolding letterOf
+high : (c : ℕ) → 0x80 ≤ c → letterOf c ≡ none
+unfolding letterOf letterAmong letterValue lookedUp
 high c h =
-    rw (ne-eqb c 92 (λ e. omega arith), ne-eqb c 34 (λ e. omega arith), ne-eqb c 10 (λ e. omega arith), ne-eqb c 13 (λ e. omega arith), ne-eqb c 9 (λ e. omega arith))
+    rw (ne-eqb 92 c (λ e. omega arith), ne-eqb 34 c (λ e. omega arith), ne-eqb 10 c (λ e. omega arith), ne-eqb 13 c (λ e. omega arith), ne-eqb 9 c (λ e. omega arith))
 
 pub high-copied : (xs : List ℕ) → ((i : ℕ) → i < length xs → 0x80 ≤ peekAt xs i) → escapedBytes xs ≡ xs
 unfolding escapedBytes
@@ -88,7 +110,6 @@ module _ (bs : List ℕ) (o : One bs) where
       rw (o .whole, take-length bs) at e
 
   long-one : 1 < length bs → orLetter (encoded its) (letterOf its) ≡ escapedBytes bs
-  unfolding orLetter
   long-one l =
       let w : 1 < charLength bs = omega (arith, o .whole) in
       let h : 0x80 ≤ its = rw (o .whole) at (long-code bs w) in
@@ -110,7 +131,7 @@ escaped-one bs o = go (decLt 1 (length bs))
 pub by-characters-escaped : (xs : List ℕ) → WellFormed xs → escaped xs ≡ escapedBytes xs
 by-characters-escaped =
     by-characters (λ xs. WellFormed xs → escaped xs ≡ escapedBytes xs)
-    (λ xs e w. rw (steps xs .1 e) (sym (ap escapedBytes (none-empty xs e w) ∙ none)))
+    (λ xs e w. rw (steps xs .1 e) (sym (ap escapedBytes (none-empty xs e w) ∙ empty-escaped)))
     (λ bs ys o ih w. rw (chars-one bs ys o, escaped-one bs o, ih (rest-well bs ys o w), bytes-join bs ys))
 
 pub escape-join : EscapeJoin
@@ -118,22 +139,12 @@ escape-join xs ys w v =
     rw (by-characters-escaped xs w, by-characters-escaped ys v) (by-characters-escaped (xs ++ ys) (text-join xs ys w v) ∙ bytes-join xs ys)
 
 -- an escape is text: of what is copied it is the character, and otherwise two ASCII bytes
-letter-ascii : (b : ℕ) → letterOf b < 0x80
-unfolding letterOf
-letter-ascii b =
-    let P : ℕ → Type 0 = λ l. l < 0x80 in
-    either P (eqb b 92) (λ e. omega arith)
-    (λ e. either P (eqb b 34) (λ e. omega arith)
-    (λ e. either P (eqb b 10) (λ e. omega arith)
-    (λ e. either P (eqb b 13) (λ e. omega arith)
-    (λ e. either P (eqb b 9) (λ e. omega arith) (λ e. omega arith)))))
-
 byte-text : (b : ℕ) → b < 0x80 → WellFormed (escapedByte b)
-unfolding orLetter
-byte-text b l =
-    either WellFormed (eqb (letterOf b) noLetter)
-    (λ e. ascii-text (b ∷ []) (rw (lt-ltb b 0x80 l)) .0)
-    (λ e. ascii-text (backslash ∷ letterOf b ∷ []) (rw (lt-ltb (letterOf b) 0x80 (letter-ascii b))) .0)
+byte-text b l = go (letterOf b) (letter-is b)
+  where
+    go : (o : Option ℕ) → passes isLetter o ≡ true → WellFormed (orLetter (b ∷ []) o)
+    go (some k) e = ascii-text (backslash ∷ k ∷ []) (rw (and-right (ltb 0 k) (ltb k 0x80) e)) .0
+    go none e = ascii-text (b ∷ []) (rw (lt-ltb b 0x80 l)) .0
 
 one-escaped : (bs : List ℕ) → One bs → WellFormed (escapedBytes bs)
 one-escaped bs o = go bs o (decLt 1 (length bs))
@@ -150,7 +161,7 @@ escaped-text xs w = rw (by-characters-escaped xs w) (go xs w)
     go : (xs : List ℕ) → WellFormed xs → WellFormed (escapedBytes xs)
     go =
         by-characters (λ xs. WellFormed xs → WellFormed (escapedBytes xs))
-        (λ xs e w. rw (none-empty xs e w, none) (ascii-text [] refl .0))
+        (λ xs e w. rw (none-empty xs e w, empty-escaped) (ascii-text [] refl .0))
         (λ bs ys o ih w. rw (bytes-join bs ys) (text-join (escapedBytes bs) (escapedBytes ys) (one-escaped bs o) (ih (rest-well bs ys o w))))
 
 -- the answers, by what is admitted and the room
@@ -173,24 +184,3 @@ module _ (xs d : List ℕ) where
 
     pub left : length (escapedBytes xs) ≤ length d → sets d 0 (escapedBytes xs) ≡ leftBy (Written (length (escapedBytes xs))) (escaped xs) d
     left h = rw by-bytes (sets-eq (escapedBytes xs) d 0 (omega arith) ∙ rw zero-add)
-
--- and what an accepted one says
-abbrev tag : Escaping → ℕ
-tag (Written n) = 0
-tag (Refused r) = 1
-
-abbrev sizeOf : Escaping → ℕ
-sizeOf (Written n) = n
-sizeOf (Refused r) = 0
-
-pub written-told : (room : ℕ) (xs : List ℕ) (n : ℕ) → escapingOf room xs ≡ Written n → WellFormed xs × (n ≡ length (escaped xs))
-unfolding escapingOf
-written-told room xs n = go (admitted textLimit xs) refl
-  where
-    fits : (t : Bool) → cond t (Written (length (escaped xs))) (Refused noRoom) ≡ Written n → n ≡ length (escaped xs)
-    fits true e = sym (ap sizeOf e)
-    fits false e = told tag e refl (λ z. omega arith)
-
-    go : (a : Admission) → admitted textLimit xs ≡ a → escapingAs room xs a ≡ Written n → WellFormed xs × (n ≡ length (escaped xs))
-    go (admission.Admitted m) a e = (admitted-text textLimit xs m a .1, fits (leb (length (escaped xs)) room) e)
-    go (admission.Refused r) a e = told tag e refl (λ z. omega arith)

@@ -12,12 +12,12 @@ use borrow.Author.Tests.{le-leb, lt-leb}
 use Rattle.proving.proofs.Choice.{exactly}
 use Rattle.utf8.specs.Text.{prefixEnd, WellFormed}
 use Rattle.utf8.specs.Answers.{textLimit, placeAt, tooLong, notUtf8, noRoom}
-use Rattle.utf8.specs.laws.Refusals.{TooLong, NotUtf8, Taken}
+use Rattle.utf8.specs.laws.Refusals.{TooLong, NotUtf8, NoRoom, Taken}
 use Rattle.utf8.proofs.Given.{given-exactly}
-use Rattle.string.specs.declared.escape.Escaping.{Escaping}
-use Rattle.string.specs.declared.escape.Escaping.the-variants.{Written, Refused}
+use Rattle.utf8.specs.declared.Writing.{Writing}
+use Rattle.utf8.specs.declared.Writing.the-variants.{Written, Refused}
 use Rattle.string.specs.Escape.{escaped, escapingOf}
-use Rattle.string.specs.laws.Escape.{NoRoom, EscapingGiven}
+use Rattle.string.specs.laws.Escape.{EscapingGiven}
 
 data Row : Type 0 where
   long : Row
@@ -25,7 +25,7 @@ data Row : Type 0 where
   short : Row
   written : Row
 
-abbrev rowOf : Escaping → Row
+abbrev rowOf : Writing → Row
 rowOf (Written n) = written
 rowOf (Refused r) = cond (eqb (r .number) 1) long (cond (eqb (r .number) 2) broken short)
 
@@ -33,10 +33,10 @@ module _ (room : ℕ) (xs : List ℕ) where
   abbrev Holds : Row → Type 0
   Holds long = TooLong textLimit xs
   Holds broken = (TooLong textLimit xs → ⊥) × NotUtf8 xs
-  Holds short = Taken textLimit xs × NoRoom room xs
-  Holds written = Taken textLimit xs × (NoRoom room xs → ⊥)
+  Holds short = Taken textLimit xs × NoRoom room (escaped xs)
+  Holds written = Taken textLimit xs × (NoRoom room (escaped xs) → ⊥)
 
-  abbrev given : Row → Escaping
+  abbrev given : Row → Writing
   given long = Refused tooLong
   given broken = Refused (notUtf8 (placeAt xs (prefixEnd xs)))
   given short = Refused noRoom
@@ -55,7 +55,7 @@ module _ (room : ℕ) (xs : List ℕ) where
   gives short h = rw (given-exactly textLimit xs .2 .1 (h .0), lt-leb (length (escaped xs)) room (h .1))
   gives written h = rw (given-exactly textLimit xs .2 .1 (h .0), le-leb (length (escaped xs)) room (omega (arith, h .1)))
 
-  some : Dec (TooLong textLimit xs) → Dec (WellFormed xs) → Dec (NoRoom room xs) → (w : Row) × Holds w
+  some : Dec (TooLong textLimit xs) → Dec (WellFormed xs) → Dec (NoRoom room (escaped xs)) → (w : Row) × Holds w
   some (yes l) w d = (long, l)
   some (no l) (no w) d = (broken, (l, w))
   some (no l) (yes w) (yes h) = (short, ((l, w), h))

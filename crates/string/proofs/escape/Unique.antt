@@ -4,14 +4,9 @@ use denote.Ref.{now}
 use Rattle.proving.proofs.One.{OneAnswer, OneContent}
 use Rattle.string.proofs.escape.escape_string.Kinds as escape-string
 use Rattle.string.proofs.escape.escape_string.Reads as escape-string-reads
-use Rattle.string.proofs.escape.refused_by.Kinds as refused-by
-use Rattle.string.proofs.escape.refused_by.Reads as refused-by-reads
 
 pub same-escape-string : OneAnswer escape-string.ps escape-string.r escape-string-reads.Post
 same-escape-string κs a x y e f p q = p .0 ∙ sym (q .0)
 
 pub same-escape-string-out : OneContent escape-string.ps escape-string.r escape-string-reads.Post (λ κs e. now (e .1 .0))
 same-escape-string-out κs a x y e f p q = let s : x ≡ y = same-escape-string κs a x y e f p q in cc (p .1, q .1)
-
-pub same-refused-by : OneAnswer refused-by.ps refused-by.r refused-by-reads.Post
-same-refused-by κs a x y e f p q = p ∙ sym q

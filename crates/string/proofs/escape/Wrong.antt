@@ -4,7 +4,7 @@ use Prim.Native.Nat.{ℕ}
 use Prim.Native.Char.{code}
 use native.Mathlib.Omega.{arith}
 use mathlib.Core.List.{List, [], _∷_}
-use mathlib.Core.Path.{_≡_, ap₂, _∙_, ap}
+use mathlib.Core.Path.{_≡_, ap₂, _∙_}
 use lib.ListN.{length, replicate, length-replicate}
 use denote.Ref.{now}
 use Rattle.scan.specs.Ascii.{ascii}
@@ -14,23 +14,22 @@ use Rattle.utf8.specs.Table.{fits, sizeIn, charLength}
 use Rattle.utf8.specs.Code.{codeOf, sixBits, encoded}
 use Rattle.utf8.specs.Text.{charsPast, sizeOf, begunIn, charNumber}
 use Rattle.utf8.specs.Answers.{place, atStart, notUtf8, validityOf, admitted}
-use Rattle.string.specs.declared.escape.Escaping.{Escaping}
-use Rattle.string.specs.declared.escape.Escaping.the-variants.{Written, Refused}
-use Rattle.string.specs.Escape.{letterOf, orLetter, escaped, escapingOf, leftBy, refusedBy}
-use Rattle.utf8.specs.declared.Refusal.{Refusal}
+use Rattle.utf8.specs.declared.Writing.{Writing}
+use Rattle.utf8.specs.declared.Writing.the-variants.{Written, Refused}
+use Rattle.utf8.specs.Writing.{leftBy}
+use Rattle.string.specs.Letters.{lookedUp, letterValue, letterAmong, letterOf}
+use Rattle.string.specs.Escape.{escaped, escapingOf}
 use Rattle.string.proofs.escape.Given.{escaping-given}
 use Rattle.string.proofs.escape.escape_string.Kinds as escape-string
 use Rattle.string.proofs.escape.escape_string.Reads as escape-string-reads
-use Rattle.string.proofs.escape.refused_by.Kinds as refused-by
-use Rattle.string.proofs.escape.refused_by.Reads as refused-by-reads
 
 -- of a text, with a buffer of so many bytes
-abbrev escape-string-gives : List ℕ → ℕ → Escaping → Type 0
+abbrev escape-string-gives : List ℕ → ℕ → Writing → Type 0
 escape-string-gives xs room v =
     Answers escape-string.ps escape-string.r escape-string-reads.Post (λ κs a. (now (a .0) ≡ xs) × (length (now (a .1 .0)) ≡ room)) (λ κs. v)
 
 escape-string-at : (xs : List ℕ) (room : ℕ) → escape-string-gives xs room (escapingOf room xs)
-unfolding escapingOf letterOf orLetter encoded sixBits admitted validityOf charNumber begunIn charsPast sizeOf charLength sizeIn fits codeOf isWithin
+unfolding escapingOf letterOf letterAmong letterValue lookedUp encoded sixBits admitted validityOf charNumber begunIn charsPast sizeOf charLength sizeIn fits codeOf isWithin
 escape-string-at xs room κs a x e p h = p .0 ∙ ap₂ escapingOf (h .1) (h .0)
 
 pub text-that-has-room-is-written : escape-string-gives (ascii "a") 3 (Written 1)
@@ -83,15 +82,3 @@ newline-is-escaped-by-n = escape-string-left-out _ _
 pub buffer-without-room-stays : escape-string-leaves-out (ascii "a\n") (ascii "xy") (ascii "xy")
 unfolding escape-string-at
 buffer-without-room-stays = escape-string-left-out _ _
-
-abbrev refused-by-gives : Escaping → Refusal → Type 0
-refused-by-gives t v = Answers refused-by.ps refused-by.r refused-by-reads.Post (λ κs a. a .0 ≡ t) (λ κs. v)
-
-refused-by-at : (t : Escaping) → refused-by-gives t (refusedBy t)
-refused-by-at t κs a x e p h = p ∙ ap refusedBy h
-
-pub refusal-is-told-with-its-place : refused-by-gives (Refused (notUtf8 (place 3 2))) (notUtf8 (place 3 2))
-refusal-is-told-with-its-place = refused-by-at _
-
-pub escaped-text-has-no-refusal : refused-by-gives (Written 1) (atStart 0)
-escaped-text-has-no-refusal = refused-by-at _

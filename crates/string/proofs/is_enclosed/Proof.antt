@@ -24,6 +24,9 @@ sub-if2 c = search needs
 shared-slice-read-if2 : tie.Need-shared-slice-read-if2
 shared-slice-read-if2 c = search needs
 
+cast-is-quote : tie.Need-cast-is-quote
+cast-is-quote c = omega (arith, c .before .before .shared-slice-known2 .given 0)
+
 is-quote-requires : tie.Need-is-quote-requires
 is-quote-requires c κs = search needs
 
@@ -47,6 +50,7 @@ is-enclosed-spec =
     shared-slice-read-sign
     sub-if2
     shared-slice-read-if2
+    cast-is-quote
     is-quote-requires
     returns-2
     returns-3)

@@ -3,13 +3,14 @@
 use Prim.Native.Nat.{ℕ, _+_, _<_, _≤_}
 use native.Mathlib.Omega.{arith}
 use native.Mathlib.Decide.{ℕ-discrete}
-use mathlib.Core.Bool.{Bool, true, false, not, true≢false}
+use mathlib.Core.Bool.{Bool, true, false, true≢false}
 use mathlib.Core.List.{List}
 use mathlib.Core.Logic.{_⊎_, inl, inr}
+use mathlib.Core.Option.{Option, none, some}
 use mathlib.Core.Path.{_≡_, refl, sym, ap, subst, _∙_}
 use lib.Dec.{eqb}
-use borrow.Author.Tests.{le-leb, eq-eqb, ne-eqb, eqb-true, eqb-false, leb-true, not-true}
-use Rattle.scan.specs.Byte.{peekAt, backslash, isWithin, isHexDigit, digitOf, isDigitIn}
+use borrow.Author.Tests.{le-leb, eq-eqb, ne-eqb, eqb-true, leb-true}
+use Rattle.scan.specs.Byte.{peekAt, backslash, isWithin, isHexDigit, digitOf, isDigitIn, backquote}
 use Rattle.proving.proofs.Choice.{either, told}
 use Rattle.proving.proofs.Tests.{Tests, denied, tests-and, tests-not, tests-eq}
 use Rattle.utf8.specs.Table.{charLength}
@@ -19,14 +20,15 @@ use Rattle.utf8.specs.Answers.{characterAt}
 use Rattle.utf8.proofs.Bounds.{first-character}
 use Rattle.string.specs.declared.tile.Form.{Form}
 use Rattle.string.specs.declared.tile.Form.the-variants.{Letter, Hex, Octal, Point}
-use Rattle.string.specs.declared.tile.Numeral.{Numeral}
-use Rattle.string.specs.declared.tile.Numeral.the-variants.{Value, NotDigits}
+use Rattle.string.specs.declared.tile.Amount.{Amount}
+use Rattle.string.specs.declared.tile.Amount.the-variants.{Value, NotDigits}
 use Rattle.string.specs.declared.tile.Tile.{Tile}
 use Rattle.string.specs.declared.tile.Tile.the-variants.{Piece, Bad}
-use Rattle.string.specs.Tile.{backquote, noValue, letterValue, numeralFrom, isAllowed, numberedAs, numbered, escapeOf, beginsEscape, plainOf, tileOf}
-use Rattle.string.specs.laws.Tile.{Digits, IsEscape, Begun, BadWhen}
+use Rattle.string.specs.Letters.{letterValue}
+use Rattle.string.specs.Tile.{amountFrom, isAllowed, numberedAs, numbered, escapeOf, beginsEscape, plainOf, tileOf}
+use Rattle.string.specs.laws.Tile.{AmountTo, IsEscape, EscapeBegun, BadWhen}
 use Rattle.string.proofs.tile.Digits.{here, digits-small}
-use Rattle.string.proofs.tile.Letters.{letter-some, letter-told}
+use Rattle.string.proofs.tile.Letters.{isSome, letter-some, letter-told}
 use Rattle.string.proofs.tile.Forms as forms
 
 abbrev tag : Tile → ℕ
@@ -41,15 +43,15 @@ piece-good f v n e b = told tag (sym e) b (λ z. omega arith)
 
 -- an escape by digits is bad exactly where there are none, or none that it may have
 module _ (f : Form) (radix at n : ℕ) (xs : List ℕ) where
-  numbered-good : (v : ℕ) → Digits radix at n xs v → isAllowed f v ≡ true → Good (numbered f radix at n xs)
+  numbered-good : (v : ℕ) → AmountTo radix at n xs v → isAllowed f v ≡ true → Good (numbered f radix at n xs)
   numbered-good v d a = piece-good f v (at + n) (unfold numbered in rw (d, a))
 
-  numbered-bad : ((v : ℕ) → Digits radix at n xs v → isAllowed f v ≡ true → ⊥) → numbered f radix at n xs ≡ Bad
+  numbered-bad : ((v : ℕ) → AmountTo radix at n xs v → isAllowed f v ≡ true → ⊥) → numbered f radix at n xs ≡ Bad
   unfolding numbered
-  numbered-bad none = go (numeralFrom radix 0 n at xs) refl
+  numbered-bad never = go (amountFrom radix 0 n at xs) refl
     where
-      go : (m : Numeral) → numeralFrom radix 0 n at xs ≡ m → numberedAs f (at + n) m ≡ Bad
-      go (Value v) e = either (λ (t : Tile). t ≡ Bad) (isAllowed f v) (λ a. absurd (none v e a)) (λ a. refl)
+      go : (m : Amount) → amountFrom radix 0 n at xs ≡ m → numberedAs f (at + n) m ≡ Bad
+      go (Value v) e = either (λ (t : Tile). t ≡ Bad) (isAllowed f v) (λ a. absurd (never v e a)) (λ a. refl)
       go NotDigits e = refl
 
 byte-allowed : (v : ℕ) → v ≤ 0xff → (isAllowed Hex v ≡ true) × (isAllowed Octal v ≡ true)
@@ -75,24 +77,24 @@ module _ (q : ℕ) (h : 0 < q) (xs : List ℕ) where
 
   -- every escape is read
   read : IsEscape q xs → Good (escapeOf q xs)
-  read i = go (ℕ-discrete (letterValue q c) noValue) i
+  read i = go (letterValue q c) refl i
     where
-      go : Dec (letterValue q c ≡ noValue) → IsEscape q xs → Good (escapeOf q xs)
-      go (no n) i = piece-good Letter (letterValue q c) 2 (forms.letter q xs n)
-      go (yes v) (inl n) = absurd (letter-some q h c n v)
-      go (yes v) (inr (inl (e, (w, d)))) = subst Good (forms.hex q xs v e) (numbered-good Hex 16 2 2 xs w d (byte-allowed w (omega (arith, digits-small 16 xs (omega arith) 2 0 0 2 w (omega arith) d)) .0))
-      go (yes v) (inr (inr (inl (w, d, h)))) =
+      go : (o : Option ℕ) → letterValue q c ≡ o → IsEscape q xs → Good (escapeOf q xs)
+      go (some w) v i = piece-good Letter w 2 (forms.letter q xs w v)
+      go none v (inl n) = absurd (true≢false (sym (letter-some q c h n) ∙ ap isSome v))
+      go none v (inr (inl (e, (w, d)))) = subst Good (forms.hex q xs v e) (numbered-good Hex 16 2 2 xs w d (byte-allowed w (omega (arith, digits-small 16 xs (omega arith) 2 0 0 2 w (omega arith) d)) .0))
+      go none v (inr (inr (inl (w, d, h)))) =
           let o = no-octal c (here 8 xs 2 0 1 w d) in
           subst Good (forms.octal q xs v (o .0) (o .1) (o .2)) (numbered-good Octal 8 1 3 xs w d (byte-allowed w h .1))
-      go (yes v) (inr (inr (inr (inl (e, (w, d, s)))))) = subst Good (forms.short q xs v e) (numbered-good Point 16 2 4 xs w d (point-allowed w ∙ s))
-      go (yes v) (inr (inr (inr (inr (e, (w, d, s)))))) = subst Good (forms.long q xs v e) (numbered-good Point 16 2 8 xs w d (point-allowed w ∙ s))
+      go none v (inr (inr (inr (inl (e, (w, d, s)))))) = subst Good (forms.short q xs v e) (numbered-good Point 16 2 4 xs w d (point-allowed w ∙ s))
+      go none v (inr (inr (inr (inr (e, (w, d, s)))))) = subst Good (forms.long q xs v e) (numbered-good Point 16 2 8 xs w d (point-allowed w ∙ s))
 
   -- and nothing else is
   unread : (IsEscape q xs → ⊥) → escapeOf q xs ≡ Bad
   unfolding escapeOf
   unread n =
       let P : Tile → Type 0 = λ t. t ≡ Bad in
-      either P (not (eqb (letterValue q c) noValue)) (λ e. absurd (n (inl (letter-told q h c (eqb-false (letterValue q c) noValue (not-true (eqb (letterValue q c) noValue) e))))))
+      forms.by-letter P (letterValue q c) (λ v e. absurd (n (inl (letter-told q c v e))))
       (λ e. either P (eqb c 120) (λ e. numbered-bad Hex 16 2 2 xs (λ v d a. n (inr (inl (eqb-true c 120 e, (v, d))))))
       (λ e. either P (eqb c 117) (λ e. numbered-bad Point 16 2 4 xs (λ v d a. n (inr (inr (inr (inl (eqb-true c 117 e, (v, d, sym (point-allowed v) ∙ a))))))))
       (λ e. either P (eqb c 85) (λ e. numbered-bad Point 16 2 8 xs (λ v d a. n (inr (inr (inr (inr (eqb-true c 85 e, (v, d, sym (point-allowed v) ∙ a))))))))
@@ -120,9 +122,9 @@ module _ (q : ℕ) (xs : List ℕ) where
   first = peekAt xs 0
 
   abbrev Why : Type 0
-  Why = (first ≡ q) ⊎ ((Begun q xs × (IsEscape q xs → ⊥)) ⊎ ((Begun q xs → ⊥) × (charLength xs ≡ 0)))
+  Why = (first ≡ q) ⊎ ((EscapeBegun q xs × (IsEscape q xs → ⊥)) ⊎ ((EscapeBegun q xs → ⊥) × (charLength xs ≡ 0)))
 
-  tests-begun : Tests (beginsEscape q first) (Begun q xs)
+  tests-begun : Tests (beginsEscape q first) (EscapeBegun q xs)
   unfolding beginsEscape
   tests-begun = tests-and (tests-eq first backslash) (tests-not (tests-eq q backquote))
 

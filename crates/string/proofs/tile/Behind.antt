@@ -5,12 +5,13 @@ use native.Mathlib.Decide.{decLt, ℕ-discrete}
 use mathlib.Core.Bool.{true, not}
 use mathlib.Core.List.{List, [], _∷_}
 use mathlib.Core.Logic.{_⊎_, inl, inr}
+use mathlib.Core.Option.{some}
 use mathlib.Core.Path.{_≡_, refl, sym, _∙_}
 use lib.Dec.{eqb, ltb}
 use lib.ListN.{drop}
-use borrow.Author.Tests.{eqb-true, eqb-false, ltb-true, not-true}
+use borrow.Author.Tests.{eqb-true, ltb-true}
 use Rattle.scan.specs.Ascii.{ascii}
-use Rattle.scan.specs.Byte.{peekAt, backslash, digitOf, isDigitIn}
+use Rattle.scan.specs.Byte.{peekAt, backslash, digitOf, isDigitIn, backquote}
 use Rattle.scan.specs.Text.{Stands}
 use Rattle.proving.proofs.Choice.{either, and-left, and-right}
 use Rattle.scan.proofs.byte.Classes.{digit-bounds}
@@ -23,13 +24,19 @@ use Rattle.utf8.proofs.Bounds.{first-character}
 use Rattle.utf8.proofs.Laws.{ascii-head, rest-text}
 use Rattle.string.specs.declared.tile.Form.{Form}
 use Rattle.string.specs.declared.tile.Form.the-variants.{Hex, Octal, Point}
-use Rattle.string.specs.declared.tile.Numeral.{Numeral}
-use Rattle.string.specs.declared.tile.Numeral.the-variants.{Value, NotDigits}
+use Rattle.string.specs.declared.tile.Amount.{Amount}
+use Rattle.string.specs.declared.tile.Amount.the-variants.{Value, NotDigits}
 use Rattle.string.specs.declared.tile.Tile.{Tile}
-use Rattle.string.specs.Tile.{backquote, noValue, letterValue, numeralFrom, isAllowed, numberedAs, numbered, escapeOf, beginsEscape, plainOf, tileOf}
-use Rattle.string.specs.laws.Tile.{TextAfter, TextBehind}
+use Rattle.string.specs.declared.tile.Tile.the-variants.{Piece, Bad}
+use Rattle.string.specs.Letters.{letterValue}
+use Rattle.string.specs.Tile.{amountFrom, isAllowed, numberedAs, numbered, escapeOf, beginsEscape, plainOf, tileOf}
 use Rattle.string.proofs.tile.Digits.{here, turn}
 use Rattle.string.proofs.tile.Letters.{letter-told}
+use Rattle.string.proofs.tile.Forms.{by-letter}
+
+abbrev pub TextAfter : List ℕ → Tile → Type 0
+TextAfter xs (Piece f v n) = WellFormed (drop n xs)
+TextAfter xs Bad = Unit {0}
 
 -- ASCII bytes are passed one by one
 ascii-drop : (n : ℕ) (xs : List ℕ) → ((i : ℕ) → i < n → peekAt xs i < 0x80) → WellFormed xs → WellFormed (drop n xs)
@@ -39,7 +46,7 @@ ascii-drop (suc n) (x ∷ xs) a w =
     ascii-drop n xs (λ i l. a (suc i) (omega arith)) (omega (arith, ascii-head x xs (a 0 (omega arith)) .0, w))
 
 -- each place of digits
-places : (radix : ℕ) (xs : List ℕ) (n v at w : ℕ) → numeralFrom radix v n at xs ≡ Value w → (i : ℕ) → at ≤ i → i < at + n → peekAt xs i < 0x80
+places : (radix : ℕ) (xs : List ℕ) (n v at w : ℕ) → amountFrom radix v n at xs ≡ Value w → (i : ℕ) → at ≤ i → i < at + n → peekAt xs i < 0x80
 places radix xs zero v at w e i l m = let f : ⊥ = omega arith in absurd f
 places radix xs (suc n) v at w e i l m =
     let d = here radix xs n v at w e in
@@ -58,16 +65,16 @@ stands-ascii c (y ∷ ys) a (inr s) = stands-ascii c ys (and-right (ltb y 0x80) 
 module _ (xs : List ℕ) (w : WellFormed xs) (b : peekAt xs 0 ≡ backslash) where
   numbered-text : (f : Form) (radix at n : ℕ) → ((i : ℕ) → i < at → peekAt xs i < 0x80) → TextAfter xs (numbered f radix at n xs)
   unfolding numbered
-  numbered-text f radix at n a = go (numeralFrom radix 0 n at xs) refl
+  numbered-text f radix at n a = go (amountFrom radix 0 n at xs) refl
     where
-      all : (v : ℕ) → numeralFrom radix 0 n at xs ≡ Value v → (i : ℕ) → i < at + n → peekAt xs i < 0x80
+      all : (v : ℕ) → amountFrom radix 0 n at xs ≡ Value v → (i : ℕ) → i < at + n → peekAt xs i < 0x80
       all v e i l = by (decLt i at)
         where
           by : Dec (i < at) → peekAt xs i < 0x80
           by (yes m) = a i m
           by (no m) = places radix xs n 0 at v e i (omega arith) l
 
-      go : (m : Numeral) → numeralFrom radix 0 n at xs ≡ m → TextAfter xs (numberedAs f (at + n) m)
+      go : (m : Amount) → amountFrom radix 0 n at xs ≡ m → TextAfter xs (numberedAs f (at + n) m)
       go (Value v) e = either (TextAfter xs) (isAllowed f v) (λ t. ascii-drop (at + n) xs (all v e) w) (λ t. tt)
       go NotDigits e = tt
 
@@ -80,21 +87,19 @@ module _ (xs : List ℕ) (w : WellFormed xs) (b : peekAt xs 0 ≡ backslash) whe
   one zero m = rw b (omega arith)
   one (suc i) m = let f : ⊥ = omega arith in absurd f
 
-  letter-ascii : (q : ℕ) → q < 0x80 → 0 < q → (letterValue q (peekAt xs 1) ≡ noValue → ⊥) → peekAt xs 1 < 0x80
-  letter-ascii q l h n = go (letter-told q h (peekAt xs 1) n)
+  letter-ascii : (q v : ℕ) → q < 0x80 → letterValue q (peekAt xs 1) ≡ some v → peekAt xs 1 < 0x80
+  letter-ascii q v l e = go (letter-told q (peekAt xs 1) v e)
     where
       go : (peekAt xs 1 ≡ q) ⊎ Stands (peekAt xs 1) (ascii "abfnrtv\\") → peekAt xs 1 < 0x80
       go (inl e) = rw e l
       go (inr s) = stands-ascii (peekAt xs 1) (ascii "abfnrtv\\") refl s
 
-  escape-text : (q : ℕ) → q < 0x80 → 0 < q → TextAfter xs (escapeOf q xs)
+  escape-text : (q : ℕ) → q < 0x80 → TextAfter xs (escapeOf q xs)
   unfolding escapeOf
-  escape-text q l h =
+  escape-text q l =
       let P : Tile → Type 0 = TextAfter xs in
       let c = peekAt xs 1 in
-      let v = letterValue q c in
-      either P (not (eqb v noValue))
-      (λ e. ascii-drop 2 xs (two (letter-ascii q l h (eqb-false v noValue (not-true (eqb v noValue) e)))) w)
+      by-letter P (letterValue q c) (λ v e. ascii-drop 2 xs (two (letter-ascii q v l e)) w)
       (λ e. either P (eqb c 120) (λ e. numbered-text Hex 16 2 2 (two (omega (arith, eqb-true c 120 e))))
       (λ e. either P (eqb c 117) (λ e. numbered-text Point 16 2 4 (two (omega (arith, eqb-true c 117 e))))
       (λ e. either P (eqb c 85) (λ e. numbered-text Point 16 2 8 (two (omega (arith, eqb-true c 85 e))))
@@ -115,9 +120,9 @@ begins : (q c : ℕ) → beginsEscape q c ≡ true → c ≡ backslash
 unfolding beginsEscape
 begins q c e = eqb-true c backslash (and-left (eqb c backslash) (not (eqb q backquote)) e)
 
-pub text-behind : TextBehind
+pub text-behind : (q : ℕ) (xs : List ℕ) → q < 0x80 → WellFormed xs → TextAfter xs (tileOf q xs)
 unfolding tileOf
-text-behind q xs l h w =
+text-behind q xs l w =
     let P : Tile → Type 0 = TextAfter xs in
     either P (eqb (peekAt xs 0) q) (λ e. tt)
-    (λ e. either P (beginsEscape q (peekAt xs 0)) (λ e. escape-text xs w (begins q (peekAt xs 0) e) q l h) (λ e. plain-text xs w))
+    (λ e. either P (beginsEscape q (peekAt xs 0)) (λ e. escape-text xs w (begins q (peekAt xs 0) e) q l) (λ e. plain-text xs w))

@@ -15,9 +15,9 @@ use Rattle.scan.specs.Byte.{end, peekAt, isWithin, isHexDigit, digitOf, isDigit
 use Rattle.proving.proofs.Below.{below}
 use Rattle.proving.proofs.Choice.{told}
 use Rattle.scan.proofs.byte.Classes.{digit-bound}
-use Rattle.string.specs.declared.tile.Numeral.{Numeral}
-use Rattle.string.specs.declared.tile.Numeral.the-variants.{Value, NotDigits}
-use Rattle.string.specs.Tile.{numeralFrom}
+use Rattle.string.specs.declared.tile.Amount.{Amount}
+use Rattle.string.specs.declared.tile.Amount.the-variants.{Value, NotDigits}
+use Rattle.string.specs.Tile.{amountFrom}
 
 -- eight digits at most fit 32 bits
 pub fits : (i : ℕ) → i ≤ 8 → 16 ^ i ≤ 0x100000000
@@ -28,37 +28,37 @@ grown v i radix d h r e =
     let p : 16 ^ (i + 1) ≡ 16 ^ i * 16 = rw add-one (pow-suc 16 i) in
     omega (arith, p, mul-le-mul-left v r)
 
-abbrev valueOf : Numeral → ℕ
+abbrev valueOf : Amount → ℕ
 valueOf (Value v) = v
 valueOf NotDigits = 0
 
-abbrev variant : Numeral → ℕ
+abbrev variant : Amount → ℕ
 variant (Value v) = 0
 variant NotDigits = 1
 
 module _ (radix : ℕ) (xs : List ℕ) where
-  pub turn : (n v at : ℕ) → isDigitIn radix (peekAt xs at) ≡ true → numeralFrom radix v (suc n) at xs ≡ numeralFrom radix (v * radix + digitOf (peekAt xs at)) n (at + 1) xs
-  unfolding numeralFrom
+  pub turn : (n v at : ℕ) → isDigitIn radix (peekAt xs at) ≡ true → amountFrom radix v (suc n) at xs ≡ amountFrom radix (v * radix + digitOf (peekAt xs at)) n (at + 1) xs
+  unfolding amountFrom
   turn n v at e = rw (e, add-one)
 
   pub digits-on : (count i v at : ℕ) → i < count → isDigitIn radix (peekAt xs (at + i)) ≡ true →
-      numeralFrom radix v (count - i) (at + i) xs ≡ numeralFrom radix (v * radix + digitOf (peekAt xs (at + i))) (count - (i + 1)) (at + (i + 1)) xs
+      amountFrom radix v (count - i) (at + i) xs ≡ amountFrom radix (v * radix + digitOf (peekAt xs (at + i))) (count - (i + 1)) (at + (i + 1)) xs
   digits-on count i v at l e =
       let k : count - i ≡ suc (count - (i + 1)) = omega arith in
       let m : at + i + 1 ≡ at + (i + 1) = omega arith in
       rw (k, ← m) (turn (count - (i + 1)) v (at + i) e)
 
-  no-digit : (n v at : ℕ) → isDigitIn radix (peekAt xs at) ≡ false → numeralFrom radix v (suc n) at xs ≡ NotDigits
-  unfolding numeralFrom
+  no-digit : (n v at : ℕ) → isDigitIn radix (peekAt xs at) ≡ false → amountFrom radix v (suc n) at xs ≡ NotDigits
+  unfolding amountFrom
   no-digit n v at e = rw e
 
-  pub digits-stop : (count i v at : ℕ) → i < count → isDigitIn radix (peekAt xs (at + i)) ≡ false → numeralFrom radix v (count - i) (at + i) xs ≡ NotDigits
+  pub digits-stop : (count i v at : ℕ) → i < count → isDigitIn radix (peekAt xs (at + i)) ≡ false → amountFrom radix v (count - i) (at + i) xs ≡ NotDigits
   digits-stop count i v at l e =
       let k : count - i ≡ suc (count - (i + 1)) = omega arith in
       rw k (no-digit (count - (i + 1)) v (at + i) e)
 
-  pub digits-out : (v at : ℕ) → numeralFrom radix v 0 at xs ≡ Value v
-  unfolding numeralFrom
+  pub digits-out : (v at : ℕ) → amountFrom radix v 0 at xs ≡ Value v
+  unfolding amountFrom
   digits-out v at = refl
 
   -- past the last byte stands no digit
@@ -67,7 +67,7 @@ module _ (radix : ℕ) (xs : List ℕ) where
   past at h = rw (List·getD-eq-default xs end h)
 
   -- a digit was read at each place
-  pub here : (n v at w : ℕ) → numeralFrom radix v (suc n) at xs ≡ Value w → isDigitIn radix (peekAt xs at) ≡ true
+  pub here : (n v at w : ℕ) → amountFrom radix v (suc n) at xs ≡ Value w → isDigitIn radix (peekAt xs at) ≡ true
   here n v at w e = go (isDigitIn radix (peekAt xs at)) refl
     where
       go : (t : Bool) → isDigitIn radix (peekAt xs at) ≡ t → isDigitIn radix (peekAt xs at) ≡ true
@@ -81,14 +81,14 @@ module _ (radix : ℕ) (xs : List ℕ) where
       go (yes h) = h
       go (no h) = absurd (true≢false (sym d ∙ past at (omega arith)))
 
-  pub digits-within : (n v at w : ℕ) → numeralFrom radix v (suc n) at xs ≡ Value w → at + suc n ≤ length xs
+  pub digits-within : (n v at w : ℕ) → amountFrom radix v (suc n) at xs ≡ Value w → at + suc n ≤ length xs
   digits-within zero v at w e = omega (arith, inside at (here 0 v at w e))
   digits-within (suc n) v at w e =
       let d = here (suc n) v at w e in
       omega (arith, digits-within n (v * radix + digitOf (peekAt xs at)) (at + 1) w (sym (turn (suc n) v at d) ∙ e))
 
   -- and they amount to less than as many digits of 16 can
-  pub digits-small : radix ≤ 16 → (n i v at w : ℕ) → v < 16 ^ i → numeralFrom radix v n at xs ≡ Value w → w < 16 ^ (i + n)
+  pub digits-small : radix ≤ 16 → (n i v at w : ℕ) → v < 16 ^ i → amountFrom radix v n at xs ≡ Value w → w < 16 ^ (i + n)
   digits-small r zero i v at w h e =
       let k : v ≡ w = ap valueOf (sym (digits-out v at) ∙ e) in
       let z : i + 0 ≡ i = omega arith in

@@ -2,27 +2,35 @@
 use Prim.Native.Nat.{ℕ, _<_, _≤_}
 use native.Mathlib.Omega.{arith}
 use mathlib.Core.List.{List}
-use mathlib.Core.Path.{_≡_}
+use mathlib.Core.Option.{Option, none, some}
+use mathlib.Core.Path.{_≡_, refl}
 use lib.ListN.{length, List·getD-eq-default}
 use borrow.Author.Tests.{ne-eqb}
 use Rattle.scan.specs.Byte.{end, peekAt, isWithin, isHexDigit, isDigitIn}
 use Rattle.string.specs.declared.tile.Form.the-variants.{Letter, Hex, Octal, Point}
+use Rattle.string.specs.declared.tile.Tile.{Tile}
 use Rattle.string.specs.declared.tile.Tile.the-variants.{Piece, Bad}
-use Rattle.string.specs.Tile.{noValue, letterValue, numeralFrom, numbered, escapeOf}
+use Rattle.string.specs.Letters.{lookedUp, letterValue}
+use Rattle.string.specs.Tile.{amountFrom, letteredOr, numbered, escapeOf}
+
+-- a fact of each way that an escape goes on
+pub by-letter : (P : Tile → Type 0) (o : Option ℕ) {other : Tile} → ((v : ℕ) → o ≡ some v → P (Piece Letter v 2)) → (o ≡ none → P other) → P (letteredOr o other)
+by-letter P (some v) f g = f v refl
+by-letter P none f g = g refl
 
 module _ (q : ℕ) (xs : List ℕ) where
-  pub none : q < end → length xs ≤ 1 → Bad ≡ escapeOf q xs
-  unfolding escapeOf letterValue numbered numeralFrom isDigitIn isHexDigit isWithin
-  none h l = rw (List·getD-eq-default xs end l, ne-eqb end q (λ e. omega arith))
+  pub past-end : q < end → length xs ≤ 1 → Bad ≡ escapeOf q xs
+  unfolding escapeOf letterValue lookedUp numbered amountFrom isDigitIn isHexDigit isWithin
+  past-end h l = rw (List·getD-eq-default xs end l, ne-eqb end q (λ e. omega arith))
 
   abbrev second : ℕ
   second = peekAt xs 1
 
-  pub letter : (letterValue q second ≡ noValue → ⊥) → Piece Letter (letterValue q second) 2 ≡ escapeOf q xs
+  pub letter : (v : ℕ) → letterValue q second ≡ some v → Piece Letter v 2 ≡ escapeOf q xs
   unfolding escapeOf
-  letter n = rw (ne-eqb (letterValue q second) noValue n)
+  letter v e = rw e
 
-  module _ (v : letterValue q second ≡ noValue) where
+  module _ (v : letterValue q second ≡ none) where
     pub hex : second ≡ 120 → numbered Hex 16 2 2 xs ≡ escapeOf q xs
     unfolding escapeOf
     hex e = rw (v, e)

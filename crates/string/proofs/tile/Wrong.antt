@@ -16,7 +16,8 @@ use Rattle.string.specs.declared.tile.Form.{Form}
 use Rattle.string.specs.declared.tile.Form.the-variants.{Plain, Letter, Hex, Octal, Point}
 use Rattle.string.specs.declared.tile.Tile.{Tile}
 use Rattle.string.specs.declared.tile.Tile.the-variants.{Piece, Bad}
-use Rattle.string.specs.Tile.{letterValue, numeralFrom, isByte, isAllowed, numbered, escapeOf, beginsEscape, tileOf}
+use Rattle.string.specs.Letters.{lookedUp, letterValue}
+use Rattle.string.specs.Tile.{amountFrom, isByte, isAllowed, numbered, escapeOf, beginsEscape, tileOf}
 use Rattle.string.proofs.tile.is_byte.Kinds as is-byte
 use Rattle.string.proofs.tile.is_byte.Reads as is-byte-reads
 use Rattle.string.proofs.tile.unquote_char.Kinds as unquote-char
@@ -39,7 +40,7 @@ abbrev unquote-char-gives : List ℕ → ℕ → Tile → Type 0
 unquote-char-gives xs q v = Answers unquote-char.ps unquote-char.r unquote-char-reads.Post (λ κs a. (now (a .0) ≡ xs) × (a .1 .0 ≡ q)) (λ κs. v)
 
 unquote-char-at : (xs : List ℕ) (q : ℕ) → unquote-char-gives xs q (tileOf q xs)
-unfolding tileOf beginsEscape escapeOf letterValue numbered numeralFrom isAllowed isDigitIn isHexDigit digitOf isWithin isScalar characterAt charLength sizeIn fits codeOf
+unfolding tileOf beginsEscape escapeOf letterValue lookedUp numbered amountFrom isAllowed isDigitIn isHexDigit digitOf isWithin isScalar characterAt charLength sizeIn fits codeOf
 unquote-char-at xs q κs a x e p h = p ∙ ap₂ tileOf (h .1) (h .0)
 
 pub bare-closing-sign-is-bad : unquote-char-gives (ascii "'") (code "'") Bad

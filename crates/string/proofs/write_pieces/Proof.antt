@@ -14,8 +14,8 @@ use Rattle.proving.proofs.Lists.{rest-of}
 use Rattle.string.specs.declared.tile.Form.{Form}
 use Rattle.string.specs.declared.tile.Tile.the-variants.{Piece}
 use Rattle.string.specs.Tile.{tileOf}
-use Rattle.string.specs.laws.Tile.{Fair}
 use Rattle.string.specs.Tiles.{tilesOf, hasBad, pieceBytes, bytesOf}
+use Rattle.string.proofs.tile.Tiles.{Fair}
 use Rattle.string.proofs.Contents as contents
 use Rattle.string.proofs.write_pieces.Statement.{statement}
 use Rattle.string.proofs.write_pieces.Tie as tie

@@ -5,10 +5,12 @@ use mathlib.Core.List.{List, [], _∷_, _++_}
 use mathlib.Core.Path.{_≡_}
 use lib.Dec.{leb}
 use lib.ListN.{length}
+use Rattle.scan.specs.Byte.{doubleQuote}
 use Rattle.utf8.specs.declared.Reading.{Reading}
 use Rattle.utf8.specs.declared.Reading.the-variants.{Crate, Documented}
 use Rattle.utf8.specs.Text.{WellFormed}
 use Rattle.utf8.specs.Answers.{textLimit}
+use Rattle.utf8.specs.laws.Refusals.{Taken}
 use Rattle.string.specs.declared.tile.Tile.{Tile}
 use Rattle.string.specs.declared.tile.Tile.the-variants.{Piece, Bad}
 use Rattle.string.specs.Tile.{isByte}
@@ -16,7 +18,7 @@ use Rattle.string.specs.declared.Unquoting.{Unquoting}
 use Rattle.string.specs.declared.Unquoting.the-variants.{Inner, Written, Refused}
 use Rattle.string.specs.Escape.{escaped}
 use Rattle.string.specs.Tiles.{tilesOf}
-use Rattle.string.specs.Literal.{doubleQuote, signOf, innerOf, isBadLiteral, unquoted, unquotingOf, textBy, partOf}
+use Rattle.string.specs.Literal.{signOf, innerOf, isBadLiteral, unquoted, unquotingOf, textBy, partOf}
 
 -- an answer that is no refusal names the text of the literal, in the literal or in the buffer as it was left
 abbrev pub isRead : Unquoting → Bool
@@ -29,6 +31,12 @@ PartIsText =
     (r : Reading) (xs d : List ℕ) →
     let u = unquotingOf r (length d) xs in
     isRead u ≡ true → partOf u xs (textBy u (unquoted r xs) d) ≡ unquoted r xs
+
+-- and a literal that is not bad is read, where the limit and the room are kept
+abbrev pub GoodRead : Type 0
+GoodRead =
+    (r : Reading) (room : ℕ) (xs : List ℕ) → Taken textLimit xs → isBadLiteral xs ≡ false → length (unquoted r xs) ≤ room →
+    isRead (unquotingOf r room xs) ≡ true
 
 -- the two readings give the same where no byte escape has a value of 80 hex or more
 abbrev pub isHighByte : Tile → Bool

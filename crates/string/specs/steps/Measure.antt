@@ -14,5 +14,5 @@ use Rattle.string.specs.Tiles.{hasBad, givesByte, bytesOf}
 unfoldable pub isSingle : Reading → Form → ℕ → Bool
 isSingle r f v = leb v 0x7f || givesByte r f
 
-unfoldable pub measured : Reading → List Tile → Extent
-measured r ts = cond (hasBad ts) Bad (Text true (length (bytesOf r ts)))
+unfoldable pub tilesExtent : Reading → List Tile → Extent
+tilesExtent r ts = cond (hasBad ts) Bad (Text true (length (bytesOf r ts)))

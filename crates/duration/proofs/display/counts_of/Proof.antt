@@ -1,12 +1,12 @@
 -- Years and weeks leave what they are not written of, and the units below them divide what is left.
-use mathlib.Core.Path.{_≡_, sym, ap, _∙_}
+use mathlib.Core.Path.{_≡_, refl, sym, ap, _∙_}
 use native.Mathlib.Omega.{arith}
 use Prim.Native.Nat.{_+_, _-_, _*_, _/_, _%_}
 use lib.ListN.{drop}
-use Rattle.duration.specs.Unit.{unit, second, day, week, year, nanosAMilli}
-use Rattle.duration.specs.Display.{rows, millisOf}
+use Rattle.duration.specs.Unit.{unit, units, second, day, week, year, nanosAMilli}
+use Rattle.duration.specs.Display.{millisOf}
 use Rattle.duration.specs.steps.Display.{wholeOf}
-use Rattle.duration.proofs.display.Days.{whole-row, below-weeks}
+use Rattle.duration.proofs.display.Days.{whole-unit, below-weeks}
 use borrow.Author.Needs.{needs}
 use Rattle.duration.proofs.display.counts_of.Statement.{statement}
 use Rattle.duration.proofs.display.counts_of.Tie as tie
@@ -52,8 +52,8 @@ returns c =
     let behind : ms - years * year ≡ left * day + under = omega (arith, c .before .whole .ensures .1) in
     let below : ms - years * year - weeks * week ≡ days * day + under = omega (arith, c .whole2 .ensures .1, behind) in
     sym
-    (whole-row (unit "y" year) (drop 1 rows) ms (c .before .whole .ensures .0 ∙ ap (wholeOf year) (sym start))
-    ∙ rw (whole-row (unit "w" week) (drop 2 rows) (ms - years * year) (c .whole2 .ensures .0 ∙ ap (wholeOf week) (sym behind)), below, below-weeks days under (omega arith)))
+    (whole-unit (unit "y" year) (drop 1 units) ms refl (c .before .whole .ensures .0 ∙ ap (wholeOf year) (sym start))
+    ∙ rw (whole-unit (unit "w" week) (drop 2 units) (ms - years * year) refl (c .whole2 .ensures .0 ∙ ap (wholeOf week) (sym behind)), below, below-weeks days under (omega arith)))
 
 pub counts-of-spec : {M : Type 1} → statement M
 counts-of-spec =

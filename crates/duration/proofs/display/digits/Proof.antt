@@ -1,4 +1,4 @@
--- The digits that are counted and those of the rest are the digits, the rest's first one counted twice.
+-- The digits that are countText and those of the rest are the digits, the rest's first one countText twice.
 use Prim.Native.Nat.{_+_}
 use mathlib.Core.Path.{_≡_, ap}
 use native.Mathlib.Omega.{arith}

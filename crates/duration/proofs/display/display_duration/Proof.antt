@@ -7,10 +7,10 @@ use lib.ListN.{length}
 use denote.Ref.{now}
 use Rattle.scan.specs.Ascii.{ascii}
 use Rattle.duration.specs.declared.span.Duration.{Duration}
-use Rattle.duration.specs.declared.display.Displaying.the-variants.{Refused}
-use Rattle.duration.specs.Display.{textOf}
-use Rattle.duration.specs.steps.Display.{joined, textsOf}
-use Rattle.duration.proofs.display.Steps.{stored-put, joined-size, text-zero, text-written}
+use Rattle.utf8.specs.declared.Writing.the-variants.{Refused}
+use Rattle.duration.specs.Display.{durationText}
+use Rattle.duration.specs.steps.Display.{chained, textsOf}
+use Rattle.duration.proofs.display.Steps.{stored-put, chained-size, text-zero, text-written}
 use Rattle.duration.proofs.display.Answers.{over-range, no-room, shown}
 use borrow.Author.Needs.{needs}
 use Rattle.duration.proofs.display.display_duration.Statement.{statement}
@@ -20,13 +20,13 @@ module _ (c : tie.After-counts-of) where
   abbrev d : Duration
   d = c .before .before .before .before .before .args .duration
 
-  parts : c .before .is-zero .result ≡ false → joined (textsOf (c .counts-of .result)) ≡ textOf d
+  parts : c .before .is-zero .result ≡ false → chained (textsOf (c .counts-of .result)) ≡ durationText d
   parts e = c .counts-of .ensures ∙ sym (text-written d (sym (c .before .is-zero .ensures) ∙ e))
 
-size : (c : tie.Joined2) → c .if2 .n ≡ length (textOf (d (c .before)))
+size : (c : tie.Joined2) → c .if2 .n ≡ length (durationText (d (c .before)))
 size c =
     ⊎-elim (λ w. w .1 ∙ ap length (sym (text-zero (d (c .before)) (sym (c .before .before .is-zero .ensures) ∙ w .0 .taken))))
-    (λ w. w .2 ∙ w .1 .ensures ∙ sym (joined-size (textsOf (c .before .counts-of .result))) ∙ ap length (parts (c .before) (w .0 .left)))
+    (λ w. w .2 ∙ w .1 .ensures ∙ sym (chained-size (textsOf (c .before .counts-of .result))) ∙ ap length (parts (c .before) (w .0 .left)))
     (c .if2 .came)
 
 at-start-requires : tie.Need-at-start-requires
@@ -61,7 +61,7 @@ put-text-requires c κs = search needs
 put-parts-requires : tie.Need-put-parts-requires
 put-parts-requires c κs =
     let p = c .before .before .before .before in
-    omega (arith, size (c .before .before .before), ap length (parts p (c .before .if4 .left)), joined-size (textsOf (p .counts-of .result)))
+    omega (arith, size (c .before .before .before), ap length (parts p (c .before .if4 .left)), chained-size (textsOf (p .counts-of .result)))
 
 same-length : tie.Need-same-length
 same-length c = search needs

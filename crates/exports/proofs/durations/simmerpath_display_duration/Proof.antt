@@ -6,10 +6,12 @@ use mathlib.Core.Path.{_≡_, sym, ap, _∙_}
 use lib.ListN.{length}
 use denote.Ref.{now}
 use Rattle.duration.specs.declared.span.Duration.{Duration}
-use Rattle.duration.specs.declared.display.Displaying.{Displaying}
-use Rattle.duration.specs.Display.{textOf, displayingOf, leftBy, refusedBy}
+use Rattle.utf8.specs.declared.Writing.{Writing}
+use Rattle.utf8.specs.Writing.{leftBy, notWritten}
+use Rattle.duration.specs.Display.{durationText, displayingOf}
 use Rattle.exports.specs.Packed.{packedOf}
-use Rattle.exports.specs.Duration.{durationOf, displayingCode}
+use Rattle.exports.specs.Duration.{durationOf}
+use Rattle.exports.specs.Written.{writtenCode}
 use borrow.Author.Needs.{needs}
 use Rattle.exports.proofs.durations.simmerpath_display_duration.Statement.{statement}
 use Rattle.exports.proofs.durations.simmerpath_display_duration.Tie as tie
@@ -23,8 +25,8 @@ enum-known-d c = search needs
 enum-told : tie.Need-enum-told
 enum-told c = search needs
 
-refused-by-requires : tie.Need-refused-by-requires
-refused-by-requires c κs = search needs
+not-written-requires : tie.Need-not-written-requires
+not-written-requires c κs = search needs
 
 packed-requires : tie.Need-packed-requires
 packed-requires c κs = search needs
@@ -36,15 +38,15 @@ module _ (c : tie.After-display-duration) where
   abbrev shown : Duration
   shown = durationOf (c .before .before .before .args .secs) (c .before .before .before .args .nanos)
 
-  abbrev answer : Displaying
+  abbrev answer : Writing
   answer = displayingOf (length lent) shown
 
   -- the code of the answer in whose arm we are
-  code-is : (d : Displaying) → c .display-duration .result ≡ d → displayingCode d ≡ displayingCode answer
-  code-is d t = ap displayingCode (sym t ∙ c .display-duration .ensures .0)
+  code-is : (d : Writing) → c .display-duration .result ≡ d → writtenCode d ≡ writtenCode answer
+  code-is d t = ap writtenCode (sym t ∙ c .display-duration .ensures .0)
 
-  left-is : c .display-duration .last .1 .0 ≡ leftBy answer (textOf shown) lent
-  left-is = c .display-duration .ensures .1 ∙ ap (λ (d : Displaying). leftBy d (textOf shown) lent) (c .display-duration .ensures .0)
+  left-is : c .display-duration .last .1 .0 ≡ leftBy answer (durationText shown) lent
+  left-is = c .display-duration .ensures .1 ∙ ap (λ (d : Writing). leftBy d (durationText shown) lent) (c .display-duration .ensures .0)
 
 same-length : tie.Need-same-length
 same-length c = search needs
@@ -53,7 +55,7 @@ returns : tie.Need-returns
 returns c =
     let d = c .before .before .before .before .before .before in
     let e = c .before .before .enum-told .given .1 in
-    (c .packed .ensures ∙ ap packedOf (c .before .refused-by .ensures ∙ ap refusedBy e) ∙ code-is d _ e, left-is d)
+    (c .packed .ensures ∙ ap packedOf (c .before .not-written .ensures ∙ ap notWritten e) ∙ code-is d _ e, left-is d)
 
 same-length-2 : tie.Need-same-length-2
 same-length-2 c = search needs
@@ -68,7 +70,7 @@ simmerpath-display-duration-spec =
     display-duration-requires
     enum-known-d
     enum-told
-    refused-by-requires
+    not-written-requires
     packed-requires
     same-length
     returns

@@ -4,10 +4,11 @@ use mathlib.Core.Path.{_≡_, sym, ap, _∙_}
 use denote.Ref.{now}
 use borrow.Author.Needs.{needs}
 use lib.ListN.{length}
-use Rattle.string.specs.declared.escape.Escaping.{Escaping}
-use Rattle.string.specs.Escape.{escaped, escapingOf, leftBy, refusedBy}
+use Rattle.utf8.specs.declared.Writing.{Writing}
+use Rattle.utf8.specs.Writing.{leftBy, notWritten}
+use Rattle.string.specs.Escape.{escaped, escapingOf}
 use Rattle.exports.specs.Packed.{packedOf}
-use Rattle.exports.specs.String.{escapeCode}
+use Rattle.exports.specs.Written.{writtenCode}
 use Rattle.exports.proofs.strings.simmerpath_escape_string.Statement.{statement}
 use Rattle.exports.proofs.strings.simmerpath_escape_string.Tie as tie
 
@@ -20,24 +21,24 @@ enum-known-e c = search needs
 enum-told : tie.Need-enum-told
 enum-told c = search needs
 
-refused-by-requires : tie.Need-refused-by-requires
-refused-by-requires c κs = search needs
+not-written-requires : tie.Need-not-written-requires
+not-written-requires c κs = search needs
 
 packed-requires : tie.Need-packed-requires
 packed-requires c κs = search needs
 
 module _ (c : tie.After-escape-string) where
-  abbrev answer : Escaping
+  abbrev answer : Writing
   answer = let a = c .before .before .before .before .args in escapingOf (length (now (a .out))) (now (a .text))
 
   -- the code of the answer in whose arm we are
-  code-is : (e : Escaping) → c .escape-string .result ≡ e → escapeCode e ≡ escapeCode answer
-  code-is e t = ap escapeCode (sym t ∙ c .escape-string .ensures .0)
+  code-is : (e : Writing) → c .escape-string .result ≡ e → writtenCode e ≡ writtenCode answer
+  code-is e t = ap writtenCode (sym t ∙ c .escape-string .ensures .0)
 
   left-is : let a = c .before .before .before .before .args in c .escape-string .last .1 .0 ≡ leftBy answer (escaped (now (a .text))) (now (a .out))
   left-is =
       let a = c .before .before .before .before .args in
-      c .escape-string .ensures .1 ∙ ap (λ (e : Escaping). leftBy e (escaped (now (a .text))) (now (a .out))) (c .escape-string .ensures .0)
+      c .escape-string .ensures .1 ∙ ap (λ (e : Writing). leftBy e (escaped (now (a .text))) (now (a .out))) (c .escape-string .ensures .0)
 
 same-length : tie.Need-same-length
 same-length c = search needs
@@ -46,7 +47,7 @@ returns : tie.Need-returns
 returns c =
     let d = c .before .before .before .before .before .before in
     let e = c .before .before .enum-told .given .1 in
-    (c .packed .ensures ∙ ap packedOf (c .before .refused-by .ensures ∙ ap refusedBy e) ∙ code-is d _ e, left-is d)
+    (c .packed .ensures ∙ ap packedOf (c .before .not-written .ensures ∙ ap notWritten e) ∙ code-is d _ e, left-is d)
 
 same-length-2 : tie.Need-same-length-2
 same-length-2 c = search needs
@@ -61,7 +62,7 @@ simmerpath-escape-string-spec =
     escape-string-requires
     enum-known-e
     enum-told
-    refused-by-requires
+    not-written-requires
     packed-requires
     same-length
     returns

@@ -1,5 +1,5 @@
 -- `exports::strings::simmerpath_unquote_string` meets its contract: it is what `unquote_string` says, whose length fits its bits
--- (`unquoting-bound`), and leaves in the buffer what that leaves.
+-- (`literal-answers`), and leaves in the buffer what that leaves.
 use Prim.Native.Nat.{ℕ}
 use native.Mathlib.Omega.{arith}
 use mathlib.Core.List.{List, [], _∷_}
@@ -15,7 +15,8 @@ use Rattle.string.specs.declared.Unquoting.{Unquoting}
 use Rattle.string.specs.declared.Unquoting.the-variants.{Written}
 use Rattle.string.specs.Literal.{unquoted, unquotingOf, textBy}
 use Rattle.string.proofs.Unquoting as unquoting
-use Rattle.string.proofs.Bounds.{Bounded, unquoting-bound}
+use Rattle.string.specs.laws.Refusals.{LiteralTells}
+use Rattle.string.proofs.Answers.{literal-answers}
 use Rattle.exports.specs.String.{readingOf, unquoteCode}
 use Rattle.exports.proofs.strings.simmerpath_unquote_string.Statement.{statement}
 use Rattle.exports.proofs.strings.simmerpath_unquote_string.Tie as tie
@@ -45,12 +46,12 @@ module _ (c : tie.After-unquote-string) where
   answer-is : c .unquote-string .result ≡ answer
   answer-is = c .unquote-string .ensures .0 ∙ ap (λ (r : Reading). unquotingOf r (length out) xs) (c .before .before .reading-of .ensures)
 
-  -- the code of the answer in whose arm we are, and its bounds
+  -- the code of the answer in whose arm we are, and what it tells
   code-is : (u : Unquoting) → c .unquote-string .result ≡ u → unquoteCode u ≡ unquoteCode answer
   code-is u t = ap unquoteCode (sym t ∙ answer-is)
 
-  bound-is : (u : Unquoting) → c .unquote-string .result ≡ u → Bounded u
-  bound-is u t = subst Bounded (sym answer-is ∙ t) (unquoting-bound reads (length out) xs)
+  told-is : (u : Unquoting) → c .unquote-string .result ≡ u → LiteralTells reads xs u
+  told-is u t = subst (LiteralTells reads xs) (sym answer-is ∙ t) (literal-answers reads (length out) xs)
 
   left-is : c .unquote-string .last .1 .1 .0 ≡ textBy answer (unquoted reads xs) out
   left-is =
@@ -61,15 +62,15 @@ module _ (c : tie.After-unquote-string) where
 unwritten : (u : Unquoting) → OneOf (0 ∷ 2 ∷ []) (tagOf unquoting.the-type u) → (n : ℕ) → u ≡ Written n → ⊥
 unwritten u t n e = let k = ap (tagOf unquoting.the-type) e in ⊎-elim (λ z. omega arith) (λ z. omega arith) t
 
-not-written-requires : tie.Need-not-written-requires
-not-written-requires c κs =
-    (unwritten _ (c .match .keys2), λ n e. omega (arith, bound-is (c .before .before .before) _ e))
+unwritten-code-requires : tie.Need-unwritten-code-requires
+unwritten-code-requires c κs =
+    (unwritten _ (c .match .keys2), λ n e. let t = told-is (c .before .before .before) _ e in omega (arith, t .0 .0, t .2))
 
 same-length : tie.Need-same-length
 same-length c = search needs
 
 returns : tie.Need-returns
-returns c = let d = c .before .before .before .before in (c .not-written .ensures ∙ code-is d _ refl, left-is d)
+returns c = let d = c .before .before .before .before in (c .unwritten-code .ensures ∙ code-is d _ refl, left-is d)
 
 same-length-2 : tie.Need-same-length-2
 same-length-2 c = search needs
@@ -84,7 +85,7 @@ simmerpath-unquote-string-spec =
     reading-of-requires
     unquote-string-requires
     enum-known-u
-    not-written-requires
+    unwritten-code-requires
     same-length
     returns
     same-length-2

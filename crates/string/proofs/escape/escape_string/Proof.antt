@@ -4,7 +4,7 @@ use native.Mathlib.Omega.{arith}
 use denote.Ref.{now}
 use borrow.Author.Needs.{needs}
 use Rattle.utf8.specs.Answers.{notAdmitted}
-use Rattle.string.specs.declared.escape.Escaping.the-variants.{Refused}
+use Rattle.utf8.specs.declared.Writing.the-variants.{Refused}
 use Rattle.string.proofs.escape.Escapes.{refused-first, not-fitted, written, left}
 use Rattle.string.proofs.escape.escape_string.Statement.{statement}
 use Rattle.string.proofs.escape.escape_string.Tie as tie

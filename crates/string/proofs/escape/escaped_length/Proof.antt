@@ -5,7 +5,7 @@ use mathlib.Core.Path.{_≡_, ap, _∙_}
 use denote.Ref.{now}
 use lib.ListN.{length, getD, drop, drop-of-length-le, length-append}
 use Rattle.string.specs.steps.Bytes.{escapedByte, escapedBytes}
-use Rattle.string.proofs.escape.Escapes.{byte-few, next, none}
+use Rattle.string.proofs.escape.Escapes.{byte-few, next, empty-escaped}
 use Rattle.string.proofs.escape.escaped_length.Statement.{statement}
 use Rattle.string.proofs.escape.escaped_length.Tie as tie
 
@@ -46,7 +46,7 @@ loop-again c =
 returns : tie.Need-returns Inv-loop μ-loop
 returns c =
     let xs = now (c .before .before .before .args .text) in
-    let e = ap length (ap escapedBytes (drop-of-length-le xs (c .loop-test .left)) ∙ none) in
+    let e = ap length (ap escapedBytes (drop-of-length-le xs (c .loop-test .left)) ∙ empty-escaped) in
     omega (arith, e)
 
 pub escaped-length-spec : {M : Type 1} → statement M

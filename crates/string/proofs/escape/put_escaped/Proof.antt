@@ -2,14 +2,16 @@
 use native.Mathlib.Numerals.{add-one}
 use native.Mathlib.Omega.{arith}
 use mathlib.Core.List.{[], _∷_}
+use mathlib.Core.Option.{Option·getD}
 use mathlib.Core.Path.{_≡_, refl, sym, ap, _∙_}
 use lib.ListN.{length, length-set}
 use denote.Ref.{now}
 use borrow.Author.Needs.{needs}
 use Rattle.scan.specs.Byte.{backslash}
-use Rattle.string.specs.Escape.{letterOf}
+use Rattle.string.specs.Letters.{letterOf}
 use Rattle.string.specs.steps.Bytes.{escapedByte}
-use Rattle.string.proofs.escape.Escapes.{copied, lettered}
+use Rattle.string.proofs.tile.Letters.{some-is}
+use Rattle.string.proofs.escape.Escapes.{copied, lettered, uncopied}
 use Rattle.string.proofs.escape.put_escaped.Statement.{statement}
 use Rattle.string.proofs.escape.put_escaped.Tie as tie
 
@@ -17,10 +19,10 @@ letter-of-requires : tie.Need-letter-of-requires
 letter-of-requires c κs = search needs
 
 one : (c : tie.Then1) → let b = c .before .before .before .args .c in escapedByte b ≡ b ∷ []
-one c = copied (c .before .before .before .args .c) (sym (c .before .letter-of .ensures) ∙ c .if1 .taken)
+one c = let b = c .before .before .before .args .c in copied b (uncopied b (sym (c .before .letter-of .ensures) ∙ c .if1 .taken))
 
-two : (c : tie.Else1) → let b = c .before .before .before .args .c in escapedByte b ≡ backslash ∷ letterOf b ∷ []
-two c = lettered (c .before .before .before .args .c) (λ e. c .if1 .left (c .before .letter-of .ensures ∙ e))
+two : (c : tie.Else1) → let b = c .before .before .before .args .c in escapedByte b ≡ backslash ∷ Option·getD (letterOf b) 0 ∷ []
+two c = let b = c .before .before .before .args .c in lettered b _ (some-is (letterOf b) (λ e. c .if1 .left (c .before .letter-of .ensures ∙ e)))
 
 slice-write-out : tie.Need-slice-write-out
 slice-write-out c = omega (arith, ap length (one c))

@@ -7,7 +7,7 @@ use lib.ListN.{length, getD, drop, drop-of-length-le, length-append}
 use lib.Seq.{sets}
 use Rattle.proving.proofs.Stores.{sets-join}
 use Rattle.string.specs.steps.Bytes.{escapedByte, escapedBytes}
-use Rattle.string.proofs.escape.Escapes.{next, none}
+use Rattle.string.proofs.escape.Escapes.{next, empty-escaped}
 use Rattle.string.proofs.escape.write_escaped.Statement.{statement}
 use Rattle.string.proofs.escape.write_escaped.Tie as tie
 
@@ -51,7 +51,7 @@ same-length c = c .before .loop .inv .1
 
 returns : tie.Need-returns Inv-loop μ-loop
 returns c =
-    let e = ap escapedBytes (drop-of-length-le (now (c .before .before .before .before .args .text)) (c .loop-test .left)) ∙ none in
+    let e = ap escapedBytes (drop-of-length-le (now (c .before .before .before .before .args .text)) (c .loop-test .left)) ∙ empty-escaped in
     sym (c .before .loop .inv .3 ∙ rw e)
 
 pub write-escaped-spec : {M : Type 1} → statement M

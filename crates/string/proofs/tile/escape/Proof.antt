@@ -2,19 +2,21 @@
 use Prim.Native.Nat.{ℕ}
 use native.Mathlib.Omega.{arith}
 use mathlib.Core.List.{List}
+use mathlib.Core.Option.{none, Option·getD}
 use mathlib.Core.Path.{_≡_, sym, ap, _∙_}
 use lib.ListN.{getD}
 use denote.Ref.{now}
 use Rattle.scan.specs.Byte.{end, peekAt}
 use Rattle.proving.proofs.Lists.{getD-any}
-use Rattle.string.specs.Tile.{noValue, letterValue, numbered}
+use Rattle.string.specs.Letters.{letterValue}
 use borrow.Author.Needs.{needs}
-use Rattle.string.proofs.tile.Forms.{none, letter, hex, short, long, octal}
+use Rattle.string.proofs.tile.Letters.{some-is, letter-none}
+use Rattle.string.proofs.tile.Forms.{past-end, letter, hex, short, long, octal}
 use Rattle.string.proofs.tile.escape.Statement.{statement}
 use Rattle.string.proofs.tile.escape.Tie as tie
 
 returns : tie.Need-returns
-returns c = none (c .before .before .args .quote) (now (c .before .before .args .s)) (omega arith) (c .if1 .taken)
+returns c = past-end (c .before .before .args .quote) (now (c .before .before .args .s)) (omega arith) (c .if1 .taken)
 
 -- the byte that was read
 module _ (c : tie.After-letter-value) where
@@ -27,8 +29,8 @@ module _ (c : tie.After-letter-value) where
   read : getD xs 1 0 ≡ peekAt xs 1
   read = getD-any xs 1 0 end (omega arith)
 
-  value : c .letter-value .result ≡ letterValue q (peekAt xs 1)
-  value = c .letter-value .ensures ∙ ap (letterValue q) read
+  value : c .letter-value .result ≡ Option·getD (letterValue q (peekAt xs 1)) 0
+  value = c .letter-value .ensures ∙ ap (λ (x : ℕ). Option·getD (letterValue q x) 0) read
 
 shared-slice-read-c : tie.Need-shared-slice-read-c
 shared-slice-read-c c = search needs
@@ -37,7 +39,9 @@ letter-value-requires : tie.Need-letter-value-requires
 letter-value-requires c κs = search needs
 
 returns-2 : tie.Need-returns-2
-returns-2 c = rw (value (c .before)) (letter (q (c .before)) (xs (c .before)) (λ e. c .if2 .taken (value (c .before) ∙ e)))
+returns-2 c =
+    let d = c .before in
+    rw (value d) (letter (q d) (xs d) _ (some-is (letterValue (q d) (peekAt (xs d) 1)) (λ e. c .if2 .taken (value d ∙ e))))
 
 numbered-requires : tie.Need-numbered-requires
 numbered-requires c κs = search needs
@@ -51,8 +55,8 @@ numbered-requires-3 c κs = search needs
 numbered-requires-4 : tie.Need-numbered-requires-4
 numbered-requires-4 c κs = search needs
 
-unlettered : (c : tie.Else2) → letterValue (q (c .before)) (peekAt (xs (c .before)) 1) ≡ noValue
-unlettered c = sym (value (c .before)) ∙ omega (arith, c .if2 .left)
+unlettered : (c : tie.Else2) → letterValue (q (c .before)) (peekAt (xs (c .before)) 1) ≡ none
+unlettered c = letter-none (q (c .before)) (peekAt (xs (c .before)) 1) (sym (value (c .before)) ∙ omega (arith, c .if2 .left))
 
 returns-3 : tie.Need-returns-3
 returns-3 c =

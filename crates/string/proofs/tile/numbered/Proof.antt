@@ -6,23 +6,23 @@ use mathlib.Core.Path.{_≡_, sym, _∙_}
 use denote.Ref.{now}
 use borrow.Author.Tests.{not-true, not-false}
 use Rattle.string.specs.declared.tile.Form.{Form}
-use Rattle.string.specs.declared.tile.Numeral.the-variants.{Value, NotDigits}
+use Rattle.string.specs.declared.tile.Amount.the-variants.{Value, NotDigits}
 use Rattle.string.specs.declared.tile.Tile.the-variants.{Piece, Bad}
-use Rattle.string.specs.Tile.{numeralFrom, isAllowed, numbered}
+use Rattle.string.specs.Tile.{amountFrom, isAllowed, numbered}
 use borrow.Author.Needs.{needs}
 use Rattle.string.proofs.tile.numbered.Statement.{statement}
 use Rattle.string.proofs.tile.numbered.Tie as tie
 
 module _ (f : Form) (radix at n : ℕ) (xs : List ℕ) where
-  no-digits : numeralFrom radix 0 n at xs ≡ NotDigits → Bad ≡ numbered f radix at n xs
+  no-digits : amountFrom radix 0 n at xs ≡ NotDigits → Bad ≡ numbered f radix at n xs
   unfolding numbered
   no-digits e = rw e
 
-  refused : (v : ℕ) → numeralFrom radix 0 n at xs ≡ Value v → isAllowed f v ≡ false → Bad ≡ numbered f radix at n xs
+  refused : (v : ℕ) → amountFrom radix 0 n at xs ≡ Value v → isAllowed f v ≡ false → Bad ≡ numbered f radix at n xs
   unfolding numbered
   refused v e h = rw (e, h)
 
-  taken : (v : ℕ) → numeralFrom radix 0 n at xs ≡ Value v → isAllowed f v ≡ true → Piece f v (at + n) ≡ numbered f radix at n xs
+  taken : (v : ℕ) → amountFrom radix 0 n at xs ≡ Value v → isAllowed f v ≡ true → Piece f v (at + n) ≡ numbered f radix at n xs
   unfolding numbered
   taken v e h = rw (e, h)
 

@@ -9,14 +9,14 @@ use borrow.Author.Needs.{needs}
 use borrow.Author.Tests.{not-true, not-false}
 use Rattle.scan.specs.Byte.{peekAt, digitOf, isDigitIn}
 use Rattle.scan.proofs.byte.Classes.{digit-bound}
-use Rattle.string.specs.Tile.{numeralFrom}
+use Rattle.string.specs.Tile.{amountFrom}
 use Rattle.string.proofs.tile.Digits.{fits, grown, digits-on, digits-stop, digits-out}
 use Rattle.string.proofs.tile.read_digits.Statement.{statement}
 use Rattle.string.proofs.tile.read_digits.Tie as tie
 
 abbrev Inv-loop : tie.InvT-loop
 Inv-loop s at count radix value₀ i₀ value i =
-    (i ≤ count) × (value < 16 ^ i) × (numeralFrom radix 0 count at s ≡ numeralFrom radix value (count - i) (at + i) s)
+    (i ≤ count) × (value < 16 ^ i) × (amountFrom radix 0 count at s ≡ amountFrom radix value (count - i) (at + i) s)
 
 abbrev μ-loop : tie.MeasureT-loop
 μ-loop s at count radix value₀ i₀ value i = count - i

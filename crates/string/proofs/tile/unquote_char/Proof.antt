@@ -69,6 +69,9 @@ returns-2 c =
     let d = c .before .before in
     c .escape .ensures ∙ escaped (q d) (xs d) (other d) (sym (told d) ∙ c .before .if2 .taken)
 
+cast-if3 : tie.Need-cast-if3
+cast-if3 c = search needs
+
 cast-value : tie.Need-cast-value
 cast-value c = omega arith
 
@@ -113,6 +116,7 @@ unquote-char-spec =
     begins-escape-requires
     escape-requires
     returns-2
+    cast-if3
     cast-value
     returns-3
     char-at-requires

@@ -1,0 +1,41 @@
+-- What each answer of reading a literal tells: what is not taken up is refused first, then a bad literal, then what has no room; and a
+-- literal stands for no more bytes than it has (`bytes-few`).
+use Prim.Native.Nat.{ℕ, _-_, _≤_}
+use native.Mathlib.Omega.{arith}
+use mathlib.Core.Bool.{Bool, true, false, cond}
+use mathlib.Core.List.{List}
+use mathlib.Core.Logic.{inl, inr}
+use mathlib.Core.Path.{_≡_, refl}
+use lib.Dec.{leb}
+use lib.ListN.{length, drop, length-take}
+use Rattle.proving.proofs.Choice.{either}
+use Rattle.utf8.specs.declared.Admission.{Admission}
+use Rattle.utf8.specs.declared.Admission.the-variants as admission
+use Rattle.utf8.specs.Answers.{textLimit, admitted}
+use Rattle.utf8.specs.laws.Refusals.{Taken}
+use Rattle.utf8.proofs.Given.{admitted-text}
+use Rattle.string.specs.declared.Extent.the-variants as extent
+use Rattle.string.specs.Literal.{signOf, innerOf, isBadLiteral, hasEscape, unquoted, extentOf, unquotingBy, unquotingAs, unquotingOf}
+use Rattle.string.specs.laws.Refusals.{LiteralTells, LiteralAnswers}
+use Rattle.string.proofs.Contents.{bytes-few}
+use Rattle.string.proofs.Literals.{sound, sign-ascii}
+
+inner-few : (xs : List ℕ) → length (innerOf xs) ≤ length xs
+inner-few xs = omega (arith, length-take (length xs - 2) (drop 1 xs))
+
+pub literal-answers : LiteralAnswers
+unfolding unquotingOf extentOf
+literal-answers r room xs = go (admitted textLimit xs) refl
+  where
+    by : Taken textLimit xs → (s : Bool) → isBadLiteral xs ≡ s → (t : Bool)
+        → LiteralTells r xs (unquotingBy room (cond s extent.Bad (cond t (extent.Text true (length (unquoted r xs))) (extent.Text false (length (innerOf xs))))))
+    by t true b e = inr (inl refl)
+    by t false b true =
+        let l = sign-ascii xs (sound xs b .enclosed) in
+        either (LiteralTells r xs) (leb (length (unquoted r xs)) room)
+        (λ f. (t, refl, omega (arith, bytes-few (signOf xs) l r (innerOf xs), inner-few xs))) (λ f. inr (inr refl))
+    by t false b false = (t, refl, inner-few xs)
+
+    go : (a : Admission) → admitted textLimit xs ≡ a → LiteralTells r xs (unquotingAs r room xs a)
+    go (admission.Admitted n) e = by (admitted-text textLimit xs n e) (isBadLiteral xs) refl (hasEscape (signOf xs) (innerOf xs))
+    go (admission.Refused s) e = inl e
