@@ -22,20 +22,19 @@ use Rattle.duration.specs.declared.Timing.the-variants.{Lasts, Refused}
 use Rattle.duration.specs.Duration.{durationRead, timingOf}
 use Rattle.writing.specs.Decimal.{signOf, digitsOf as digitsIn, decimalText}
 use Rattle.duration.specs.Display.{counted as shownAs, partOf, restOf, textOf}
-use Rattle.scan.specs.Byte.{isSpace, isAlphaNumeric, isWord, isLine}
+use Rattle.scan.specs.Byte.{isSpace, isAlphaNumeric, isWord, isLine, isQuote as opensString}
 use Rattle.utf8.specs.Text.{begunIn, charNumber}
 use Rattle.token.specs.Words.{words, kindIn, keywordOf}
 use Rattle.numeral.specs.Numeral.{isHex, fractionEnd, exponentEnd, numberEnd, isUnit, stopOf, turnOf, durationFrom, numeralOf}
 use Rattle.quoted.specs.Quoted.{commentEnd}
-use Rattle.munch.specs.Lead.{symbolOf, leadOf, braceSymbolOf, braceLeadOf, bracketSymbolOf, bracketLeadOf}
-use Rattle.munch.specs.Word.{isFill, ruleBy, isOr, braceRule, kindBy}
-use Rattle.munch.specs.Munch.{deeper, numberStep, commentStep, wordStep, rightParenStep, leftBracketStep, endStep, outsideStep, braceWord, braceStep, colonStep, bracketStep, munchedBy}
+use Rattle.munch.specs.Word.{isWordStart, isFill, ruleBy, isOr, braceRule, kindBy}
+use Rattle.munch.specs.Munch.{deeper, numberStep, commentStep, wordStep, rightParenStep, endStep, braceWord, colonStep, outsideTable, braceTable, bracketTable, stepIn, munched}
 use Rattle.lex.specs.Steps.{stepsPast, readFrom}
 use Rattle.lex.specs.Lex.{tallied, measured}
 use Rattle.cases.specs.laws.Cases.{Case, queries, texts, duration, days, Shown, Each, AllShown}
 
 pub queries-shown : Each Shown queries
-unfolding measured tallied stepsPast readFrom munchedBy outsideStep braceStep bracketStep leadOf symbolOf braceLeadOf braceSymbolOf bracketLeadOf bracketSymbolOf wordStep braceWord numberStep commentStep leftBracketStep rightParenStep endStep colonStep deeper ruleBy braceRule kindBy isFill isOr keywordOf words kindIn numeralOf numberEnd exponentEnd fractionEnd isHex isUnit durationFrom turnOf stopOf commentEnd isSign admitted validityOf charsPast sizeOf charNumber begunIn charLength sizeIn fits codeOf isWithin isIn isSpace isAlpha isAlphaNumeric isWord isLine lowered runLength sameText has
+unfolding measured tallied stepsPast readFrom munched stepIn outsideTable braceTable bracketTable isWordStart opensString wordStep braceWord numberStep commentStep rightParenStep endStep colonStep deeper ruleBy braceRule kindBy isFill isOr keywordOf words kindIn numeralOf numberEnd exponentEnd fractionEnd isHex isUnit durationFrom turnOf stopOf commentEnd isSign admitted validityOf charsPast sizeOf charNumber begunIn charLength sizeIn fits codeOf isWithin isIn isSpace isAlpha isAlphaNumeric isWord isLine lowered runLength sameText has
 queries-shown = ((refl, refl), ((refl, refl), ((refl, refl), (refl, ((refl, refl), ((refl, refl), ((refl, refl), (refl, tt))))))))
 
 -- the durations that are read

@@ -92,7 +92,7 @@ module _ (a b : List ℕ) where
       f ∙ join-behind m (length a) (length a + 1) refl refl h
 
   module _ (bytes : Bytes a) (at : ℕ) (m : Mode) (l : at < length a) (rest : (n : ℕ) (m′ : Mode) → 1 ≤ n → n ≤ length (drop at a) → JoinsAt (at + n) m′) where
-    join-step : {s s⁺ : Step} → Seam keywordOf (drop at a) s s⁺ → munched m (drop at a) ≡ s → munched m (drop at (joined a b)) ≡ s⁺ → JoinsAt at m
+    join-step : {s s⁺ : Step} → Seam (drop at a) s s⁺ → munched m (drop at a) ≡ s → munched m (drop at (joined a b)) ≡ s⁺ → JoinsAt at m
     unfolding readFrom
     join-step (same (Lexeme k n m′)) e f =
         let g = goes-at a at m e in
@@ -120,8 +120,8 @@ module _ (a b : List ℕ) where
   joins bytes zero at m l h = absurd (omega arith)
   joins bytes (suc k) at m l h = go (decLt at (length a)) (joins bytes k)
     where
-      seam : at < length a → Seam keywordOf (drop at a) (munched m (drop at a)) (munched m (drop at (joined a b)))
-      seam i = rw (drop-append-le at a (code "\n" ∷ b) l) (step-seam keywordOf m (drop at a) b (omega (arith, length-drop at a)))
+      seam : at < length a → Seam (drop at a) (munched m (drop at a)) (munched m (drop at (joined a b)))
+      seam i = rw (drop-append-le at a (code "\n" ∷ b) l) (step-seam m (drop at a) b (omega (arith, length-drop at a)))
 
       go : Dec (at < length a) → ((at : ℕ) (m : Mode) → at ≤ length a → length a < at + k → JoinsAt at m) → JoinsAt at m
       go (yes i) ih = join-step bytes at m i (λ n m′ s w. ih (at + n) m′ (omega (arith, length-drop at a)) (omega arith)) (seam i) refl refl

@@ -8,7 +8,7 @@ use contract.Lifetimes.{Lfts}
 use borrow.Fn.Kinds.{Dens}
 use denote.Ref.{now}
 use Rattle.scan.specs.Ascii.{ascii}
-use Rattle.scan.specs.Byte.{isWithin, isIn, isSpace, isAlpha, isAlphaNumeric, isWord, lowered}
+use Rattle.scan.specs.Byte.{isWithin, isIn, isSpace, isAlpha, isAlphaNumeric, isWord, isQuote, lowered}
 use Rattle.proving.proofs.One.{Answers, Leaves}
 use Rattle.scan.specs.Run.{runLength}
 use Rattle.scan.specs.Text.{has, sameText}
@@ -18,9 +18,8 @@ use Rattle.utf8.specs.Text.{charsPast, sizeOf, begunIn, charNumber}
 use Rattle.utf8.specs.Answers.{place, noRoom, validityOf, admitted, atStart, notUtf8}
 use Rattle.token.specs.Kinds.{identifier, comma}
 use Rattle.token.specs.Words.{words, kindIn, keywordOf}
-use Rattle.munch.specs.Lead.{symbolOf, leadOf}
-use Rattle.munch.specs.Word.{ruleBy, kindBy}
-use Rattle.munch.specs.Munch.{wordStep, bangStep, endStep, outsideStep, munchedBy}
+use Rattle.munch.specs.Word.{isWordStart, ruleBy, kindBy}
+use Rattle.munch.specs.Munch.{wordStep, bangStep, endStep, outsideTable, stepIn, munched}
 use Rattle.lex.specs.declared.Lexing.{Lexing}
 use Rattle.lex.specs.declared.Lexing.the-variants.{Count, Refused}
 use Rattle.lex.specs.Steps.{stepsPast, readFrom}
@@ -35,7 +34,7 @@ use Rattle.lex.proofs.refused_by.Reads as refused-by-reads
 
 -- what computes at a query
 lexing : Unit {0}
-unfolding lexed measured tallied stepsPast readFrom munchedBy outsideStep leadOf symbolOf wordStep bangStep endStep ruleBy kindBy keywordOf words kindIn admitted validityOf charsPast sizeOf charNumber begunIn charLength sizeIn fits codeOf isWithin isIn isSpace isAlpha isAlphaNumeric isWord lowered runLength sameText has
+unfolding lexed measured tallied stepsPast readFrom munched stepIn outsideTable isWordStart isQuote wordStep bangStep endStep ruleBy kindBy keywordOf words kindIn admitted validityOf charsPast sizeOf charNumber begunIn charLength sizeIn fits codeOf isWithin isIn isSpace isAlpha isAlphaNumeric isWord lowered runLength sameText has
 lexing = tt
 
 -- a refusal by its number, at a byte and a character

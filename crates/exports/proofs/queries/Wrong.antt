@@ -8,7 +8,7 @@ use contract.Lifetimes.{Lfts}
 use borrow.Fn.Kinds.{Dens}
 use denote.Ref.{now}
 use Rattle.scan.specs.Ascii.{ascii}
-use Rattle.scan.specs.Byte.{isWithin, isIn, isSpace, isAlpha, isAlphaNumeric, isWord, lowered}
+use Rattle.scan.specs.Byte.{isWithin, isIn, isSpace, isAlpha, isAlphaNumeric, isWord, isQuote, lowered}
 use Rattle.proving.proofs.One.{Answers, Leaves}
 use Rattle.scan.specs.Run.{runLength}
 use Rattle.scan.specs.Text.{has, sameText}
@@ -17,9 +17,8 @@ use Rattle.utf8.specs.Code.{codeOf}
 use Rattle.utf8.specs.Text.{charsPast, sizeOf, begunIn, charNumber}
 use Rattle.utf8.specs.Answers.{validityOf, admitted}
 use Rattle.token.specs.Words.{words, kindIn, keywordOf}
-use Rattle.munch.specs.Lead.{symbolOf, leadOf}
-use Rattle.munch.specs.Word.{ruleBy, kindBy}
-use Rattle.munch.specs.Munch.{wordStep, endStep, outsideStep, munchedBy}
+use Rattle.munch.specs.Word.{isWordStart, ruleBy, kindBy}
+use Rattle.munch.specs.Munch.{wordStep, endStep, outsideTable, stepIn, munched}
 use Rattle.lex.specs.Steps.{stepsPast, readFrom}
 use Rattle.lex.specs.Lex.{tallied, measured, lexed, listed, leftBy, kindOf, startOf, lengthOf, shortest}
 use Rattle.exports.specs.Packed.{packedAs}
@@ -29,7 +28,7 @@ use Rattle.exports.proofs.queries.simmerpath_lexer.Reads as simmerpath-
 
 -- what computes at an input
 computing : Unit {0}
-unfolding lexed measured tallied stepsPast readFrom munchedBy outsideStep leadOf symbolOf wordStep endStep ruleBy kindBy keywordOf words kindIn admitted validityOf charsPast sizeOf charNumber begunIn charLength sizeIn fits codeOf isWithin isIn isSpace isAlpha isAlphaNumeric isWord lowered runLength sameText has
+unfolding lexed measured tallied stepsPast readFrom munched stepIn outsideTable isWordStart isQuote wordStep endStep ruleBy kindBy keywordOf words kindIn admitted validityOf charsPast sizeOf charNumber begunIn charLength sizeIn fits codeOf isWithin isIn isSpace isAlpha isAlphaNumeric isWord lowered runLength sameText has
 computing = tt
 
 -- the query and the three lists that are lent

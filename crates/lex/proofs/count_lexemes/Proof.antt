@@ -7,10 +7,10 @@ use denote.Ref.{now}
 use lib.ListN.{length, drop, length-drop}
 use Rattle.scan.proofs.Edges.{edge-within}
 use Rattle.utf8.proofs.Chars.{rest-of}
-use Rattle.token.specs.steps.WordRows.{keywordIn}
 use Rattle.munch.specs.declared.Mode.{Mode}
 use Rattle.munch.specs.declared.Step.{Step}
-use Rattle.munch.specs.Munch.{munchedBy, munched}
+use Rattle.munch.specs.Munch.{munched}
+use Rattle.munch.specs.steps.Lent.{munchedBy}
 use Rattle.munch.specs.laws.Step.{Past, Goes}
 use Rattle.munch.proofs.Table.{by-table}
 use Rattle.lex.specs.Steps.{stepLength, stepMode, followed, stepsPast, readFrom}
@@ -42,7 +42,7 @@ mode c = c .before .before .loop .mode
 
 told : (c : Place) {s : Step} → c .munch-in .result ≡ s → munched (mode c) (drop (from c) (bytes c)) ≡ s
 told c e =
-    sym (c .munch-in .ensures ∙ ap₂ (λ (w t : List ℕ). munchedBy (keywordIn w) (mode c) t) (c .before .before .before .before .before .pre .0) (rest-of (bytes c) (from c)) ∙ by-table (mode c) (drop (from c) (bytes c)))
+    sym (c .munch-in .ensures ∙ ap₂ (λ (w t : List ℕ). munchedBy w (mode c) t) (c .before .before .before .before .before .pre .0) (rest-of (bytes c) (from c)) ∙ by-table (mode c) (drop (from c) (bytes c)))
     ∙ e
 
 -- how far it goes, and what the rest of the steps is
