@@ -21,16 +21,16 @@ use Rattle.munch.specs.declared.Step.the-variants.{Lexeme, Space, Comment, Refu
 use Rattle.munch.specs.Munch.{mode, outside, outsideTable, braceTable, bracketTable, stepIn, munched}
 use Rattle.munch.specs.laws.Step.{Goes}
 use Rattle.munch.proofs.Goes.{step-goes}
-use Rattle.lex.specs.Steps.{stepsPast, Entry, Reading, reads, ends, refuses, readFrom}
+use Rattle.lex.specs.Outcome.{stepsPast, Entry, Outcome, reads, ends, refuses, readFrom}
 use Rattle.lex.proofs.Steps.{steps-at}
 
 -- a reading that is not refused, and its lexemes
-abbrev pub Accepts : Reading → Type 0
+abbrev pub Accepts : Outcome → Type 0
 Accepts (reads e r) = Accepts r
 Accepts (ends o) = Unit {0}
 Accepts (refuses n o) = ⊥
 
-abbrev pub lexemes : Reading → List Entry
+abbrev pub lexemes : Outcome → List Entry
 lexemes (reads e r) = e ∷ lexemes r
 lexemes (ends o) = []
 lexemes (refuses n o) = []
@@ -100,4 +100,4 @@ blank [] m at e = none-left m at
 blank (x ∷ xs) m at e =
     let h = run-head (isIn class.Space) x xs e in
     let s = white-step m x xs (h .0) in
-    rw (steps-at (x ∷ xs) 0 m (s .1)) (blank xs (s .0) (at + 1) (h .1))
+    rw (steps-at (x ∷ xs) 0 m _ (s .1)) (blank xs (s .0) (at + 1) (h .1))

@@ -14,11 +14,11 @@ use Rattle.numeral.specs.Numeral.{isHex, fractionEnd, exponentEnd, numberEnd, i
 use Rattle.quoted.specs.Quoted.{quotedFrom}
 use Rattle.munch.specs.Word.{isWordStart, isFill, ruleBy, kindBy}
 use Rattle.munch.specs.Munch.{numberStep, quotedStep, wordStep, endStep, outsideTable, bracketTable, stepIn, munched}
-use Rattle.lex.specs.Steps.{stepsPast, readFrom}
-use Rattle.lex.specs.Lex.{tallied, measured, lexed}
+use Rattle.lex.specs.Outcome.{stepsPast, readFrom}
+use Rattle.lex.specs.Lex.{answerBy, measured, lexed}
 use Rattle.listing.specs.Listing.{refusal, lexemesText, printedBy, printed}
 use Rattle.listing.specs.laws.Cases.{AllPrinted}
 
 pub all-printed : AllPrinted
-unfolding printed printedBy lexemesText refusal lexed measured tallied stepsPast readFrom munched stepIn outsideTable bracketTable isWordStart isQuote wordStep numberStep quotedStep endStep ruleBy kindBy isFill keywordOf words kindIn numeralOf numberEnd exponentEnd fractionEnd isHex isUnit durationFrom turnOf stopOf quotedFrom isSign admitted validityOf charsPast sizeOf charNumber begunIn charLength sizeIn fits codeOf isWithin isIn isSpace isAlpha isAlphaNumeric isWord isLine lowered runLength sameText has decimalText digitsOf signOf
+unfolding printed printedBy lexemesText refusal lexed measured answerBy stepsPast readFrom munched stepIn outsideTable bracketTable isWordStart isQuote wordStep numberStep quotedStep endStep ruleBy kindBy isFill keywordOf words kindIn numeralOf numberEnd exponentEnd fractionEnd isHex isUnit durationFrom turnOf stopOf quotedFrom isSign admitted validityOf charsPast sizeOf charNumber begunIn charLength sizeIn fits codeOf isWithin isIn isSpace isAlpha isAlphaNumeric isWord isLine lowered runLength sameText has decimalText digitsOf signOf
 all-printed = (refl, refl)

@@ -23,8 +23,8 @@ use Rattle.writing.specs.Decimal.{signOf, digitsOf, decimalText}
 use Rattle.token.specs.Words.{words, kindIn, keywordOf}
 use Rattle.munch.specs.Word.{isWordStart, ruleBy, kindBy}
 use Rattle.munch.specs.Munch.{wordStep, endStep, outsideTable, stepIn, munched}
-use Rattle.lex.specs.Steps.{stepsPast, readFrom}
-use Rattle.lex.specs.Lex.{tallied, measured, lexed}
+use Rattle.lex.specs.Outcome.{stepsPast, readFrom}
+use Rattle.lex.specs.Lex.{answerBy, measured, lexed}
 use Rattle.listing.specs.Listing.{inputLimit, refusal, lexemesText, printedBy, printed}
 use Rattle.listing.proofs.list_lexemes.Kinds as list-lexemes
 use Rattle.listing.proofs.list_lexemes.Reads as list-lexemes-reads
@@ -35,7 +35,7 @@ unfolding putAt pastAt refusal decimalText digitsOf signOf
 writing = tt
 
 listing : Unit {0}
-unfolding writing printed printedBy lexemesText lexed measured tallied stepsPast readFrom munched stepIn outsideTable isWordStart isQuote wordStep endStep ruleBy kindBy keywordOf words kindIn admitted validityOf charsPast sizeOf charNumber begunIn charLength sizeIn fits codeOf isWithin isIn isSpace isAlpha isAlphaNumeric isWord lowered runLength sameText has
+unfolding writing printed printedBy lexemesText lexed measured answerBy stepsPast readFrom munched stepIn outsideTable isWordStart isQuote wordStep endStep ruleBy kindBy keywordOf words kindIn admitted validityOf charsPast sizeOf charNumber begunIn charLength sizeIn fits codeOf isWithin isIn isSpace isAlpha isAlphaNumeric isWord lowered runLength sameText has
 listing = tt
 
 -- a buffer of so many dots

@@ -25,8 +25,7 @@ use Rattle.munch.specs.declared.Inside.{Inside}
 use Rattle.munch.specs.declared.Inside.the-variants.{Nothing, Braces, Brackets}
 use Rattle.munch.specs.declared.Mode.{Mode}
 use Rattle.munch.specs.declared.Step.{Step}
-use Rattle.munch.specs.declared.Step.the-variants.{Lexeme, Space, Comment, Refused, Finished}
-use Rattle.munch.specs.Munch.{Opening, mode, ifNext, numberBy, numberStep, dotStep, quotedBy, quotedStep, commentStep, wordStep, equalsStep, bangStep, compareStep, rightParenStep, endStep, braceWord, braceEquals, braceBang, colonStep, outsideTable, braceTable, bracketTable, stepIn, munched}
+use Rattle.munch.specs.Munch.{mode, ifNext, numberBy, numberStep, dotStep, quotedBy, quotedStep, commentStep, wordStep, equalsStep, bangStep, compareStep, rightParenStep, endStep, braceWord, braceEquals, braceBang, colonStep, outsideTable, braceTable, bracketTable, stepIn, munched}
 use Rattle.munch.specs.laws.Step.{Fits, StepFits}
 use Rattle.munch.proofs.Openings.{Each, by-rows}
 

@@ -30,7 +30,7 @@ use Rattle.munch.specs.Word.{isWordStart}
 use Rattle.munch.specs.Munch.{ifNext, refuse, numberBy, numberStep, dotStep, quotedBy, quotedStep, commentStep, wordStep, equalsStep, bangStep, compareStep, rightParenStep, endStep, braceWord, braceEquals, braceBang, colonStep, outsideTable, braceTable, bracketTable, stepIn, munched}
 use Rattle.munch.proofs.Openings.{Each, by-rows, none-takes}
 use Rattle.munch.proofs.Starts.{digit-outside, digit-in-brackets, quote-outside, quote-in-braces}
-use Rattle.munch.specs.laws.Rows.{Outside, InBraces, InBrackets, Begins, Follows, namedOutside, namedInBraces, namedInBrackets, NumberBegins, StringBegins, StringFails, Row, row10, row11, row12, row13, row14, row15, row16, row17, row18, row19, row20, row21, row22, row23, row24, row25, row26, row27, row28, row29, row30, row31, row32, RowsGiven, OneRow}
+use Rattle.munch.specs.laws.Rows.{Outside, InBraces, InBrackets, Begins, Follows, namedOutside, namedInBraces, namedInBrackets, NumberBegins, StringBegins, StringFails, Row, row10, row11, row12, row13, row14, row15, row16, row17, row18, row19, row20, row21, row22, row23, row24, row25, row26, row27, row28, row29, row30, row31, row32, RowsGiven, RowNumbers, OneRow}
 
 -- what a step tells: of a refusal, its row
 abbrev Told : Mode → List ℕ → Step → Type 0
@@ -310,8 +310,7 @@ one-row m xs r o s p a b =
     let f = gives m xs b in
     (cc, cc)
 
--- the numbers of the rows
-pub row-bounds : {m : Mode} {xs : List ℕ} {r o : ℕ} → Row m xs r o → (10 ≤ r) × (r ≤ 32)
+row-bounds : {m : Mode} {xs : List ℕ} {r o : ℕ} → Row m xs r o → (10 ≤ r) × (r ≤ 32)
 row-bounds (row10 h) = (omega arith, omega arith)
 row-bounds (row11 h) = (omega arith, omega arith)
 row-bounds (row12 h) = (omega arith, omega arith)
@@ -335,3 +334,6 @@ row-bounds (row29 h) = (omega arith, omega arith)
 row-bounds (row30 h) = (omega arith, omega arith)
 row-bounds (row31 h) = (omega arith, omega arith)
 row-bounds (row32 h) = (omega arith, omega arith)
+
+pub row-numbers : RowNumbers
+row-numbers m xs r o h = row-bounds h

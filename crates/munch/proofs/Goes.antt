@@ -29,7 +29,7 @@ use Rattle.quoted.specs.declared.Quoted.the-variants as quoting
 use Rattle.quoted.specs.Quoted.{quotedOf, commentEnd}
 use Rattle.quoted.specs.laws.Quoted.{Lies}
 use Rattle.quoted.proofs.Strings.{string-within}
-use Rattle.quoted.proofs.Comments.{comment-few, comment-within}
+use Rattle.quoted.proofs.Comments.{comment-within}
 use Rattle.munch.specs.declared.Inside.{Inside}
 use Rattle.munch.specs.declared.Inside.the-variants.{Nothing, Braces, Brackets}
 use Rattle.munch.specs.declared.Mode.{Mode}
@@ -76,8 +76,8 @@ module _ (xs : List ℕ) (h : peekAt xs 0 < 0x80) where
   past-comment =
       record {
         some = omega arith;
-        within = omega (arith, comment-few (drop 1 xs), length-drop 1 xs, ascii-inside xs 0 h);
-        edge = λ b. edge-next xs h (comment-within (drop 1 xs) (bytes-next xs h b));
+        within = omega (arith, comment-within (drop 1 xs) .0, length-drop 1 xs, ascii-inside xs 0 h);
+        edge = λ b. edge-next xs h (comment-within (drop 1 xs) .1 (bytes-next xs h b));
       }
 
 module _ (m : Mode) (xs : List ℕ) where

@@ -4,7 +4,6 @@ use Prim.Native.Nat.{ℕ}
 use Prim.Native.Char.{code}
 use native.Mathlib.Omega.{arith}
 use mathlib.Core.Bool.{Bool, true, false}
-use mathlib.Core.List.{List}
 use mathlib.Core.Logic.{_⊎_, inl, inr}
 use mathlib.Core.Path.{_≡_, refl, ap, _∙_}
 use borrow.Author.Tests.{ne-eqb}
@@ -15,7 +14,6 @@ use Rattle.scan.proofs.byte.Classes.{within-bounds, below-not}
 use Rattle.scan.proofs.Edges.{one-ascii, or-ascii, alpha-ascii}
 use Rattle.munch.specs.Word.{isWordStart}
 use Rattle.munch.specs.declared.Inside.the-variants.{Nothing, Braces, Brackets}
-use Rattle.munch.specs.declared.Step.{Step}
 use Rattle.munch.specs.Munch.{mode, numberStep, quotedStep, outsideTable, braceTable, bracketTable, stepIn}
 
 pub start-ascii : AsciiAlone isWordStart

@@ -1,6 +1,6 @@
 -- Document 01's rows 10 to 32 as conditions: on the mode that a step is made in, on the bytes that are left, and on the place of the refusal
 -- among these. `RowsGiven` says that a step is refused with a number at a place exactly when its row holds; `proofs/Given` has the proof.
-use Prim.Native.Nat.{ℕ, suc, _<_}
+use Prim.Native.Nat.{ℕ, suc, _≤_, _<_}
 use Prim.Native.Char.{code}
 use Prim.Native.String as text
 use Prim.Native.String.{String}
@@ -174,6 +174,10 @@ pub data Row (m : Mode) (xs : List ℕ) : ℕ → ℕ → Type 0 where
 
 abbrev pub RowsGiven : Type 0
 RowsGiven = (m : Mode) (xs : List ℕ) (r o : ℕ) → munched m xs ≡ Refused r o ↔ Row m xs r o
+
+-- the first and the last of their numbers
+abbrev pub RowNumbers : Type 0
+RowNumbers = (m : Mode) (xs : List ℕ) (r o : ℕ) → Row m xs r o → (10 ≤ r) × (r ≤ 32)
 
 -- no two of them hold together
 abbrev pub OneRow : Type 0

@@ -14,7 +14,7 @@ use Rattle.munch.specs.declared.Inside.the-variants.{Nothing, Braces, Br
 use Rattle.munch.specs.declared.Mode.{Mode}
 use Rattle.munch.specs.declared.Step.{Step}
 use Rattle.munch.specs.declared.Step.the-variants.{Lexeme}
-use Rattle.munch.specs.Munch.{mode, stepIn, munched}
+use Rattle.munch.specs.Munch.{mode, munched}
 
 -- the kind that a word has of its own is what the table says
 unfoldable pub wordStepBy : List ℕ → Mode → List ℕ → Step
