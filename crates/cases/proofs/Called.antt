@@ -11,7 +11,7 @@ use contract.Lifetimes.{Lfts}
 use borrow.Fn.Kinds.{Dens, resT, endedOf}
 use denote.Ref.{now}
 use denote.Triple.Clauses.{AtExit}
-use borrow.Author.Tests.{leb-true}
+use borrow.Author.Tests.{leb-true, le-leb}
 use Rattle.proving.proofs.One.{Answers, Leaves, Shows}
 use Rattle.utf8.specs.declared.Reading.{Reading}
 use Rattle.utf8.specs.declared.Writing.{Writing}
@@ -39,9 +39,9 @@ use Rattle.duration.proofs.display.Given.{displaying-given}
 use Rattle.duration.proofs.display.display_duration.Kinds as display
 use Rattle.duration.proofs.display.display_duration.Reads as display-reads
 use Rattle.lex.specs.declared.Lexing.the-variants as lexing
-use Rattle.lex.specs.Lex.{refusedAt, roomed, lexed, kindOf}
-use Rattle.lex.proofs.Measures.{fits as fits-room}
-use Rattle.join.proofs.Calls.{LexCall, roomIn, kinds, answered, wrote}
+use Rattle.lex.specs.Lex.{refusedAt, roomed, lexed}
+use Rattle.join.specs.laws.Calls.{LexCall, roomIn, kindsLeft}
+use Rattle.join.proofs.Calls.{answered, writes}
 use Rattle.cases.specs.laws.Cases.{Case, lexes, refuses, literal, timed, written, queries, texts, cases, Shown, Each}
 use Rattle.cases.proofs.Shown.{queries-shown, texts-shown, each-both}
 
@@ -79,20 +79,21 @@ pub record Unquoted (r : Reading) (xs ys d : List ℕ) : Type 0 where
 -- calls of `lexer` on the query are accepted in any lists that its lexemes fit, and leave their kinds there, or are refused; those on the
 -- literal hand its text back, with any buffer that it fits
 abbrev pub Called : Case → Type 0
-Called (lexes q ks) = (c : LexCall q) → length ks ≤ roomIn c → (c .result ≡ lexing.Count (length ks)) × (take (length ks) (kinds c) ≡ ks)
+Called (lexes q ks) = (c : LexCall q) → length ks ≤ roomIn c → (c .result ≡ lexing.Count (length ks)) × (take (length ks) (kindsLeft c) ≡ ks)
 Called (refuses q r p) = (c : LexCall q) → c .result ≡ lexing.Refused (refusedAt q r p)
 Called (literal r xs ys) = (d : List ℕ) → length ys ≤ length d → Unquoted r xs ys d
 Called (timed xs t) = (c : Timed xs) → c .result ≡ t
 Called (written d ys) = (room : ℕ) (c : Displayed d room) → length ys ≤ room → d .nanos < nanosASecond → (c .result ≡ Written (length ys)) × (take (length ys) (now (c .exit .1 .0)) ≡ ys)
 
 lexes-called : (q ks : List ℕ) → Shown (lexes q ks) → Called (lexes q ks)
+unfolding lexed
 lexes-called q ks s c h =
-    let e = answered c ∙ fits-room q (length ks) (roomIn c) (s .0) h in
-    (e, wrote c (length ks) e kindOf _ (kinds c) (c .post .1 .0) ∙ s .1)
+    let e : c .result ≡ lexing.Count (length ks) = answered q c ∙ rw (s .0, le-leb (length ks) (roomIn c) h) in
+    (e, writes q c (length ks) e .0 ∙ s .1)
 
 refuses-called : (q : List ℕ) (r p : ℕ) → Shown (refuses q r p) → Called (refuses q r p)
 unfolding lexed
-refuses-called q r p s c = answered c ∙ ap (roomed (roomIn c)) s
+refuses-called q r p s c = answered q c ∙ ap (roomed (roomIn c)) s
 
 literal-called : (r : Reading) (xs ys : List ℕ) → Shown (literal r xs ys) → isAscii xs ≡ true → leb (length xs) textLimit ≡ true → Called (literal r xs ys)
 literal-called r xs ys s a l d h =

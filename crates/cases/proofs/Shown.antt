@@ -29,15 +29,14 @@ use Rattle.utf8.specs.Text.{begunIn, charNumber}
 use Rattle.token.specs.Words.{words, kindIn, keywordOf}
 use Rattle.numeral.specs.Numeral.{isHex, fractionEnd, exponentEnd, numberEnd, isUnit, stopOf, turnOf, durationFrom, numeralOf}
 use Rattle.quoted.specs.Quoted.{commentEnd}
-use Rattle.munch.specs.Lead.{symbolOf, leadOf, braceSymbolOf, braceLeadOf, bracketSymbolOf, bracketLeadOf}
-use Rattle.munch.specs.Word.{isFill, ruleBy, isOr, braceRule, kindBy}
-use Rattle.munch.specs.Munch.{deeper, numberStep, commentStep, wordStep, rightParenStep, leftBracketStep, endStep, outsideStep, braceWord, braceStep, colonStep, bracketStep, munchedBy}
-use Rattle.lex.specs.Steps.{stepsPast, readFrom}
-use Rattle.lex.specs.Lex.{tallied, measured}
-use Rattle.cases.specs.laws.Cases.{Case, queries, texts, duration, days, Shown, Each, AllShown}
+use Rattle.munch.specs.Word.{isWordStart, isFill, ruleBy, isOr, braceRule, kindBy}
+use Rattle.munch.specs.Munch.{deeper, numberStep, commentStep, wordStep, rightParenStep, endStep, braceWord, colonStep, outsideTable, braceTable, bracketTable, stepIn, munched}
+use Rattle.lex.specs.Outcome.{stepsPast, readFrom}
+use Rattle.lex.specs.Lex.{answerBy, measured}
+use Rattle.cases.specs.laws.Cases.{Case, queries, texts, elapsed, days, Shown, Each, AllShown}
 
 pub queries-shown : Each Shown queries
-unfolding measured tallied stepsPast readFrom munchedBy outsideStep braceStep bracketStep leadOf symbolOf braceLeadOf braceSymbolOf bracketLeadOf bracketSymbolOf wordStep braceWord numberStep commentStep leftBracketStep rightParenStep endStep colonStep deeper ruleBy braceRule kindBy isFill isOr keywordOf words kindIn numeralOf numberEnd exponentEnd fractionEnd isHex isUnit durationFrom turnOf stopOf commentEnd isSign admitted validityOf charsPast sizeOf charNumber begunIn charLength sizeIn fits codeOf isWithin isIn isSpace isAlpha isAlphaNumeric isWord isLine lowered runLength sameText has
+unfolding measured answerBy stepsPast readFrom munched stepIn outsideTable braceTable bracketTable isWordStart isQuote wordStep braceWord numberStep commentStep rightParenStep endStep colonStep deeper ruleBy braceRule kindBy isFill isOr keywordOf words kindIn numeralOf numberEnd exponentEnd fractionEnd isHex isUnit durationFrom turnOf stopOf commentEnd isSign admitted validityOf charsPast sizeOf charNumber begunIn charLength sizeIn fits codeOf isWithin isIn isSpace isAlpha isAlphaNumeric isWord isLine lowered runLength sameText has
 queries-shown = ((refl, refl), ((refl, refl), ((refl, refl), (refl, ((refl, refl), ((refl, refl), ((refl, refl), (refl, tt))))))))
 
 -- the durations that are read
@@ -45,11 +44,11 @@ timed-zero : timingOf (ascii "0") ≡ Refused (atStart 51)
 unfolding timingOf durationRead admitted validityOf charsPast sizeOf charLength sizeIn fits codeOf isWithin sameText
 timed-zero = refl
 
-timed-none : timingOf (ascii "00") ≡ Lasts (duration 0 0)
+timed-none : timingOf (ascii "00") ≡ Lasts (elapsed 0 0)
 unfolding timingOf durationRead admitted validityOf charsPast sizeOf charLength sizeIn fits codeOf isWithin sameText decimalOf decimalIn isInfinite isNan isNumeral hasDigits exponentHasDigits isSign lowered isIn runLength digitOf valueFrom numeralRead isInExact isExactRange isSome isScaled round size span climb floatUnits odd trailingZeros lt le
 timed-none = refl
 
-timed-decimal : timingOf (ascii "0.0009765625") ≡ Lasts (duration 0 976562)
+timed-decimal : timingOf (ascii "0.0009765625") ≡ Lasts (elapsed 0 976562)
 unfolding timingOf durationRead admitted validityOf charsPast sizeOf charLength sizeIn fits codeOf isWithin sameText decimalOf decimalIn isInfinite isNan isNumeral hasDigits exponentHasDigits isSign lowered isIn runLength digitOf valueFrom numeralRead isInExact isExactRange isSome isScaled round size span climb floatUnits odd trailingZeros lt le
 timed-decimal = refl
 

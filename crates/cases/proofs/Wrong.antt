@@ -10,7 +10,7 @@ use Rattle.scan.specs.Ascii.{ascii}
 use Rattle.utf8.specs.declared.Refusal.{Refusal}
 use Rattle.lex.specs.declared.Lexing.{Lexing}
 use Rattle.lex.specs.declared.Lexing.the-variants.{Count, Refused}
-use Rattle.join.proofs.Calls.{LexCall, roomIn, kinds}
+use Rattle.join.specs.laws.Calls.{LexCall, roomIn, kindsLeft}
 use Rattle.cases.specs.laws.Cases.{lexes}
 use Rattle.cases.proofs.Called.{Called, all-called}
 
@@ -43,15 +43,15 @@ module _ (c : LexCall fill) (room : 4 ≤ roomIn c) where
   counted-right n e d = d (sym (ap count (sym (fill-called c room .0) ∙ e)))
 
   -- the kind of the lexeme i
-  kind : (i : ℕ) → getD (take 4 (kinds c)) i 0 ≡ getD (70 ∷ 6 ∷ 7 ∷ 0 ∷ []) i 0
+  kind : (i : ℕ) → getD (take 4 (kindsLeft c)) i 0 ≡ getD (70 ∷ 6 ∷ 7 ∷ 0 ∷ []) i 0
   kind i = ap (λ (ks : List ℕ). getD ks i 0) (fill-called c room .1)
 
   -- "writing nothing and claiming success"
-  pub something-written : take 4 (now (c .args .1 .0)) ≡ 0 ∷ 0 ∷ 0 ∷ 0 ∷ [] → kinds c ≡ now (c .args .1 .0) → ⊥
+  pub something-written : take 4 (now (c .args .1 .0)) ≡ 0 ∷ 0 ∷ 0 ∷ 0 ∷ [] → kindsLeft c ≡ now (c .args .1 .0) → ⊥
   something-written z e = omega (arith, kind 0, ap (λ (ks : List ℕ). getD ks 0 0) (ap (take 4) e ∙ z))
 
   -- "lexing to the first lexeme and then inventing the rest"
-  pub nothing-invented : (x y z : ℕ) → take 4 (kinds c) ≡ 70 ∷ x ∷ y ∷ z ∷ [] → (x ≡ 6) × (y ≡ 7) × (z ≡ 0)
+  pub nothing-invented : (x y z : ℕ) → take 4 (kindsLeft c) ≡ 70 ∷ x ∷ y ∷ z ∷ [] → (x ≡ 6) × (y ≡ 7) × (z ≡ 0)
   nothing-invented x y z e = (
     omega (arith, kind 1, ap (λ (ks : List ℕ). getD ks 1 0) e),
     omega (arith, kind 2, ap (λ (ks : List ℕ). getD ks 2 0) e),
@@ -59,5 +59,5 @@ module _ (c : LexCall fill) (room : 4 ≤ roomIn c) where
   )
 
   -- "always the same lexemes or text"
-  pub told-apart : (d : LexCall or) → 4 ≤ roomIn d → kinds c ≡ kinds d → ⊥
+  pub told-apart : (d : LexCall or) → 4 ≤ roomIn d → kindsLeft c ≡ kindsLeft d → ⊥
   told-apart d h e = omega (arith, kind 0, ap (λ (ks : List ℕ). getD ks 0 0) (ap (take 4) e ∙ or-called d h .1))

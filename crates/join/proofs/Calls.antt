@@ -5,47 +5,21 @@ use native.Mathlib.Omega.{arith}
 use mathlib.Core.Bool.{Bool, true, false, cond}
 use mathlib.Core.List.{List, [], _∷_, _++_, map, map-append}
 use mathlib.Core.Path.{_≡_, refl, sym, ap, ap₂, _∙_}
-use contract.Lifetimes.{Lfts}
-use borrow.Fn.Kinds.{Dens, resT, endedOf}
+use borrow.Author.Tests.{le-leb}
 use denote.Ref.{now}
-use denote.Triple.Clauses.{AtExit}
 use lib.Dec.{leb}
 use lib.ListN.{length, take, drop, length-map}
 use lib.Seq.{take-at, take-take}
 use Rattle.utf8.specs.declared.Refusal.{Refusal}
-use Rattle.utf8.specs.Text.{charsOf}
-use Rattle.utf8.specs.Answers.{textLimit, noRoom}
+use Rattle.utf8.specs.Answers.{noRoom}
 use Rattle.lex.specs.declared.Lexing.{Lexing}
 use Rattle.lex.specs.declared.Lexing.the-variants.{Count, Refused}
-use Rattle.lex.specs.Steps.{Entry}
-use Rattle.lex.specs.Lex.{entriesOf, measured, roomed, lexed, listed, leftBy, kindOf, startOf, lengthOf, shortest}
-use Rattle.lex.proofs.Measures.{measured-count, fits}
-use Rattle.lex.proofs.lexer.Kinds as lexer
-use Rattle.lex.proofs.lexer.Reads as lexer-reads
-use Rattle.join.specs.laws.Join.{joined, front, LastNoFill, movedEntry, movedRefusal, movedBehind}
+use Rattle.lex.specs.Outcome.{Entry}
+use Rattle.lex.specs.Lex.{entriesOf, measured, roomed, lexed, listed, leftAfter, kindOf, startsAt, lengthOf}
+use Rattle.lex.proofs.Given.{measured-given}
+use Rattle.join.specs.laws.Calls.{LexCall, roomIn, kindsLeft, startsLeft, lengthsLeft, JoinCalls, CallAnswers, CallWrites, CallsJoin, CallsRefused}
+use Rattle.join.specs.laws.Join.{joined, front, movedEntry, movedBehind}
 use Rattle.join.proofs.Join.{join-answer, join-entries}
-
--- a call of `lexer` that keeps its promise, on a query
-pub record LexCall (q : List ℕ) : Type 0 where
-  pub κs : Lfts 4
-  pub args : Dens κs lexer.ps
-  pub result : resT lexer.r κs .Denot
-  pub exit : AtExit (endedOf 4 lexer.ps lexer.r) κs
-  pub post : lexer-reads.Post κs args result exit
-  pub of-query : now (args .0) ≡ q
-
--- the room that it was lent, and what it left in the lists
-abbrev pub roomIn : {q : List ℕ} → LexCall q → ℕ
-roomIn c = shortest (length (now (c .args .1 .0))) (length (now (c .args .1 .1 .0))) (length (now (c .args .1 .1 .1 .0)))
-
-abbrev pub kinds : {q : List ℕ} → LexCall q → List ℕ
-kinds c = now (c .exit .1 .0)
-
-abbrev pub starts : {q : List ℕ} → LexCall q → List ℕ
-starts c = now (c .exit .1 .1 .0)
-
-abbrev pub lengths : {q : List ℕ} → LexCall q → List ℕ
-lengths c = now (c .exit .1 .1 .1 .0)
 
 -- a count is the measure's, and so is a refusal but for want of room
 room-counted : (room n : ℕ) (x : Lexing) → roomed room x ≡ Count n → x ≡ Count n
@@ -60,7 +34,7 @@ numberOf : Lexing → ℕ
 numberOf (Count n) = 0
 numberOf (Refused r) = r .number
 
-room-refused : (room : ℕ) (r : Refusal) (x : Lexing) → (r .number ≡ 3 → ⊥) → roomed room x ≡ Refused r → x ≡ Refused r
+room-refused : (room : ℕ) (r : Refusal) (x : Lexing) → (r .number ≡ noRoom .number → ⊥) → roomed room x ≡ Refused r → x ≡ Refused r
 unfolding numberOf
 room-refused room r (Count m) d h = go (leb m room) h
   where
@@ -69,22 +43,26 @@ room-refused room r (Count m) d h = go (leb m room) h
     go false e = absurd (d (sym (ap numberOf e)))
 room-refused room r (Refused s) d e = e
 
-module _ {q : List ℕ} (c : LexCall q) where
-  pub answered : c .result ≡ lexed (roomIn c) q
-  answered = c .post .0 ∙ ap (lexed (roomIn c)) (c .of-query)
+pub answered : CallAnswers
+answered q c = c .post .0 ∙ ap (lexed (roomIn c)) (c .of-query)
 
-  module _ (n : ℕ) (e : c .result ≡ Count n) where
-    counted : measured q ≡ Count n
-    unfolding lexed
-    counted = room-counted (roomIn c) n (measured q) (sym answered ∙ e)
+module _ {q : List ℕ} (c : LexCall q) (n : ℕ) (e : c .result ≡ Count n) where
+  counted : measured q ≡ Count n
+  unfolding lexed
+  counted = room-counted (roomIn c) n (measured q) (sym (answered q c) ∙ e)
 
-    size : n ≡ length (entriesOf q)
-    size = measured-count q n counted .1
+  size : n ≡ length (entriesOf q)
+  size = measured-given q n .0 counted .2
 
-    -- a list that the call left, by the numbers that it holds
-    pub wrote : (f : Entry → ℕ) (old new : List ℕ) → new ≡ leftBy (c .result) (listed f (now (c .args .0)) old) old → take n new ≡ map f (entriesOf q)
-    wrote f old new h =
-        rw (h, e, c .of-query) (take-at (map f (entriesOf q)) (drop (length (entriesOf q)) old) n (length-map (entriesOf q) f ∙ sym size))
+  -- a list that the call left, by the numbers that it holds
+  wrote : (f : Entry → ℕ) (old new : List ℕ) → new ≡ leftAfter (c .result) (listed f (now (c .args .0)) old) old → take n new ≡ map f (entriesOf q)
+  wrote f old new h =
+      rw (h, e, c .of-query) (take-at (map f (entriesOf q)) (drop (length (entriesOf q)) old) n (length-map (entriesOf q) f ∙ sym size))
+
+pub writes : CallWrites
+writes q c n e =
+    let w = wrote c n e in
+    (w kindOf _ (kindsLeft c) (c .post .1 .0), w startsAt _ (startsLeft c) (c .post .1 .1 .0), w lengthOf _ (lengthsLeft c) (c .post .1 .1 .1))
 
 -- numbers of lexemes that are moved along
 moved-all : (d : ℕ) (f : Entry → ℕ) (g : ℕ → ℕ) → ((e : Entry) → f (movedEntry d e) ≡ g (f e)) → (es : List Entry) → map f (map (movedEntry d) es) ≡ map g (map f es)
@@ -100,47 +78,50 @@ take-map f zero es = refl
 take-map f (suc n) [] = refl
 take-map f (suc n) (e ∷ es) = ap (λ (xs : List ℕ). f e ∷ xs) (take-map f n es)
 
--- calls on A, on B and on their join, where A's was accepted and its last lexeme is no fill word, within the limit
-module _ (a b : List ℕ) (n : ℕ) (A : LexCall a) (B : LexCall b) (J : LexCall (joined a b)) (e : A .result ≡ Count n) (p : LastNoFill a (front a)) (l : length (joined a b) ≤ textLimit) where
+module _ (a b : List ℕ) (n : ℕ) (j : JoinCalls a b n) where
   -- the numbers of A's lexemes without its end mark, and of B's behind them, are those of the join
-  lists : (k : ℕ) → B .result ≡ Count k → (f : Entry → ℕ) (g : ℕ → ℕ) → ((x : Entry) → f (movedEntry (suc (length a)) x) ≡ g (f x))
+  lists : (k : ℕ) (f : Entry → ℕ) (g : ℕ → ℕ) → ((x : Entry) → f (movedEntry (suc (length a)) x) ≡ g (f x))
       → (us vs : List ℕ) → take n us ≡ map f (entriesOf a) → take k vs ≡ map f (entriesOf b)
       → map f (entriesOf (joined a b)) ≡ take (pred n) us ++ map g (take k vs)
-  lists k h f g m us vs u v =
-      ap (map f) (join-entries a b n (record { accepted = counted A n e; plain = p }))
+  lists k f g m us vs u v =
+      ap (map f) (join-entries a b n (record { accepted = counted (j .first) n (j .accepted); plain = j .plain }))
       ∙ map-append f (front a) (map (movedEntry (suc (length a))) (entriesOf b))
       ∙ ap₂ (λ (xs ys : List ℕ). xs ++ ys)
-      (ap (λ (i : ℕ). map f (take (pred i) (entriesOf a))) (sym (size A n e)) ∙ sym (take-map f (pred n) (entriesOf a)) ∙ ap (take (pred n)) (sym u) ∙ take-take (pred n) n us (omega arith))
+      (ap (λ (i : ℕ). map f (take (pred i) (entriesOf a))) (sym (size (j .first) n (j .accepted))) ∙ sym (take-map f (pred n) (entriesOf a)) ∙ ap (take (pred n)) (sym u) ∙ take-take (pred n) n us (omega arith))
       (moved-all (suc (length a)) f g m (entriesOf b) ∙ ap (map g) (sym v))
 
   answer : measured (joined a b) ≡ movedBehind a n (measured b)
-  answer = join-answer a b n (record { accepted = counted A n e; plain = p }) l
+  answer = join-answer a b n (record { accepted = counted (j .first) n (j .accepted); plain = j .plain }) (j .limit)
 
-  -- B is accepted, and there is room
-  module _ (k : ℕ) (h : B .result ≡ Count k) (r : pred n + k ≤ roomIn J) where
-    pub calls-count : J .result ≡ Count (pred n + k)
-    calls-count =
-        answered J ∙ fits (joined a b) (pred n + k) (roomIn J) (answer ∙ ap (movedBehind a n) (counted B k h)) r
+  module _ (k : ℕ) (h : j .second .result ≡ Count k) (r : pred n + k ≤ roomIn (j .both)) where
+    counts : j .both .result ≡ Count (pred n + k)
+    unfolding lexed
+    counts = answered (joined a b) (j .both) ∙ rw (answer, counted (j .second) k h, le-leb (pred n + k) (roomIn (j .both)) r)
 
-    pub calls-kinds : take (pred n + k) (kinds J) ≡ take (pred n) (kinds A) ++ take k (kinds B)
-    calls-kinds =
-        wrote J (pred n + k) calls-count kindOf _ (kinds J) (J .post .1 .0)
-        ∙ lists k h kindOf (λ x. x) (λ x. refl) (kinds A) (kinds B) (wrote A n e kindOf _ (kinds A) (A .post .1 .0)) (wrote B k h kindOf _ (kinds B) (B .post .1 .0))
-        ∙ ap (λ (xs : List ℕ). take (pred n) (kinds A) ++ xs) (map-same (take k (kinds B)))
+    -- what the three calls wrote, of one list
+    joins : (f : Entry → ℕ) (g : ℕ → ℕ) → ((x : Entry) → f (movedEntry (suc (length a)) x) ≡ g (f x))
+        → (us vs ws : List ℕ) → take n us ≡ map f (entriesOf a) → take k vs ≡ map f (entriesOf b) → take (pred n + k) ws ≡ map f (entriesOf (joined a b))
+        → take (pred n + k) ws ≡ take (pred n) us ++ map g (take k vs)
+    joins f g m us vs ws u v w = w ∙ lists k f g m us vs u v
 
-    pub calls-starts : take (pred n + k) (starts J) ≡ take (pred n) (starts A) ++ map (λ (x : ℕ). suc (length a) + x) (take k (starts B))
-    calls-starts =
-        wrote J (pred n + k) calls-count startOf _ (starts J) (J .post .1 .1 .0)
-        ∙ lists k h startOf (λ x. suc (length a) + x) (λ x. refl) (starts A) (starts B) (wrote A n e startOf _ (starts A) (A .post .1 .1 .0)) (wrote B k h startOf _ (starts B) (B .post .1 .1 .0))
+    all-join : (j .both .result ≡ Count (pred n + k))
+        × (take (pred n + k) (kindsLeft (j .both)) ≡ take (pred n) (kindsLeft (j .first)) ++ take k (kindsLeft (j .second)))
+        × (take (pred n + k) (startsLeft (j .both)) ≡ take (pred n) (startsLeft (j .first)) ++ map (λ (x : ℕ). suc (length a) + x) (take k (startsLeft (j .second))))
+        × (take (pred n + k) (lengthsLeft (j .both)) ≡ take (pred n) (lengthsLeft (j .first)) ++ take k (lengthsLeft (j .second)))
+    all-join =
+        let A = writes a (j .first) n (j .accepted) in
+        let B = writes b (j .second) k h in
+        let J = writes (joined a b) (j .both) (pred n + k) counts in (
+          counts,
+          joins kindOf (λ x. x) (λ x. refl) _ _ _ (A .0) (B .0) (J .0) ∙ ap (λ (xs : List ℕ). take (pred n) (kindsLeft (j .first)) ++ xs) (map-same (take k (kindsLeft (j .second)))),
+          joins startsAt (λ x. suc (length a) + x) (λ x. refl) _ _ _ (A .1) (B .1) (J .1),
+          joins lengthOf (λ x. x) (λ x. refl) _ _ _ (A .2) (B .2) (J .2) ∙ ap (λ (xs : List ℕ). take (pred n) (lengthsLeft (j .first)) ++ xs) (map-same (take k (lengthsLeft (j .second)))),
+        )
 
-    pub calls-lengths : take (pred n + k) (lengths J) ≡ take (pred n) (lengths A) ++ take k (lengths B)
-    calls-lengths =
-        wrote J (pred n + k) calls-count lengthOf _ (lengths J) (J .post .1 .1 .1)
-        ∙ lists k h lengthOf (λ x. x) (λ x. refl) (lengths A) (lengths B) (wrote A n e lengthOf _ (lengths A) (A .post .1 .1 .1)) (wrote B k h lengthOf _ (lengths B) (B .post .1 .1 .1))
-        ∙ ap (λ (xs : List ℕ). take (pred n) (lengths A) ++ xs) (map-same (take k (lengths B)))
+pub calls-join : CallsJoin
+calls-join a b n j k h r = all-join a b n j k h r
 
-  -- B is refused, but not for want of room: so is the join, at the place moved along
-  pub calls-refused : (r : Refusal) → B .result ≡ Refused r → (r .number ≡ 3 → ⊥) → J .result ≡ Refused (movedRefusal (suc (length a)) (suc (length (charsOf a))) r)
-  unfolding lexed
-  calls-refused r h d =
-      answered J ∙ ap (roomed (roomIn J)) (answer ∙ ap (movedBehind a n) (room-refused (roomIn B) r (measured b) d (sym (answered B) ∙ h)))
+pub calls-refused : CallsRefused
+unfolding lexed
+calls-refused a b n j r h d =
+    answered (joined a b) (j .both) ∙ ap (roomed (roomIn (j .both))) (answer a b n j ∙ ap (movedBehind a n) (room-refused (roomIn (j .second)) r (measured b) d (sym (answered b (j .second)) ∙ h)))

@@ -24,21 +24,26 @@ use Rattle.munch.specs.declared.Step.{Step}
 use Rattle.munch.specs.declared.Step.the-variants.{Lexeme, Space, Comment, Refused, Finished}
 use Rattle.munch.specs.Munch.{outside, munched}
 use Rattle.scan.specs.laws.Edge.{Bytes}
-use Rattle.munch.specs.laws.Step.{Seam, same, grown, called, refused}
+use Rattle.munch.specs.laws.Step.{Goes, Seam, same, grown, called, refused}
+use Rattle.munch.proofs.Goes.{step-goes}
 use Rattle.munch.proofs.Seam.{step-seam}
-use Rattle.lex.specs.Steps.{stepsPast, stepsOf, Entry, entry, Reading, reads, ends, refuses, readFrom, readingOf}
-use Rattle.lex.proofs.Steps.{steps-at, goes-at}
+use Rattle.lex.specs.Outcome.{stepsPast, stepsOf, Entry, entry, Outcome, reads, ends, refuses, readFrom, outcomeOf}
+use Rattle.lex.proofs.Steps.{steps-at}
 use Rattle.join.specs.laws.Join.{joined, LastNoFill, movedEntry}
 use Rattle.join.proofs.Steps.{Accepts, lexemes, line-step, ended, blank}
 
--- a reading that goes on in another where it ends
-abbrev pub graft : Reading → Reading → Reading
+-- a step at an offset goes as steps do
+goes-at : (q : List ℕ) (at : ℕ) (m : Mode) {s : Step} → munched m (drop at q) ≡ s → Goes m (drop at q) s
+goes-at q at m e = rw e at (step-goes m (drop at q))
+
+-- an outcome that goes on in another where it ends
+abbrev pub graft : Outcome → Outcome → Outcome
 graft (reads e r) u = reads e (graft r u)
 graft (ends o) u = u
 graft (refuses n o) u = refuses n o
 
--- a reading moved along
-abbrev pub shifted : ℕ → Reading → Reading
+-- an outcome moved along
+abbrev pub shifted : ℕ → Outcome → Outcome
 shifted d (reads e r) = reads (movedEntry d e) (shifted d r)
 shifted d (ends o) = ends (d + o)
 shifted d (refuses n o) = refuses n (d + o)
@@ -59,7 +64,7 @@ plain-behind q e [] p = tt
 plain-behind q e (f ∷ es) p = p
 
 -- a query read from an offset on, in a mode
-abbrev readAt : List ℕ → ℕ → Mode → Reading
+abbrev readAt : List ℕ → ℕ → Mode → Outcome
 readAt q at m = readFrom at (stepsPast 0 m (drop at q))
 
 -- a fill word with nothing but white space behind it is the last lexeme
@@ -71,7 +76,7 @@ fill-last q at k n m w i r p =
     true≢false (sym i ∙ rw (blank (drop (at + n) q) m (at + n) t, w) at p)
 
 module _ (a b : List ℕ) where
-  abbrev behind : Reading
+  abbrev behind : Outcome
   behind = readFrom (suc (length a)) (stepsOf b)
 
   abbrev JoinsAt : ℕ → Mode → Type 0
@@ -88,45 +93,45 @@ module _ (a b : List ℕ) where
   join-end m h p =
       let d = ended m (length a) (rw drop-length at h) in
       let e : munched outside (drop (length a) (joined a b)) ≡ Space outside = rw (drop-append-seam a (code "\n" ∷ b)) (line-step b) in
-      let f : readAt (joined a b) (length a) m ≡ readAt (joined a b) (length a + 1) m = rw (d .1, steps-at (joined a b) (length a) outside e) in
+      let f : readAt (joined a b) (length a) m ≡ readAt (joined a b) (length a + 1) m = rw (d .1, steps-at (joined a b) (length a) outside _ e) in
       f ∙ join-behind m (length a) (length a + 1) refl refl h
 
   module _ (bytes : Bytes a) (at : ℕ) (m : Mode) (l : at < length a) (rest : (n : ℕ) (m′ : Mode) → 1 ≤ n → n ≤ length (drop at a) → JoinsAt (at + n) m′) where
-    join-step : {s s⁺ : Step} → Seam keywordOf (drop at a) s s⁺ → munched m (drop at a) ≡ s → munched m (drop at (joined a b)) ≡ s⁺ → JoinsAt at m
+    join-step : {s s⁺ : Step} → Seam (drop at a) s s⁺ → munched m (drop at a) ≡ s → munched m (drop at (joined a b)) ≡ s⁺ → JoinsAt at m
     unfolding readFrom
     join-step (same (Lexeme k n m′)) e f =
         let g = goes-at a at m e in
-        rw (steps-at a at m e, steps-at (joined a b) at m f)
+        rw (steps-at a at m _ e, steps-at (joined a b) at m _ f)
         (λ h p. ap (reads (entry k at n)) (rest n m′ (g .some) (g .within) h (plain-behind a (entry k at n) (lexemes (readAt a (at + n) m′)) p)))
     join-step (same (Space m′)) e f =
-        rw (steps-at a at m e, steps-at (joined a b) at m f) (rest 1 m′ (omega arith) (goes-at a at m e .within))
+        rw (steps-at a at m _ e, steps-at (joined a b) at m _ f) (rest 1 m′ (omega arith) (goes-at a at m e .within))
     join-step (same (Comment n)) e f =
         let g = goes-at a at m e in
-        rw (steps-at a at m e, steps-at (joined a b) at m f) (rest n m (g .some) (g .within))
-    join-step (same (Refused r o)) e f = rw (steps-at a at m e) (λ h p. absurd h)
+        rw (steps-at a at m _ e, steps-at (joined a b) at m _ f) (rest n m (g .some) (g .within))
+    join-step (same (Refused r o)) e f = rw (steps-at a at m _ e) (λ h p. absurd h)
     -- no byte is the end
     join-step (same Finished) e f =
         let g : peekAt a at ≡ end = rw (getD-drop, add-zero) at (goes-at a at m e .0) in
         absurd (omega (arith, bytes at l))
     join-step grown e f =
         let k = length (drop at a) in
-        rw (steps-at a at m e, steps-at (joined a b) at m f)
+        rw (steps-at a at m _ e, steps-at (joined a b) at m _ f)
         (λ h p. join-behind m (at + k) (at + suc k) (omega (arith, length-drop at a)) (omega (arith, length-drop at a)) h)
-    join-step (called k n m′ w i r) e f = rw (steps-at a at m e) (λ h p. absurd (fill-last a at k n m′ w i r p))
-    join-step (refused r o s) e f = rw (steps-at a at m e) (λ h p. absurd h)
+    join-step (called k n m′ w i r) e f = rw (steps-at a at m _ e) (λ h p. absurd (fill-last a at k n m′ w i r p))
+    join-step (refused r o s) e f = rw (steps-at a at m _ e) (λ h p. absurd h)
 
   -- fewer bytes of the first query are left than k
   joins : Bytes a → (k at : ℕ) (m : Mode) → at ≤ length a → length a < at + k → JoinsAt at m
   joins bytes zero at m l h = absurd (omega arith)
   joins bytes (suc k) at m l h = go (decLt at (length a)) (joins bytes k)
     where
-      seam : at < length a → Seam keywordOf (drop at a) (munched m (drop at a)) (munched m (drop at (joined a b)))
-      seam i = rw (drop-append-le at a (code "\n" ∷ b) l) (step-seam keywordOf m (drop at a) b (omega (arith, length-drop at a)))
+      seam : at < length a → Seam (drop at a) (munched m (drop at a)) (munched m (drop at (joined a b)))
+      seam i = rw (drop-append-le at a (code "\n" ∷ b) l) (step-seam m (drop at a) b (omega (arith, length-drop at a)))
 
       go : Dec (at < length a) → ((at : ℕ) (m : Mode) → at ≤ length a → length a < at + k → JoinsAt at m) → JoinsAt at m
       go (yes i) ih = join-step bytes at m i (λ n m′ s w. ih (at + n) m′ (omega (arith, length-drop at a)) (omega arith)) (seam i) refl refl
       go (no i) ih = let e : at ≡ length a = omega arith in rw e (join-end m)
 
-  pub read-joined : Bytes a → Accepts (readingOf a) → LastNoFill a (lexemes (readingOf a)) → readingOf (joined a b) ≡ graft (readingOf a) (shifted (suc (length a)) (readingOf b))
+  pub read-joined : Bytes a → Accepts (outcomeOf a) → LastNoFill a (lexemes (outcomeOf a)) → outcomeOf (joined a b) ≡ graft (outcomeOf a) (shifted (suc (length a)) (outcomeOf b))
   read-joined bytes h p =
-      joins bytes (suc (length a)) 0 outside (omega arith) (omega arith) h p ∙ ap (graft (readingOf a)) (rw add-zero at (read-shift (suc (length a)) (stepsOf b) 0))
+      joins bytes (suc (length a)) 0 outside (omega arith) (omega arith) h p ∙ ap (graft (outcomeOf a)) (rw add-zero at (read-shift (suc (length a)) (stepsOf b) 0))

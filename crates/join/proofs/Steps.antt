@@ -8,41 +8,40 @@ use mathlib.Core.List.{List, [], _∷_}
 use mathlib.Core.Path.{_≡_, refl}
 use lib.ListN.{length}
 use Rattle.scan.specs.declared.byte.Class.the-variants as class
-use Rattle.scan.specs.Byte.{isWithin, isSpace, isAlpha, isDigit, isIn}
+use Rattle.scan.specs.Byte.{isWithin, isSpace, isAlpha, isIn}
 use Rattle.scan.specs.Run.{runLength}
 use Rattle.proving.proofs.Below.{below}
 use Rattle.scan.proofs.Edges.{class-ascii}
-use Rattle.token.specs.Words.{keywordOf}
-use Rattle.munch.specs.Lead.{leadOf, braceLeadOf, bracketLeadOf}
+use Rattle.munch.specs.Word.{isWordStart}
 use Rattle.munch.specs.declared.Inside.{Inside}
 use Rattle.munch.specs.declared.Inside.the-variants.{Nothing, Braces, Brackets}
 use Rattle.munch.specs.declared.Mode.{Mode}
 use Rattle.munch.specs.declared.Step.{Step}
 use Rattle.munch.specs.declared.Step.the-variants.{Lexeme, Space, Comment, Refused, Finished}
-use Rattle.munch.specs.Munch.{mode, outside, outsideStep, braceStep, bracketStep, stepIn, munchedBy, munched}
+use Rattle.munch.specs.Munch.{mode, outside, outsideTable, braceTable, bracketTable, stepIn, munched}
 use Rattle.munch.specs.laws.Step.{Goes}
 use Rattle.munch.proofs.Goes.{step-goes}
-use Rattle.lex.specs.Steps.{stepsPast, Entry, Reading, reads, ends, refuses, readFrom}
+use Rattle.lex.specs.Outcome.{stepsPast, Entry, Outcome, reads, ends, refuses, readFrom}
 use Rattle.lex.proofs.Steps.{steps-at}
 
 -- a reading that is not refused, and its lexemes
-abbrev pub Accepts : Reading → Type 0
+abbrev pub Accepts : Outcome → Type 0
 Accepts (reads e r) = Accepts r
 Accepts (ends o) = Unit {0}
 Accepts (refuses n o) = ⊥
 
-abbrev pub lexemes : Reading → List Entry
+abbrev pub lexemes : Outcome → List Entry
 lexemes (reads e r) = e ∷ lexemes r
 lexemes (ends o) = []
 lexemes (refuses n o) = []
 
--- white space is neither letter nor digit
-not-white : (c : ℕ) → c < 0x80 → cond (isSpace c) (not (isAlpha c || isDigit c)) true ≡ true
-unfolding isSpace isAlpha isWithin
-not-white = below (λ c. cond (isSpace c) (not (isAlpha c || isDigit c)) true) 0x80 refl
+-- white space begins no word, outside and in braces
+not-white : (c : ℕ) → c < 0x80 → cond (isSpace c) (not (isWordStart c || isAlpha c)) true ≡ true
+unfolding isSpace isWordStart isAlpha isWithin
+not-white = below (λ c. cond (isSpace c) (not (isWordStart c || isAlpha c)) true) 0x80 refl
 
-white-is : (c : ℕ) → isSpace c ≡ true → (isAlpha c ≡ false) × (isDigit c ≡ false)
-white-is c e = go (isAlpha c) (isDigit c) (rw e at (not-white c (unfold isIn in class-ascii class.Space refl c e)))
+white-is : (c : ℕ) → isSpace c ≡ true → (isWordStart c ≡ false) × (isAlpha c ≡ false)
+white-is c e = go (isWordStart c) (isAlpha c) (rw e at (not-white c (unfold isIn in class-ascii class.Space refl c e)))
   where
     go : (a d : Bool) → not (a || d) ≡ true → (a ≡ false) × (d ≡ false)
     go true d h = (cc, cc)
@@ -50,22 +49,22 @@ white-is c e = go (isAlpha c) (isDigit c) (rw e at (not-white c (unfold isIn in 
     go false false h = (refl, refl)
 
 white-step : (m : Mode) (c : ℕ) (xs : List ℕ) → isSpace c ≡ true → (m′ : Mode) × (munched m (c ∷ xs) ≡ Space m′)
-unfolding munchedBy outsideStep braceStep bracketStep leadOf braceLeadOf bracketLeadOf
+unfolding munched stepIn outsideTable braceTable bracketTable
 white-step m c xs e = go (m .inside)
   where
-    go : (i : Inside) → (m′ : Mode) × (stepIn keywordOf (m .depth) i (c ∷ xs) ≡ Space m′)
+    go : (i : Inside) → (m′ : Mode) × (stepIn (m .depth) i c (c ∷ xs) ≡ Space m′)
     go Nothing = (mode (m .depth) Nothing, rw (white-is c e .0, e))
-    go Braces = (mode (m .depth) Braces, rw (white-is c e .0, e))
-    go (Brackets seen fresh) = (mode (m .depth) (Brackets seen false), rw (white-is c e .1, e))
+    go Braces = (mode (m .depth) Braces, rw (white-is c e .1, e))
+    go (Brackets seen fresh) = (mode (m .depth) (Brackets seen false), rw e)
 
 pub line-step : (xs : List ℕ) → munched outside (code "\n" ∷ xs) ≡ Space outside
-unfolding munchedBy outsideStep leadOf isAlpha isSpace isWithin
+unfolding munched stepIn outsideTable isWordStart isAlpha isSpace isWithin
 line-step xs = refl
 
 -- at the end no lexeme is left
 none-left : (m : Mode) (at : ℕ) → lexemes (readFrom at (stepsPast 0 m [])) ≡ []
 unfolding stepsPast readFrom
-none-left m at = go (munched m []) (step-goes keywordOf m [])
+none-left m at = go (munched m []) (step-goes m [])
   where
     go : (s : Step) → Goes m [] s → lexemes (readFrom at (s ∷ [])) ≡ []
     go (Lexeme k n m′) g = absurd (omega (arith, g .some, g .within))
@@ -77,7 +76,7 @@ none-left m at = go (munched m []) (step-goes keywordOf m [])
 -- and where the query is accepted, it ends there, outside all
 pub ended : (m : Mode) (at : ℕ) → Accepts (readFrom at (stepsPast 0 m [])) → (readFrom at (stepsPast 0 m []) ≡ ends at) × (m ≡ outside)
 unfolding stepsPast readFrom
-ended m at = go (munched m []) (step-goes keywordOf m [])
+ended m at = go (munched m []) (step-goes m [])
   where
     go : (s : Step) → Goes m [] s → Accepts (readFrom at (s ∷ [])) → (readFrom at (s ∷ []) ≡ ends at) × (m ≡ outside)
     go (Lexeme k n m′) g a = absurd (omega (arith, g .some, g .within))
@@ -101,4 +100,4 @@ blank [] m at e = none-left m at
 blank (x ∷ xs) m at e =
     let h = run-head (isIn class.Space) x xs e in
     let s = white-step m x xs (h .0) in
-    rw (steps-at (x ∷ xs) 0 m (s .1)) (blank xs (s .0) (at + 1) (h .1))
+    rw (steps-at (x ∷ xs) 0 m _ (s .1)) (blank xs (s .0) (at + 1) (h .1))

@@ -8,8 +8,8 @@ use mathlib.Core.List.{List, [], _∷_, _++_, map}
 use mathlib.Core.Path.{_≡_, refl, sym, _∙_}
 use lib.ListN.{length, drop, set, length-set, length-map}
 use lib.Seq.{sets, sets-eq}
-use Rattle.lex.specs.Steps.{Entry}
-use Rattle.lex.specs.Lex.{entriesOf, listed, kindOf, startOf, lengthOf}
+use Rattle.lex.specs.Outcome.{Entry}
+use Rattle.lex.specs.Lex.{entriesOf, listed, kindOf, startsAt, lengthOf}
 
 pub record Kept (f : Entry → ℕ) (all : List Entry) (d₀ d : List ℕ) (i : ℕ) (rest : List Entry) : Type 0 where
   pub same : length d ≡ length d₀
@@ -32,7 +32,7 @@ kept-end {f} {all} {d₀} h =
 -- the three lists that a query is lexed to
 pub record Written (q ks₀ ss₀ ls₀ ks ss ls : List ℕ) (i : ℕ) (rest : List Entry) : Type 0 where
   pub kinds : Kept kindOf (entriesOf q) ks₀ ks i rest
-  pub starts : Kept startOf (entriesOf q) ss₀ ss i rest
+  pub starts : Kept startsAt (entriesOf q) ss₀ ss i rest
   pub lengths : Kept lengthOf (entriesOf q) ls₀ ls i rest
 
 module _ {q ks₀ ss₀ ls₀ : List ℕ} where
@@ -40,14 +40,14 @@ module _ {q ks₀ ss₀ ls₀ : List ℕ} where
       → Written q ks₀ ss₀ ls₀ ks₀ ss₀ ls₀ 0 (entriesOf q)
   written-start h =
       let all = entriesOf q in
-      record { kinds = kept-start kindOf all ks₀ (h .0); starts = kept-start startOf all ss₀ (h .1); lengths = kept-start lengthOf all ls₀ (h .2) }
+      record { kinds = kept-start kindOf all ks₀ (h .0); starts = kept-start startsAt all ss₀ (h .1); lengths = kept-start lengthOf all ls₀ (h .2) }
 
   module _ {ks ss ls : List ℕ} {i : ℕ} where
     pub written-more : {ks′ ss′ ls′ : List ℕ} {e : Entry} {rest : List Entry} → Written q ks₀ ss₀ ls₀ ks ss ls i (e ∷ rest)
-        → (ks′ ≡ set ks i (kindOf e)) × ((ss′ ≡ set ss i (startOf e)) × (ls′ ≡ set ls i (lengthOf e)))
+        → (ks′ ≡ set ks i (kindOf e)) × ((ss′ ≡ set ss i (startsAt e)) × (ls′ ≡ set ls i (lengthOf e)))
         → Written q ks₀ ss₀ ls₀ ks′ ss′ ls′ (i + 1) rest
     written-more w p =
         record { kinds = rw (p .0) (kept-more (w .kinds)); starts = rw (p .1 .0) (kept-more (w .starts)); lengths = rw (p .1 .1) (kept-more (w .lengths)) }
 
-    pub written-end : Written q ks₀ ss₀ ls₀ ks ss ls i [] → (ks ≡ listed kindOf q ks₀) × ((ss ≡ listed startOf q ss₀) × (ls ≡ listed lengthOf q ls₀))
+    pub written-end : Written q ks₀ ss₀ ls₀ ks ss ls i [] → (ks ≡ listed kindOf q ks₀) × ((ss ≡ listed startsAt q ss₀) × (ls ≡ listed lengthOf q ls₀))
     written-end w = (kept-end (w .kinds), (kept-end (w .starts), kept-end (w .lengths)))

@@ -8,7 +8,7 @@ use contract.Lifetimes.{Lfts}
 use borrow.Fn.Kinds.{Dens}
 use denote.Ref.{now}
 use Rattle.scan.specs.Ascii.{ascii}
-use Rattle.scan.specs.Byte.{isWithin, isIn, isSpace, isAlpha, isAlphaNumeric, isWord, lowered}
+use Rattle.scan.specs.Byte.{isWithin, isIn, isSpace, isAlpha, isAlphaNumeric, isWord, isQuote, lowered}
 use Rattle.proving.proofs.One.{Answers, Leaves}
 use Rattle.scan.specs.Run.{runLength}
 use Rattle.scan.specs.Text.{has, sameText}
@@ -18,24 +18,23 @@ use Rattle.utf8.specs.Text.{charsPast, sizeOf, begunIn, charNumber}
 use Rattle.utf8.specs.Answers.{place, noRoom, validityOf, admitted, atStart, notUtf8}
 use Rattle.token.specs.Kinds.{identifier, comma}
 use Rattle.token.specs.Words.{words, kindIn, keywordOf}
-use Rattle.munch.specs.Lead.{symbolOf, leadOf}
-use Rattle.munch.specs.Word.{ruleBy, kindBy}
-use Rattle.munch.specs.Munch.{wordStep, bangStep, endStep, outsideStep, munchedBy}
+use Rattle.munch.specs.Word.{isWordStart, ruleBy, kindBy}
+use Rattle.munch.specs.Munch.{wordStep, bangStep, endStep, outsideTable, stepIn, munched}
 use Rattle.lex.specs.declared.Lexing.{Lexing}
 use Rattle.lex.specs.declared.Lexing.the-variants.{Count, Refused}
-use Rattle.lex.specs.Steps.{stepsPast, readFrom}
-use Rattle.lex.specs.Lex.{tallied, measured, lexed, listed, leftBy, kindOf, startOf, lengthOf, shortest, refusedBy}
+use Rattle.lex.specs.Outcome.{stepsPast, readFrom}
+use Rattle.lex.specs.Lex.{answerBy, measured, lexed, listed, leftAfter, kindOf, startsAt, lengthOf, shortest, notLexed}
 use Rattle.utf8.specs.declared.Refusal.{Refusal}
 use Rattle.lex.proofs.measure.Kinds as measure
 use Rattle.lex.proofs.measure.Reads as measure-reads
 use Rattle.lex.proofs.lexer.Kinds as lexer
 use Rattle.lex.proofs.lexer.Reads as lexer-reads
-use Rattle.lex.proofs.refused_by.Kinds as refused-by
-use Rattle.lex.proofs.refused_by.Reads as refused-by-reads
+use Rattle.lex.proofs.not_lexed.Kinds as not-lexed
+use Rattle.lex.proofs.not_lexed.Reads as not-lexed-reads
 
 -- what computes at a query
 lexing : Unit {0}
-unfolding lexed measured tallied stepsPast readFrom munchedBy outsideStep leadOf symbolOf wordStep bangStep endStep ruleBy kindBy keywordOf words kindIn admitted validityOf charsPast sizeOf charNumber begunIn charLength sizeIn fits codeOf isWithin isIn isSpace isAlpha isAlphaNumeric isWord lowered runLength sameText has
+unfolding lexed measured answerBy stepsPast readFrom munched stepIn outsideTable isWordStart isQuote wordStep bangStep endStep ruleBy kindBy keywordOf words kindIn admitted validityOf charsPast sizeOf charNumber begunIn charLength sizeIn fits codeOf isWithin isIn isSpace isAlpha isAlphaNumeric isWord lowered runLength sameText has
 lexing = tt
 
 -- a refusal by its number, at a byte and a character
@@ -85,7 +84,7 @@ shortest-list-is-the-room = lexer-at _ _ _ _
 abbrev lexer-leaves-kinds : List ℕ → List ℕ → List ℕ → List ℕ → List ℕ → Type 0
 lexer-leaves-kinds q ks ss ls v = Leaves lexer.ps lexer.r lexer-reads.Post (Given q ks ss ls) (λ κs e. now (e .1 .0)) v
 
-lexer-left-kinds : (q ks ss ls : List ℕ) → lexer-leaves-kinds q ks ss ls (leftBy (lexed (shortest (length ks) (length ss) (length ls)) q) (listed kindOf q ks) ks)
+lexer-left-kinds : (q ks ss ls : List ℕ) → lexer-leaves-kinds q ks ss ls (leftAfter (lexed (shortest (length ks) (length ss) (length ls)) q) (listed kindOf q ks) ks)
 lexer-left-kinds q ks ss ls κs a x e p h = cc (p .0, p .1 .0, h .0, h .1, h .2, h .3)
 
 pub kind-is-written : lexer-leaves-kinds (ascii "ab") nines nines nines (identifier ∷ 0 ∷ 9 ∷ [])
@@ -107,7 +106,7 @@ refused-query-leaves-the-kinds = lexer-left-kinds _ _ _ _
 abbrev lexer-leaves-starts : List ℕ → List ℕ → List ℕ → List ℕ → List ℕ → Type 0
 lexer-leaves-starts q ks ss ls v = Leaves lexer.ps lexer.r lexer-reads.Post (Given q ks ss ls) (λ κs e. now (e .1 .1 .0)) v
 
-lexer-left-starts : (q ks ss ls : List ℕ) → lexer-leaves-starts q ks ss ls (leftBy (lexed (shortest (length ks) (length ss) (length ls)) q) (listed startOf q ss) ss)
+lexer-left-starts : (q ks ss ls : List ℕ) → lexer-leaves-starts q ks ss ls (leftAfter (lexed (shortest (length ks) (length ss) (length ls)) q) (listed startsAt q ss) ss)
 lexer-left-starts q ks ss ls κs a x e p h = cc (p .0, p .1 .1 .0, h .0, h .1, h .2, h .3)
 
 pub end-starts-behind-the-last-byte : lexer-leaves-starts (ascii "ab") nines nines nines (0 ∷ 2 ∷ 9 ∷ [])
@@ -121,7 +120,7 @@ refused-query-leaves-the-starts = lexer-left-starts _ _ _ _
 abbrev lexer-leaves-lengths : List ℕ → List ℕ → List ℕ → List ℕ → List ℕ → Type 0
 lexer-leaves-lengths q ks ss ls v = Leaves lexer.ps lexer.r lexer-reads.Post (Given q ks ss ls) (λ κs e. now (e .1 .1 .1 .0)) v
 
-lexer-left-lengths : (q ks ss ls : List ℕ) → lexer-leaves-lengths q ks ss ls (leftBy (lexed (shortest (length ks) (length ss) (length ls)) q) (listed lengthOf q ls) ls)
+lexer-left-lengths : (q ks ss ls : List ℕ) → lexer-leaves-lengths q ks ss ls (leftAfter (lexed (shortest (length ks) (length ss) (length ls)) q) (listed lengthOf q ls) ls)
 lexer-left-lengths q ks ss ls κs a x e p h = cc (p .0, p .1 .1 .1, h .0, h .1, h .2, h .3)
 
 pub end-has-no-length : lexer-leaves-lengths (ascii "ab") nines nines nines (2 ∷ 0 ∷ 9 ∷ [])
@@ -132,14 +131,14 @@ pub refused-query-leaves-the-lengths : lexer-leaves-lengths (ascii "a!") nines n
 unfolding lexing
 refused-query-leaves-the-lengths = lexer-left-lengths _ _ _ _
 
-abbrev refused-by-gives : Lexing → Refusal → Type 0
-refused-by-gives t v = Answers refused-by.ps refused-by.r refused-by-reads.Post (λ κs a. a .0 ≡ t) (λ κs. v)
+abbrev not-lexed-gives : Lexing → Refusal → Type 0
+not-lexed-gives t v = Answers not-lexed.ps not-lexed.r not-lexed-reads.Post (λ κs a. a .0 ≡ t) (λ κs. v)
 
-refused-by-at : (t : Lexing) → refused-by-gives t (refusedBy t)
-refused-by-at t κs a x e p h = p ∙ ap refusedBy h
+not-lexed-at : (t : Lexing) → not-lexed-gives t (notLexed t)
+not-lexed-at t κs a x e p h = p ∙ ap notLexed h
 
-pub refusal-is-told-with-its-place : refused-by-gives (Refused (notUtf8 (place 3 2))) (notUtf8 (place 3 2))
-refusal-is-told-with-its-place = refused-by-at _
+pub refusal-is-told-with-its-place : not-lexed-gives (Refused (notUtf8 (place 3 2))) (notUtf8 (place 3 2))
+refusal-is-told-with-its-place = not-lexed-at _
 
-pub query-that-is-lexed-has-no-refusal : refused-by-gives (Count 1) (atStart 0)
-query-that-is-lexed-has-no-refusal = refused-by-at _
+pub query-that-is-lexed-has-no-refusal : not-lexed-gives (Count 1) (atStart 0)
+query-that-is-lexed-has-no-refusal = not-lexed-at _

@@ -12,7 +12,8 @@ ghost use Prim.Native.Nat.{_<_, _≤_};
 ghost use lib.ListN.{length, set};
 ghost use Rattle.utf8.specs.Answers.{textLimit};
 ghost use Rattle.token.specs.steps.WordRows.{wordTable};
-ghost use Rattle.lex.specs.Lex.{entriesOf, tallyOf, refusedAt, refusedIn, measured, refusedBy, lexed, listed, leftBy, kindOf, startOf, lengthOf, shortest};
+ghost use Rattle.lex.specs.Lex.{entriesOf, refusedAt, measured, notLexed, lexed, listed, leftAfter, kindOf, startsAt, lengthOf, shortest};
+ghost use Rattle.lex.specs.steps.Tally.{tallyOf, refusedIn};
 
 // How many lexemes a query has, or why it has none.
 pub enum Lexing {
@@ -112,8 +113,8 @@ pub fn measure(query: &[u8]) -> Lexing
 }
 
 // Why a query is refused; where it is not, a refusal of no number.
-pub fn refused_by(answer: Lexing) -> Refusal
-    ensures { λ r. ⌜ r ≡ refusedBy answer ⌝ }
+pub fn not_lexed(answer: Lexing) -> Refusal
+    ensures { λ r. ⌜ r ≡ notLexed answer ⌝ }
 {
     let Lexing::Refused(r) = answer else {
         return utf8::at_start(utf8::NO_REFUSAL);
@@ -148,7 +149,7 @@ fn write_lexemes(
     requires { ⌜ length (entriesOf (now query)) ≤ length (now starts) ⌝ }
     requires { ⌜ length (entriesOf (now query)) ≤ length (now lengths) ⌝ }
     ensures { λ _. ⌜ now (kinds .exit) ≡ listed kindOf (now (query .entry)) (now (kinds .entry)) ⌝ }
-    ensures { λ _. ⌜ now (starts .exit) ≡ listed startOf (now (query .entry)) (now (starts .entry)) ⌝ }
+    ensures { λ _. ⌜ now (starts .exit) ≡ listed startsAt (now (query .entry)) (now (starts .entry)) ⌝ }
     ensures { λ _. ⌜ now (lengths .exit) ≡ listed lengthOf (now (query .entry)) (now (lengths .entry)) ⌝ }
 {
     let mut at = 0;
@@ -204,9 +205,9 @@ fn shortest(a: usize, b: usize, c: usize) -> usize
 // Lexes a query to three lent lists, which it leaves as they were where it refuses.
 pub fn lexer(query: &[u8], kinds: &mut [u16], starts: &mut [u32], lengths: &mut [u32]) -> Lexing
     ensures { λ r. ⌜ r ≡ lexed (shortest (length (now (kinds .entry))) (length (now (starts .entry))) (length (now (lengths .entry)))) (now (query .entry)) ⌝ }
-    ensures { λ r. ⌜ now (kinds .exit) ≡ leftBy r (listed kindOf (now (query .entry)) (now (kinds .entry))) (now (kinds .entry)) ⌝ }
-    ensures { λ r. ⌜ now (starts .exit) ≡ leftBy r (listed startOf (now (query .entry)) (now (starts .entry))) (now (starts .entry)) ⌝ }
-    ensures { λ r. ⌜ now (lengths .exit) ≡ leftBy r (listed lengthOf (now (query .entry)) (now (lengths .entry))) (now (lengths .entry)) ⌝ }
+    ensures { λ r. ⌜ now (kinds .exit) ≡ leftAfter r (listed kindOf (now (query .entry)) (now (kinds .entry))) (now (kinds .entry)) ⌝ }
+    ensures { λ r. ⌜ now (starts .exit) ≡ leftAfter r (listed startsAt (now (query .entry)) (now (starts .entry))) (now (starts .entry)) ⌝ }
+    ensures { λ r. ⌜ now (lengths .exit) ≡ leftAfter r (listed lengthOf (now (query .entry)) (now (lengths .entry))) (now (lengths .entry)) ⌝ }
 {
     let m = measure(query);
     let Lexing::Count(n) = m else {

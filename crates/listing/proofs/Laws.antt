@@ -1,21 +1,21 @@
--- The program never lacks room: a query has no more lexemes than bytes, and its end (lex's `entries-few`), the numbers of each have the bits of
--- their lists (`entries-within`), and so no lexeme and no refusal is longer than its room (`lexeme-few`, `refused-few`).
+-- The program never lacks room: a query has no more lexemes than bytes, and its end and the numbers of each have the bits of their lists (lex's
+-- `entries-within`), and so no lexeme and no refusal is longer than its room (`lexeme-few`, `refused-few`).
 use Prim.Native.Nat.{ℕ, _*_, _≤_}
 use native.Mathlib.Omega.{arith}
 use mathlib.Core.List.{List, [], _∷_}
-use mathlib.Core.Path.{_≡_, refl, sym, _∙_}
+use mathlib.Core.Path.{_≡_, refl}
 use lib.Dec.{ltb}
 use lib.ListN.{length, length-append}
-use borrow.Author.Tests.{ltb-false}
+use borrow.Author.Tests.{le-leb, ltb-false}
 use Rattle.proving.proofs.Choice.{either}
 use Rattle.utf8.specs.Answers.{tooLong}
 use Rattle.lex.specs.declared.Lexing.{Lexing}
 use Rattle.lex.specs.declared.Lexing.the-variants.{Count, Refused}
-use Rattle.lex.specs.Steps.{Entry}
+use Rattle.lex.specs.Outcome.{Entry}
 use Rattle.lex.specs.Lex.{entriesOf, measured, lexed}
-use Rattle.lex.proofs.Few.{entries-few}
-use Rattle.lex.proofs.Entries.{AllWithin, entries-within}
-use Rattle.lex.proofs.Measures.{measured-count, fits}
+use Rattle.lex.specs.laws.Bounds.{AllWithin}
+use Rattle.lex.proofs.Entries.{entries-within}
+use Rattle.lex.proofs.Given.{measured-given}
 use Rattle.listing.specs.Listing.{inputLimit, mostLexemes, longestLexeme, mostText, refusal, lexemeText, lexemesText, printedBy, printed}
 use Rattle.listing.specs.laws.Listing.{RoomEnough, TextFits}
 use Rattle.listing.proofs.Few.{lexeme-few, refusal-few, refused-few}
@@ -25,7 +25,7 @@ unfolding lexed
 room-enough q h = go (measured q) refl
   where
     go : (x : Lexing) → measured q ≡ x → lexed mostLexemes q ≡ measured q
-    go (Count n) e = fits q n mostLexemes e (omega (arith, measured-count q n e .1, entries-few q)) ∙ sym e
+    go (Count n) e = let l : n ≤ mostLexemes = omega (arith, measured-given q n .0 e .2, entries-within q .1) in rw (e, le-leb n mostLexemes l)
     go (Refused r) e = rw e
 
 -- the lexemes of a query within the limit
@@ -45,5 +45,5 @@ text-fits q =
     long = omega (arith, refusal-few tooLong (omega arith) (omega arith) (omega arith))
 
     go : length q ≤ inputLimit → (x : Lexing) → lexed mostLexemes q ≡ x → length (printedBy q x) ≤ mostText
-    go h (Count n) e = omega (arith, lexemes-few (length q) h (entriesOf q) (entries-within q), entries-few q)
+    go h (Count n) e = omega (arith, lexemes-few (length q) h (entriesOf q) (entries-within q .0), entries-within q .1)
     go h (Refused r) e = omega (arith, refused-few mostLexemes q r e)

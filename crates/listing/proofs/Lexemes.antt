@@ -9,13 +9,13 @@ use lib.ListN.{length, take, drop, getD, length-map}
 use lib.Seq.{take-suc, take-all, take-at}
 use Rattle.lex.specs.declared.Lexing.{Lexing}
 use Rattle.lex.specs.declared.Lexing.the-variants.{Count}
-use Rattle.lex.specs.Steps.{Entry, entry}
-use Rattle.lex.specs.Lex.{entriesOf, lexed, listed, leftBy, kindOf, startOf, lengthOf, shortest}
+use Rattle.lex.specs.Outcome.{Entry, entry}
+use Rattle.lex.specs.Lex.{entriesOf, lexed, listed, leftAfter, kindOf, startsAt, lengthOf, shortest}
 use Rattle.lex.proofs.Given.{lexing-given}
 use Rattle.listing.specs.Listing.{lexemeText, lexemesText, zipped}
 
 -- three lists that hold the numbers of lexemes hold the lexemes
-zipped-back : (es : List Entry) → zipped (map kindOf es) (map startOf es) (map lengthOf es) ≡ es
+zipped-back : (es : List Entry) → zipped (map kindOf es) (map startsAt es) (map lengthOf es) ≡ es
 zipped-back [] = refl
 zipped-back (e ∷ es) = ap (λ (t : List Entry). e ∷ t) (zipped-back es)
 
@@ -25,14 +25,14 @@ listed-front f q d n h = take-at (map f (entriesOf q)) (drop (length (entriesOf 
 -- what `lexer` promises of an accepted query is that the first entries of the three lists are its lexemes, and that there is room for them
 pub lists-hold : (q ks ss ls : List ℕ) {x : Lexing} {n : ℕ} {ks′ ss′ ls′ : List ℕ}
     → (x ≡ lexed (shortest (length ks) (length ss) (length ls)) q)
-    × ((ks′ ≡ leftBy x (listed kindOf q ks) ks) × ((ss′ ≡ leftBy x (listed startOf q ss) ss) × (ls′ ≡ leftBy x (listed lengthOf q ls) ls)))
+    × ((ks′ ≡ leftAfter x (listed kindOf q ks) ks) × ((ss′ ≡ leftAfter x (listed startsAt q ss) ss) × (ls′ ≡ leftAfter x (listed lengthOf q ls) ls)))
     → x ≡ Count n
     → (n ≤ shortest (length ks) (length ss) (length ls)) × (zipped (take n ks′) (take n ss′) (take n ls′) ≡ entriesOf q)
 lists-hold q ks ss ls {n = n} p told =
     let w = (lexing-given (shortest (length ks) (length ss) (length ls)) q .4 n) .0 (sym (p .0) ∙ told) in
-    let kinds = ap (take n) (p .1 .0 ∙ ap (λ y. leftBy y (listed kindOf q ks) ks) told) ∙ listed-front kindOf q ks n (w .2) in
-    let starts = ap (take n) (p .1 .1 .0 ∙ ap (λ y. leftBy y (listed startOf q ss) ss) told) ∙ listed-front startOf q ss n (w .2) in
-    let lengths = ap (take n) (p .1 .1 .1 ∙ ap (λ y. leftBy y (listed lengthOf q ls) ls) told) ∙ listed-front lengthOf q ls n (w .2) in
+    let kinds = ap (take n) (p .1 .0 ∙ ap (λ y. leftAfter y (listed kindOf q ks) ks) told) ∙ listed-front kindOf q ks n (w .2) in
+    let starts = ap (take n) (p .1 .1 .0 ∙ ap (λ y. leftAfter y (listed startsAt q ss) ss) told) ∙ listed-front startsAt q ss n (w .2) in
+    let lengths = ap (take n) (p .1 .1 .1 ∙ ap (λ y. leftAfter y (listed lengthOf q ls) ls) told) ∙ listed-front lengthOf q ls n (w .2) in
     (w .3, rw (kinds, starts, lengths) (zipped-back (entriesOf q)))
 
 one-more : (es : List Entry) (e : Entry) → lexemesText (es ++ e ∷ []) ≡ lexemesText es ++ lexemeText e

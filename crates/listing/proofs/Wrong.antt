@@ -9,7 +9,7 @@ use lib.ListN.{length, replicate, length-replicate}
 use denote.Ref.{now}
 use borrow.Author.Tests.{le-ltb, lt-ltb}
 use Rattle.scan.specs.Ascii.{ascii}
-use Rattle.scan.specs.Byte.{isWithin, lowered, isIn, isAlpha, isSpace, isAlphaNumeric, isWord}
+use Rattle.scan.specs.Byte.{isWithin, lowered, isIn, isAlpha, isSpace, isAlphaNumeric, isWord, isQuote}
 use Rattle.proving.proofs.One.{Answers, Leaves}
 use Rattle.scan.specs.Run.{runLength}
 use Rattle.scan.specs.Text.{has, sameText}
@@ -21,11 +21,10 @@ use Rattle.utf8.proofs.Given.{given-exactly}
 use Rattle.writing.specs.Put.{putAt, pastAt}
 use Rattle.writing.specs.Decimal.{digitFor, digitsWithin, decimalText}
 use Rattle.token.specs.Words.{words, kindIn, keywordOf}
-use Rattle.munch.specs.Lead.{symbolOf, leadOf}
-use Rattle.munch.specs.Word.{ruleBy, kindBy}
-use Rattle.munch.specs.Munch.{wordStep, endStep, outsideStep, munchedBy}
-use Rattle.lex.specs.Steps.{stepsPast, readFrom}
-use Rattle.lex.specs.Lex.{tallied, measured, lexed}
+use Rattle.munch.specs.Word.{isWordStart, ruleBy, kindBy}
+use Rattle.munch.specs.Munch.{wordStep, endStep, outsideTable, stepIn, munched}
+use Rattle.lex.specs.Outcome.{stepsPast, readFrom}
+use Rattle.lex.specs.Lex.{answerBy, measured, lexed}
 use Rattle.listing.specs.Listing.{inputLimit, refusal, lexemesText, printedBy, printed}
 use Rattle.listing.proofs.list_lexemes.Kinds as list-lexemes
 use Rattle.listing.proofs.list_lexemes.Reads as list-lexemes-reads
@@ -36,7 +35,7 @@ unfolding putAt pastAt refusal decimalText digitsWithin digitFor
 writing = tt
 
 listing : Unit {0}
-unfolding writing printed printedBy lexemesText lexed measured tallied stepsPast readFrom munchedBy outsideStep leadOf symbolOf wordStep endStep ruleBy kindBy keywordOf words kindIn admitted validityOf charsPast sizeOf charNumber begunIn charLength sizeIn fits codeOf isWithin isIn isSpace isAlpha isAlphaNumeric isWord lowered runLength sameText has
+unfolding writing printed printedBy lexemesText lexed measured answerBy stepsPast readFrom munched stepIn outsideTable isWordStart isQuote wordStep endStep ruleBy kindBy keywordOf words kindIn admitted validityOf charsPast sizeOf charNumber begunIn charLength sizeIn fits codeOf isWithin isIn isSpace isAlpha isAlphaNumeric isWord lowered runLength sameText has
 listing = tt
 
 -- a buffer of so many dots

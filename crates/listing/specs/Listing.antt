@@ -10,7 +10,7 @@ use Rattle.utf8.specs.Answers.{tooLong}
 use Rattle.writing.specs.Decimal.{mostDigits, decimalText}
 use Rattle.lex.specs.declared.Lexing.{Lexing}
 use Rattle.lex.specs.declared.Lexing.the-variants.{Count, Refused}
-use Rattle.lex.specs.Steps.{Entry, entry}
+use Rattle.lex.specs.Outcome.{Entry, entry}
 use Rattle.lex.specs.Lex.{entriesOf, lexed}
 
 -- "Order of the port" 6: "for at most 4,096 bytes"
@@ -30,12 +30,12 @@ abbrev pub mostText : ℕ
 mostText = mostLexemes * longestLexeme
 
 -- a number, and what follows it
-abbrev pub numbered : ℕ → List ℕ → List ℕ
-numbered n after = decimalText n ++ after
+abbrev pub numberThen : ℕ → List ℕ → List ℕ
+numberThen n after = decimalText n ++ after
 
 -- three numbers, with a space between them and LF behind
 abbrev pub numbers : ℕ → ℕ → ℕ → List ℕ
-numbers a b c = numbered a (ascii " ") ++ numbered b (ascii " ") ++ numbered c (ascii "\n")
+numbers a b c = numberThen a (ascii " ") ++ numberThen b (ascii " ") ++ numberThen c (ascii "\n")
 
 -- the most bytes that they take, and a line
 abbrev pub mostNumbers : ℕ

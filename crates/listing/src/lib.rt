@@ -7,9 +7,9 @@ ghost use Prim.Native.Nat.{_+_, _≤_};
 ghost use lib.ListN.{length};
 ghost use Rattle.writing.specs.Put.{putAt, pastAt};
 ghost use Rattle.writing.specs.Decimal.{mostDigits};
-ghost use Rattle.lex.specs.Steps.{entry};
+ghost use Rattle.lex.specs.Outcome.{entry};
 ghost use Rattle.lex.specs.Lex.{lexed};
-ghost use Rattle.listing.specs.Listing.{mostLexemes, mostText, mostNumbers, numbered, numbers, refusal, lexemeText, lexemesText, zipped, printedBy, printed};
+ghost use Rattle.listing.specs.Listing.{mostLexemes, mostText, mostNumbers, numberThen, numbers, refusal, lexemeText, lexemesText, zipped, printedBy, printed};
 ghost use Rattle.listing.specs.steps.Puts.{Puts};
 
 // A longer input is refused.
@@ -30,7 +30,7 @@ const LONGEST_LINE: usize = 71;
 // Writes a number and what follows it.
 fn put_number(out: &mut [u8], at: usize, n: usize, after: &[u8]) -> usize
     requires { ⌜ at + mostDigits + length (now after) ≤ length (now out) ⌝ }
-    ensures { λ r. ⌜ Puts (numbered n (now (after .entry))) (now (out .entry)) at r (now (out .exit)) ⌝ }
+    ensures { λ r. ⌜ Puts (numberThen n (now (after .entry))) (now (out .entry)) at r (now (out .exit)) ⌝ }
 {
     let next = writing::put_decimal(out, at, n as u64);
     writing::put_text(out, next, after)
@@ -99,7 +99,7 @@ fn lex_to(
 {
     let x = lex::lexer(query, kinds, starts, lengths);
     let Lexing::Count(n) = x else {
-        return put_refusal(text, 0, lex::refused_by(x));
+        return put_refusal(text, 0, lex::not_lexed(x));
     };
     put_lexemes(&kinds[..n], &starts[..n], &lengths[..n], text)
 }

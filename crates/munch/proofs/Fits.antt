@@ -1,5 +1,5 @@
--- The kind of a lexeme that a step takes has 16 bits: a definition names it, a sign has it (`lead-begun`), or a word (`word-fits`). By the mode,
--- then by what the first byte begins.
+-- The kind of a lexeme that a step takes has 16 bits: a definition names it, or a word has it (`word-fits`). By the mode, then by the rows of its
+-- table.
 use Prim.Native.Nat.{ℕ, _^_, _<_}
 use Prim.Native.Char.{code}
 use native.Mathlib.Omega.{arith}
@@ -20,29 +20,14 @@ use Rattle.numeral.specs.Numeral.{numeralOf}
 use Rattle.quoted.specs.declared.Quoted.{Quoted}
 use Rattle.quoted.specs.declared.Quoted.the-variants as quoting
 use Rattle.quoted.specs.Quoted.{quotedOf}
-use Rattle.munch.specs.declared.lead.Lead.{Lead}
-use Rattle.munch.specs.declared.lead.Lead.the-variants as lead
-use Rattle.munch.specs.declared.lead.BraceLead.{BraceLead}
-use Rattle.munch.specs.declared.lead.BraceLead.the-variants as brace
-use Rattle.munch.specs.declared.lead.BracketLead.{BracketLead}
-use Rattle.munch.specs.declared.lead.BracketLead.the-variants as bracket
-use Rattle.munch.specs.Lead.{leadOf, braceLeadOf, bracketLeadOf}
-use Rattle.munch.specs.laws.Lead.{Begun}
-use Rattle.munch.proofs.lead.Leads.{lead-begun}
 use Rattle.munch.proofs.word.Fits.{word-fits, brace-word-fits}
 use Rattle.munch.specs.declared.Inside.{Inside}
 use Rattle.munch.specs.declared.Inside.the-variants.{Nothing, Braces, Brackets}
 use Rattle.munch.specs.declared.Mode.{Mode}
 use Rattle.munch.specs.declared.Step.{Step}
-use Rattle.munch.specs.declared.Step.the-variants.{Lexeme, Space, Comment, Refused, Finished}
-use Rattle.munch.specs.Munch.{mode, ifNext, numberBy, numberStep, dotStep, quotedBy, quotedStep, commentStep, wordStep, equalsStep, bangStep, compareStep, rightParenStep, leftBracketStep, endStep, outsideStep, braceWord, braceEquals, braceBang, braceStep, colonStep, bracketStep, stepIn, munchedBy, munched}
-
-abbrev pub Fits : Step → Type 0
-Fits (Lexeme k n m) = k < 2 ^ 16
-Fits (Space m) = Unit {0}
-Fits (Comment n) = Unit {0}
-Fits (Refused r o) = Unit {0}
-Fits Finished = Unit {0}
+use Rattle.munch.specs.Munch.{mode, ifNext, numberBy, numberStep, dotStep, quotedBy, quotedStep, commentStep, wordStep, equalsStep, bangStep, compareStep, rightParenStep, endStep, braceWord, braceEquals, braceBang, colonStep, outsideTable, braceTable, bracketTable, stepIn, munched}
+use Rattle.munch.specs.laws.Step.{Fits, StepFits}
+use Rattle.munch.proofs.Openings.{Each, by-rows}
 
 module _ (m : Mode) (xs : List ℕ) where
   number-fits : Fits (numberStep m xs)
@@ -99,62 +84,165 @@ module _ (d : ℕ) (xs : List ℕ) where
   unfolding endStep
   end-fits = either Fits (eqb d 0) (λ e. tt) (λ e. tt)
 
-  outside-fits : (k : Lead) → Begun k (peekAt xs 0) → Fits (outsideStep keywordOf d xs k)
-  unfolding outsideStep wordStep commentStep leftBracketStep
-  outside-fits lead.Letter h = let n = runEnd (isIn Word) xs 1 in word-fits xs n (keywordOf (take n xs)) (keyword-fits (take n xs))
-  outside-fits lead.White h = tt
-  outside-fits lead.Hash h = tt
-  outside-fits lead.Quote h = string-fits (mode d Nothing) xs
-  outside-fits (lead.Sign k) h = h .1
-  outside-fits lead.Digit h = number-fits (mode d Nothing) xs
-  outside-fits lead.Dot h = dot-fits (mode d Nothing) xs
-  outside-fits lead.Equals h = equals-fits (mode d Nothing) xs
-  outside-fits lead.Bang h = bang-fits (mode d Nothing) xs
-  outside-fits lead.Less h = compare-fits (mode d Nothing) xs lte lss (omega arith) (omega arith)
-  outside-fits lead.Greater h = compare-fits (mode d Nothing) xs gte gtr (omega arith) (omega arith)
-  outside-fits lead.LeftParen h = omega arith
-  outside-fits lead.RightParen h = paren-fits
-  outside-fits lead.LeftBrace h = omega arith
-  outside-fits lead.RightBrace h = tt
-  outside-fits lead.LeftBracket h = omega arith
-  outside-fits lead.RightBracket h = tt
-  outside-fits lead.End h = end-fits
-  outside-fits lead.Other h = tt
+  colon-fits : (seen fresh : Bool) → Fits (colonStep d seen fresh)
+  unfolding colonStep
+  colon-fits seen fresh = either Fits seen (λ e. tt) (λ e. either Fits fresh (λ f. tt) (λ f. omega arith))
 
-  brace-fits : (k : BraceLead) → Fits (braceStep d xs k)
-  unfolding braceStep braceWord commentStep
-  brace-fits brace.Letter = brace-word-fits xs (runEnd (isIn AlphaNumeric) xs 1)
-  brace-fits brace.White = tt
-  brace-fits brace.Hash = tt
-  brace-fits brace.Quote = string-fits (mode d Braces) xs
-  brace-fits brace.Comma = omega arith
-  brace-fits brace.Equals = regex-fits (mode d Braces) xs
-  brace-fits brace.Bang = brace-bang-fits (mode d Braces) xs
-  brace-fits brace.RightBrace = omega arith
-  brace-fits brace.LeftBrace = tt
-  brace-fits brace.End = tt
-  brace-fits brace.Other = tt
+  word-step-fits : (m : Mode) → Fits (wordStep m xs)
+  unfolding wordStep
+  word-step-fits m = let n = runEnd (isIn Word) xs 1 in word-fits xs n (keywordOf (take n xs)) (keyword-fits (take n xs))
 
-  module _ (seen fresh : Bool) where
-    colon-fits : Fits (colonStep d seen fresh)
-    unfolding colonStep
-    colon-fits = either Fits seen (λ e. tt) (λ e. either Fits fresh (λ f. tt) (λ f. omega arith))
+  brace-word-step-fits : (m : Mode) → Fits (braceWord m xs)
+  unfolding braceWord
+  brace-word-step-fits m = brace-word-fits xs (runEnd (isIn AlphaNumeric) xs 1)
 
-    bracket-fits : (k : BracketLead) → Fits (bracketStep d seen fresh xs k)
-    unfolding bracketStep
-    bracket-fits bracket.Digit = number-fits _ xs
-    bracket-fits bracket.White = tt
-    bracket-fits bracket.Colon = colon-fits
-    bracket-fits bracket.RightBracket = omega arith
-    bracket-fits bracket.LeftBracket = tt
-    bracket-fits bracket.End = tt
-    bracket-fits bracket.Other = tt
+  -- of the bytes that are left
+  abbrev Small : (List ℕ → Step) → Type 0
+  Small step = Fits (step xs)
 
-  inside-fits : (i : Inside) → Fits (stepIn keywordOf d i xs)
-  inside-fits Nothing = outside-fits (leadOf (peekAt xs 0)) (lead-begun (peekAt xs 0))
-  inside-fits Braces = brace-fits (braceLeadOf (peekAt xs 0))
-  inside-fits (Brackets seen fresh) = bracket-fits seen fresh (bracketLeadOf (peekAt xs 0))
+  outside-fits : Each Small (peekAt xs 0) (outsideTable d)
+  unfolding outsideTable commentStep
+  outside-fits =
+      let here = mode d Nothing in (
+        (λ h. word-step-fits here),
+        (
+          (λ h. tt),
+          (
+            (λ h. string-fits here xs),
+            (
+              (λ h. number-fits here xs),
+              (
+                (λ h. end-fits),
+                (
+                  (λ h. tt),
+                  (
+                    (λ h. dot-fits here xs),
+                    (
+                      (λ h. omega arith),
+                      (
+                        (λ h. paren-fits),
+                        (
+                          (λ h. omega arith),
+                          (
+                            (λ h. tt),
+                            (
+                              (λ h. omega arith),
+                              (
+                                (λ h. tt),
+                                (
+                                  (λ h. omega arith),
+                                  (
+                                    (λ h. equals-fits here xs),
+                                    (
+                                      (λ h. omega arith),
+                                      (
+                                        (λ h. omega arith),
+                                        (
+                                          (λ h. omega arith),
+                                          (
+                                            (λ h. omega arith),
+                                            (
+                                              (λ h. omega arith),
+                                              (
+                                                (λ h. omega arith),
+                                                (
+                                                  (λ h. bang-fits here xs),
+                                                  (
+                                                    (λ h. compare-fits here xs lte lss (omega arith) (omega arith)),
+                                                    (
+                                                      (λ h. compare-fits here xs gte gtr (omega arith) (omega arith)),
+                                                      (
+                                                        (λ h. omega arith),
+                                                        tt,
+                                                      ),
+                                                    ),
+                                                  ),
+                                                ),
+                                              ),
+                                            ),
+                                          ),
+                                        ),
+                                      ),
+                                    ),
+                                  ),
+                                ),
+                              ),
+                            ),
+                          ),
+                        ),
+                      ),
+                    ),
+                  ),
+                ),
+              ),
+            ),
+          ),
+        ),
+      )
 
-pub step-fits : (m : Mode) (xs : List ℕ) → Fits (munched m xs)
-unfolding munchedBy
+  brace-fits : Each Small (peekAt xs 0) (braceTable d)
+  unfolding braceTable commentStep
+  brace-fits =
+      let here = mode d Braces in (
+        (λ h. brace-word-step-fits here),
+        (
+          (λ h. tt),
+          (
+            (λ h. string-fits here xs),
+            (
+              (λ h. tt),
+              (
+                (λ h. tt),
+                (
+                  (λ h. tt),
+                  (
+                    (λ h. omega arith),
+                    (
+                      (λ h. omega arith),
+                      (
+                        (λ h. regex-fits here xs),
+                        (
+                          (λ h. brace-bang-fits here xs),
+                          tt,
+                        ),
+                      ),
+                    ),
+                  ),
+                ),
+              ),
+            ),
+          ),
+        ),
+      )
+
+  bracket-fits : (seen fresh : Bool) → Each Small (peekAt xs 0) (bracketTable d seen fresh)
+  unfolding bracketTable
+  bracket-fits seen fresh = (
+    (λ h. tt),
+    (
+      (λ h. number-fits _ xs),
+      (
+        (λ h. tt),
+        (
+          (λ h. tt),
+          (
+            (λ h. omega arith),
+            (
+              (λ h. colon-fits seen fresh),
+              tt,
+            ),
+          ),
+        ),
+      ),
+    ),
+  )
+
+  inside-fits : (i : Inside) → Fits (stepIn d i (peekAt xs 0) xs)
+  unfolding stepIn
+  inside-fits Nothing = by-rows Small (peekAt xs 0) (outsideTable d) 19 outside-fits (λ n. tt)
+  inside-fits Braces = by-rows Small (peekAt xs 0) (braceTable d) 26 brace-fits (λ n. tt)
+  inside-fits (Brackets seen fresh) = by-rows Small (peekAt xs 0) (bracketTable d seen fresh) 31 (bracket-fits seen fresh) (λ n. tt)
+
+pub step-fits : StepFits
+unfolding munched
 step-fits m xs = inside-fits (m .depth) xs (m .inside)

@@ -1,19 +1,18 @@
--- A step is refused exactly when its row holds. Forward, by the mode and the lead: the tests that lead to a refusal in the definition, and what
--- the lead says of the byte that begins (`lead/specs/Laws`), are its row's condition. Backward, a row's condition fixes the mode and the lead, so that the
--- definition comes to the row's refusal. No two rows hold together, since a step has one answer.
+-- A step is refused exactly when its row holds. Forward, by the mode and the rows of its table: the tests that lead to a refusal there are the
+-- condition of document 01's row. Backward, that condition fixes the mode and the first byte, so that the table comes to the refusal; a byte that
+-- none of its rows is for is another character in 01's words. No two rows hold together, since a step has one answer.
 use Prim.Native.Nat.{ℕ, suc, _≤_}
 use Prim.Native.Char.{code}
 use native.Mathlib.Omega.{arith}
+use mathlib.Core.Bool.{true, false}
 use mathlib.Core.List.{List}
 use mathlib.Core.Logic.{inl, inr}
 use mathlib.Core.Path.{_≡_, refl, ap, subst, _∙_}
 use lib.Dec.{eqb}
 use lib.ListN.{drop}
 use borrow.Author.Tests.{eqb-true, eqb-false, ne-eqb}
-use Rattle.scan.specs.Byte.{end, peekAt, isWithin, isSpace, isAlpha, isDigit}
+use Rattle.scan.specs.Byte.{end, peekAt, isWithin, isSpace, isAlpha, isDigit, isQuote}
 use Rattle.proving.proofs.Choice.{either}
-use Rattle.token.specs.declared.Keyword.{Keyword}
-use Rattle.token.specs.declared.Keyword.the-variants as keyword
 use Rattle.numeral.specs.declared.Numeral.{Numeral}
 use Rattle.numeral.specs.declared.Numeral.the-variants.{Number, Duration, Neither}
 use Rattle.numeral.specs.Numeral.{numeralOf}
@@ -22,22 +21,16 @@ use Rattle.quoted.specs.declared.Quoted.the-variants as quoting
 use Rattle.quoted.specs.Quoted.{unknownEscape, endInEscape, endInString, quotedOf}
 use Rattle.quoted.specs.laws.Quoted.{Numbered}
 use Rattle.quoted.proofs.Strings.{string-numbered}
-use Rattle.munch.specs.declared.lead.Lead.{Lead}
-use Rattle.munch.specs.declared.lead.Lead.the-variants as lead
-use Rattle.munch.specs.declared.lead.BraceLead.{BraceLead}
-use Rattle.munch.specs.declared.lead.BraceLead.the-variants as brace
-use Rattle.munch.specs.declared.lead.BracketLead.{BracketLead}
-use Rattle.munch.specs.declared.lead.BracketLead.the-variants as bracket
-use Rattle.munch.specs.Lead.{symbolOf, leadOf, braceSymbolOf, braceLeadOf, bracketSymbolOf, bracketLeadOf}
-use Rattle.munch.specs.laws.Lead.{Begun, BraceBegun, BracketBegun}
-use Rattle.munch.proofs.lead.Leads.{lead-begun, brace-lead-begun, bracket-lead-begun, digit-lead, quote-lead, quote-brace-lead}
 use Rattle.munch.specs.declared.Inside.{Inside}
 use Rattle.munch.specs.declared.Inside.the-variants.{Nothing, Braces, Brackets}
 use Rattle.munch.specs.declared.Mode.{Mode}
 use Rattle.munch.specs.declared.Step.{Step}
 use Rattle.munch.specs.declared.Step.the-variants.{Lexeme, Space, Comment, Refused, Finished}
-use Rattle.munch.specs.Munch.{ifNext, numberBy, numberStep, dotStep, quotedBy, quotedStep, commentStep, wordStep, equalsStep, bangStep, compareStep, rightParenStep, leftBracketStep, endStep, outsideStep, braceWord, braceEquals, braceBang, braceStep, colonStep, bracketStep, stepIn, munchedBy}
-use Rattle.munch.specs.laws.Rows.{Outside, InBraces, InBrackets, Follows, NumberBegins, StringBegins, StringFails, Row, row10, row11, row12, row13, row14, row15, row16, row17, row18, row19, row20, row21, row22, row23, row24, row25, row26, row27, row28, row29, row30, row31, row32, RowsGiven, OneRow}
+use Rattle.munch.specs.Word.{isWordStart}
+use Rattle.munch.specs.Munch.{ifNext, refuse, numberBy, numberStep, dotStep, quotedBy, quotedStep, commentStep, wordStep, equalsStep, bangStep, compareStep, rightParenStep, endStep, braceWord, braceEquals, braceBang, colonStep, outsideTable, braceTable, bracketTable, stepIn, munched}
+use Rattle.munch.proofs.Openings.{Each, by-rows, none-takes}
+use Rattle.munch.proofs.Starts.{digit-outside, digit-in-brackets, quote-outside, quote-in-braces}
+use Rattle.munch.specs.laws.Rows.{Outside, InBraces, InBrackets, Begins, Follows, namedOutside, namedInBraces, namedInBrackets, NumberBegins, StringBegins, StringFails, Row, row10, row11, row12, row13, row14, row15, row16, row17, row18, row19, row20, row21, row22, row23, row24, row25, row26, row27, row28, row29, row30, row31, row32, RowsGiven, RowNumbers, OneRow}
 
 -- what a step tells: of a refusal, its row
 abbrev Told : Mode → List ℕ → Step → Type 0
@@ -73,133 +66,251 @@ module _ (m : Mode) (xs : List ℕ) where
       go (quoting.Refused r n) e (inr (inl f)) = rw f (row22 n (b, e ∙ rw f))
       go (quoting.Refused r n) e (inr (inr f)) = rw f (row23 n (b, e ∙ rw f))
 
-  outside-told : (look : List ℕ → Keyword) → Outside m → (l : Lead) → leadOf (peekAt xs 0) ≡ l → Begun l (peekAt xs 0) → Told m xs (outsideStep look (m .depth) xs l)
-  unfolding outsideStep wordStep commentStep dotStep equalsStep bangStep compareStep rightParenStep leftBracketStep endStep
-  outside-told look o lead.Letter e b = tt
-  outside-told look o lead.White e b = tt
-  outside-told look o lead.Hash e b = tt
-  outside-told look o lead.Quote e b = string-told (inl o, b) _
-  outside-told look o (lead.Sign k) e b = tt
-  outside-told look o lead.Digit e b = number-told (inl (inl o, b)) _
-  outside-told look o lead.Dot e b =
-      either (Told m xs) (isDigit (peekAt xs 1)) (λ d. number-told (inr (o, b, d)) _)
-      (λ d. by-second (Told m xs) xs end (λ f. row15 (o, b, f)) (λ f. row14 (o, b, d, f)))
-  outside-told look o lead.Equals e b = by-second (Told m xs) xs (code "=") (λ f. tt) (λ f. by-second (Told m xs) xs (code "~") (λ g. row11 (o, b, g)) (λ g. tt))
-  outside-told look o lead.Bang e b = by-second (Told m xs) xs (code "=") (λ f. tt) (λ f. by-second (Told m xs) xs end (λ g. row13 (inl o, b, g)) (λ g. row12 (o, b, f, g)))
-  outside-told look o lead.Less e b = by-second (Told m xs) xs (code "=") (λ f. tt) (λ f. tt)
-  outside-told look o lead.Greater e b = by-second (Told m xs) xs (code "=") (λ f. tt) (λ f. tt)
-  outside-told look o lead.LeftParen e b = tt
-  outside-told look o lead.RightParen e b =
-      either (Told m xs) (eqb (m .depth) 0) (λ d. row16 (o, b, eqb-true (m .depth) 0 d)) (λ d. tt)
-  outside-told look o lead.LeftBrace e b = tt
-  outside-told look o lead.RightBrace e b = row17 (o, b)
-  outside-told look o lead.LeftBracket e b = tt
-  outside-told look o lead.RightBracket e b = row18 (o, b)
-  outside-told look o lead.End e b =
-      either (Told m xs) (eqb (m .depth) 0) (λ d. tt) (λ d. row10 (o, b, omega (arith, eqb-false (m .depth) 0 d)))
-  outside-told look o lead.Other e b = row19 (o, e)
+  -- of the bytes that are left
+  abbrev Telling : (List ℕ → Step) → Type 0
+  Telling step = Told m xs (step xs)
 
-  braces-told : InBraces m → (l : BraceLead) → braceLeadOf (peekAt xs 0) ≡ l → BraceBegun l (peekAt xs 0) → Told m xs (braceStep (m .depth) xs l)
-  unfolding braceStep braceWord commentStep braceEquals braceBang
-  braces-told i brace.Letter e b = tt
-  braces-told i brace.White e b = tt
-  braces-told i brace.Hash e b = tt
-  braces-told i brace.Quote e b = string-told (inr i, b) _
-  braces-told i brace.Comma e b = tt
-  braces-told i brace.Equals e b = by-second (Told m xs) xs (code "~") (λ f. tt) (λ f. tt)
-  braces-told i brace.Bang e b =
-      by-second (Told m xs) xs (code "=") (λ f. tt)
-      (λ f. by-second (Told m xs) xs (code "~") (λ g. tt) (λ g. by-second (Told m xs) xs end (λ h. row13 (inr i, b, h)) (λ h. row24 (i, b, f, g, h))))
-  braces-told i brace.RightBrace e b = tt
-  braces-told i brace.LeftBrace e b = row25 (i, b)
-  braces-told i brace.End e b = row27 (i, b)
-  braces-told i brace.Other e b = row26 (i, e)
+  -- the first byte is a sign
+  begun : (y : ℕ) → eqb (peekAt xs 0) y ≡ true → Begins y xs
+  begun y h = eqb-true (peekAt xs 0) y h
 
-  brackets-told : (i : InBrackets m) (l : BracketLead) → bracketLeadOf (peekAt xs 0) ≡ l → BracketBegun l (peekAt xs 0) → Told m xs (bracketStep (m .depth) (i .seen) (i .fresh) xs l)
-  unfolding bracketStep colonStep
-  brackets-told i bracket.Digit e b = number-told (inl (inr i, b)) _
-  brackets-told i bracket.White e b = tt
-  brackets-told i bracket.Colon e b =
-      either (Told m xs) (i .seen) (λ s. row28 (i, s, b)) (λ s. either (Told m xs) (i .fresh) (λ f. row29 (i, s, f, b)) (λ f. tt))
-  brackets-told i bracket.RightBracket e b = tt
-  brackets-told i bracket.LeftBracket e b = row30 (i, b)
-  brackets-told i bracket.End e b = row32 (i, b)
-  brackets-told i bracket.Other e b = row31 (i, e)
+  outside-told : Outside m → Each Telling (peekAt xs 0) (outsideTable (m .depth))
+  unfolding outsideTable wordStep commentStep dotStep equalsStep bangStep compareStep rightParenStep endStep
+  outside-told o = (
+    (λ h. tt),
+    (
+      (λ h. tt),
+      (
+        (λ h. string-told (inl o, h) _),
+        (
+          (λ h. number-told (inl (inl o, h)) _),
+          (
+            (λ h. either (Told m xs) (eqb (m .depth) 0) (λ d. tt) (λ d. row10 (o, begun end h, omega (arith, eqb-false (m .depth) 0 d)))),
+            (
+              (λ h. tt),
+              (
+                (λ h. let b = begun (code ".") h in
+                    either (Told m xs) (isDigit (peekAt xs 1)) (λ d. number-told (inr (o, b, d)) _)
+                    (λ d. by-second (Told m xs) xs end (λ f. row15 (o, b, f)) (λ f. row14 (o, b, d, f)))),
+                (
+                  (λ h. tt),
+                  (
+                    (λ h. either (Told m xs) (eqb (m .depth) 0) (λ d. row16 (o, begun (code ")") h, eqb-true (m .depth) 0 d)) (λ d. tt)),
+                    (
+                      (λ h. tt),
+                      (
+                        (λ h. row17 (o, begun (code "}") h)),
+                        (
+                          (λ h. tt),
+                          (
+                            (λ h. row18 (o, begun (code "]") h)),
+                            (
+                              (λ h. tt),
+                              (
+                                (λ h. by-second (Told m xs) xs (code "=") (λ f. tt) (λ f. by-second (Told m xs) xs (code "~") (λ g. row11 (o, begun (code "=") h, g)) (λ g. tt))),
+                                (
+                                  (λ h. tt),
+                                  (
+                                    (λ h. tt),
+                                    (
+                                      (λ h. tt),
+                                      (
+                                        (λ h. tt),
+                                        (
+                                          (λ h. tt),
+                                          (
+                                            (λ h. tt),
+                                            (
+                                              (λ h. let b = begun (code "!") h in
+                                                  by-second (Told m xs) xs (code "=") (λ f. tt) (λ f. by-second (Told m xs) xs end (λ g. row13 (inl o, b, g)) (λ g. row12 (o, b, f, g)))),
+                                              (
+                                                (λ h. by-second (Told m xs) xs (code "=") (λ f. tt) (λ f. tt)),
+                                                (
+                                                  (λ h. by-second (Told m xs) xs (code "=") (λ f. tt) (λ f. tt)),
+                                                  (
+                                                    (λ h. tt),
+                                                    tt,
+                                                  ),
+                                                ),
+                                              ),
+                                            ),
+                                          ),
+                                        ),
+                                      ),
+                                    ),
+                                  ),
+                                ),
+                              ),
+                            ),
+                          ),
+                        ),
+                      ),
+                    ),
+                  ),
+                ),
+              ),
+            ),
+          ),
+        ),
+      ),
+    ),
+  )
 
-  told : (look : List ℕ → Keyword) → Told m xs (munchedBy look m xs)
-  unfolding munchedBy
-  told look = go (m .inside) refl
+  braces-told : InBraces m → Each Telling (peekAt xs 0) (braceTable (m .depth))
+  unfolding braceTable braceWord commentStep braceEquals braceBang
+  braces-told i = (
+    (λ h. tt),
+    (
+      (λ h. tt),
+      (
+        (λ h. string-told (inr i, h) _),
+        (
+          (λ h. row27 (i, begun end h)),
+          (
+            (λ h. tt),
+            (
+              (λ h. row25 (i, begun (code "{") h)),
+              (
+                (λ h. tt),
+                (
+                  (λ h. tt),
+                  (
+                    (λ h. by-second (Told m xs) xs (code "~") (λ f. tt) (λ f. tt)),
+                    (
+                      (λ h. let b = begun (code "!") h in
+                          by-second (Told m xs) xs (code "=") (λ f. tt)
+                          (λ f. by-second (Told m xs) xs (code "~") (λ g. tt) (λ g. by-second (Told m xs) xs end (λ k. row13 (inr i, b, k)) (λ k. row24 (i, b, f, g, k))))),
+                      tt,
+                    ),
+                  ),
+                ),
+              ),
+            ),
+          ),
+        ),
+      ),
+    ),
+  )
+
+  brackets-told : (i : InBrackets m) → Each Telling (peekAt xs 0) (bracketTable (m .depth) (i .seen) (i .fresh))
+  unfolding bracketTable colonStep
+  brackets-told i = (
+    (λ h. tt),
+    (
+      (λ h. number-told (inl (inr i, h)) _),
+      (
+        (λ h. row32 (i, begun end h)),
+        (
+          (λ h. row30 (i, begun (code "[") h)),
+          (
+            (λ h. tt),
+            (
+              (λ h. let b = begun (code ":") h in
+                  either (Told m xs) (i .seen) (λ s. row28 (i, s, b)) (λ s. either (Told m xs) (i .fresh) (λ f. row29 (i, s, f, b)) (λ f. tt))),
+              tt,
+            ),
+          ),
+        ),
+      ),
+    ),
+  )
+
+  told : Told m xs (munched m xs)
+  unfolding munched stepIn outsideTable braceTable bracketTable
+  told = go (m .inside) refl
     where
-      go : (i : Inside) → m .inside ≡ i → Told m xs (stepIn look (m .depth) i xs)
-      go Nothing o = outside-told look o (leadOf (peekAt xs 0)) refl (lead-begun (peekAt xs 0))
-      go Braces i = braces-told i (braceLeadOf (peekAt xs 0)) refl (brace-lead-begun (peekAt xs 0))
-      go (Brackets s f) i = brackets-told (record { seen = s; fresh = f; there = i }) (bracketLeadOf (peekAt xs 0)) refl (bracket-lead-begun (peekAt xs 0))
+      go : (i : Inside) → m .inside ≡ i → Told m xs (stepIn (m .depth) i (peekAt xs 0) xs)
+      go Nothing o = by-rows Telling (peekAt xs 0) (outsideTable (m .depth)) 19 (outside-told o) (λ n. row19 (o, n))
+      go Braces i = by-rows Telling (peekAt xs 0) (braceTable (m .depth)) 26 (braces-told i) (λ n. row26 (i, n))
+      go (Brackets s f) i = let b : InBrackets m = record { seen = s; fresh = f; there = i } in by-rows Telling (peekAt xs 0) (bracketTable (m .depth) s f) 31 (brackets-told b) (λ n. row31 (b, n))
 
--- the step where the mode and the lead are known
-module _ (look : List ℕ → Keyword) (m : Mode) (xs : List ℕ) where
-  outside-by : Outside m → {l : Lead} → leadOf (peekAt xs 0) ≡ l → munchedBy look m xs ≡ outsideStep look (m .depth) xs l
-  unfolding munchedBy
+-- backward: the step where the mode is known, and what the table has for the first byte
+module _ (m : Mode) (xs : List ℕ) where
+  outside-by : Outside m → {step : List ℕ → Step} → stepIn (m .depth) Nothing (peekAt xs 0) ≡ step → munched m xs ≡ step xs
+  unfolding munched
   outside-by o e = rw (o, e)
 
-  braces-by : InBraces m → {l : BraceLead} → braceLeadOf (peekAt xs 0) ≡ l → munchedBy look m xs ≡ braceStep (m .depth) xs l
-  unfolding munchedBy
+  braces-by : InBraces m → {step : List ℕ → Step} → stepIn (m .depth) Braces (peekAt xs 0) ≡ step → munched m xs ≡ step xs
+  unfolding munched
   braces-by i e = rw (i, e)
 
-  brackets-by : (i : InBrackets m) {l : BracketLead} → bracketLeadOf (peekAt xs 0) ≡ l → munchedBy look m xs ≡ bracketStep (m .depth) (i .seen) (i .fresh) xs l
-  unfolding munchedBy
+  brackets-by : (i : InBrackets m) {step : List ℕ → Step} → stepIn (m .depth) (Brackets (i .seen) (i .fresh)) (peekAt xs 0) ≡ step → munched m xs ≡ step xs
+  unfolding munched
   brackets-by i e = rw (i .there, e)
 
-  -- and where a row holds
-  number-fails : (n : ℕ) → NumberBegins m xs → numeralOf xs ≡ Neither n → munchedBy look m xs ≡ Refused 20 n
-  unfolding outsideStep bracketStep dotStep numberStep leadOf symbolOf bracketLeadOf isAlpha isSpace isWithin
-  number-fails n (inl (inl o, d)) e = outside-by o (digit-lead (peekAt xs 0) d) ∙ rw e
-  number-fails n (inl (inr i, d)) e = brackets-by i {l = bracket.Digit} (rw d) ∙ rw e
-  number-fails n (inr (o, b, d)) e = outside-by o (ap leadOf b) ∙ rw (d, e)
+  -- where it is a sign
+  outside-at : Outside m → {y : ℕ} → Begins y xs → munched m xs ≡ stepIn (m .depth) Nothing y xs
+  outside-at o b = outside-by o (ap (stepIn (m .depth) Nothing) b)
 
-  string-fails : (number n : ℕ) → StringFails number n m xs → munchedBy look m xs ≡ Refused number (suc n)
-  unfolding outsideStep braceStep quotedStep
-  string-fails number n ((inl o, q), e) = outside-by o (quote-lead (peekAt xs 0) q) ∙ rw e
-  string-fails number n ((inr i, q), e) = braces-by i (quote-brace-lead (peekAt xs 0) q) ∙ rw e
+  braces-at : InBraces m → {y : ℕ} → Begins y xs → munched m xs ≡ stepIn (m .depth) Braces y xs
+  braces-at i b = braces-by i (ap (stepIn (m .depth) Braces) b)
 
-  gives : {r o : ℕ} → Row m xs r o → munchedBy look m xs ≡ Refused r o
-  unfolding outsideStep dotStep equalsStep bangStep rightParenStep endStep braceStep braceBang bracketStep colonStep leadOf symbolOf braceLeadOf braceSymbolOf bracketLeadOf bracketSymbolOf isAlpha isSpace isWithin
-  gives (row10 (o, b, d)) = outside-by o (ap leadOf b) ∙ rw (ne-eqb (m .depth) 0 (omega arith))
-  gives (row11 (o, b, f)) = outside-by o (ap leadOf b) ∙ rw f
-  gives (row12 (o, b, f, g)) = outside-by o (ap leadOf b) ∙ rw (ne-eqb (peekAt xs 1) (code "=") f, ne-eqb (peekAt xs 1) end g)
-  gives (row13 (inl o, b, f)) = outside-by o (ap leadOf b) ∙ rw f
-  gives (row13 (inr i, b, f)) = braces-by i (ap braceLeadOf b) ∙ rw f
-  gives (row14 (o, b, d, f)) = outside-by o (ap leadOf b) ∙ rw (d, ne-eqb (peekAt xs 1) end f)
-  gives (row15 (o, b, f)) = outside-by o (ap leadOf b) ∙ rw f
-  gives (row16 (o, b, d)) = outside-by o (ap leadOf b) ∙ rw d
-  gives (row17 (o, b)) = outside-by o (ap leadOf b)
-  gives (row18 (o, b)) = outside-by o (ap leadOf b)
-  gives (row19 (o, e)) = outside-by o e
+  brackets-at : (i : InBrackets m) {y : ℕ} → Begins y xs → munched m xs ≡ stepIn (m .depth) (Brackets (i .seen) (i .fresh)) y xs
+  brackets-at i b = brackets-by i (ap (stepIn (m .depth) (Brackets (i .seen) (i .fresh))) b)
+
+  -- where a number or a string has its fault
+  number-fails : (n : ℕ) → NumberBegins m xs → numeralOf xs ≡ Neither n → munched m xs ≡ Refused 20 n
+  unfolding stepIn outsideTable dotStep numberStep isWordStart isQuote isAlpha isSpace isWithin
+  number-fails n (inl (inl o, d)) e = outside-by o (digit-outside (m .depth) (peekAt xs 0) d) ∙ rw e
+  number-fails n (inl (inr i, d)) e = brackets-by i (digit-in-brackets (m .depth) (i .seen) (i .fresh) (peekAt xs 0) d) ∙ rw e
+  number-fails n (inr (o, b, d)) e = outside-at o b ∙ rw (d, e)
+
+  string-fails : (number n : ℕ) → StringFails number n m xs → munched m xs ≡ Refused number (suc n)
+  unfolding quotedStep
+  string-fails number n ((inl o, q), e) = outside-by o (quote-outside (m .depth) (peekAt xs 0) q) ∙ rw e
+  string-fails number n ((inr i, q), e) = braces-by i (quote-in-braces (m .depth) (peekAt xs 0) q) ∙ rw e
+
+  -- where no row is for the byte
+  other-outside : Outside m → namedOutside (peekAt xs 0) ≡ false → munched m xs ≡ Refused 19 0
+  unfolding stepIn outsideTable
+  other-outside o n = outside-by o {step = refuse 19} (none-takes (outsideTable (m .depth)) 19 (peekAt xs 0) n)
+
+  other-in-braces : InBraces m → namedInBraces (peekAt xs 0) ≡ false → munched m xs ≡ Refused 26 0
+  unfolding stepIn braceTable
+  other-in-braces i n = braces-by i {step = refuse 26} (none-takes (braceTable (m .depth)) 26 (peekAt xs 0) n)
+
+  other-in-brackets : InBrackets m → namedInBrackets (peekAt xs 0) ≡ false → munched m xs ≡ Refused 31 0
+  unfolding stepIn bracketTable
+  other-in-brackets i n = brackets-by i {step = refuse 31} (none-takes (bracketTable (m .depth) (i .seen) (i .fresh)) 31 (peekAt xs 0) n)
+
+  gives : {r o : ℕ} → Row m xs r o → munched m xs ≡ Refused r o
+  unfolding stepIn outsideTable braceTable bracketTable dotStep equalsStep bangStep rightParenStep endStep braceBang colonStep isWordStart isQuote isAlpha isSpace isWithin
+  gives (row10 (o, b, d)) = outside-at o b ∙ rw (ne-eqb (m .depth) 0 (omega arith))
+  gives (row11 (o, b, f)) = outside-at o b ∙ rw f
+  gives (row12 (o, b, f, g)) = outside-at o b ∙ rw (ne-eqb (peekAt xs 1) (code "=") f, ne-eqb (peekAt xs 1) end g)
+  gives (row13 (inl o, b, f)) = outside-at o b ∙ rw f
+  gives (row13 (inr i, b, f)) = braces-at i b ∙ rw f
+  gives (row14 (o, b, d, f)) = outside-at o b ∙ rw (d, ne-eqb (peekAt xs 1) end f)
+  gives (row15 (o, b, f)) = outside-at o b ∙ rw f
+  gives (row16 (o, b, d)) = outside-at o b ∙ rw d
+  gives (row17 (o, b)) = outside-at o b
+  gives (row18 (o, b)) = outside-at o b
+  gives (row19 (o, n)) = other-outside o n
   gives (row20 n (b, e)) = number-fails n b e
   gives (row21 n h) = string-fails unknownEscape n h
   gives (row22 n h) = string-fails endInEscape n h
   gives (row23 n h) = string-fails endInString n h
   gives (row24 (i, b, f, g, h)) =
-      braces-by i (ap braceLeadOf b) ∙ rw (ne-eqb (peekAt xs 1) (code "=") f, ne-eqb (peekAt xs 1) (code "~") g, ne-eqb (peekAt xs 1) end h)
-  gives (row25 (i, b)) = braces-by i (ap braceLeadOf b)
-  gives (row26 (i, e)) = braces-by i e
-  gives (row27 (i, b)) = braces-by i (ap braceLeadOf b)
-  gives (row28 (i, s, b)) = brackets-by i (ap bracketLeadOf b) ∙ rw s
-  gives (row29 (i, s, f, b)) = brackets-by i (ap bracketLeadOf b) ∙ rw (s, f)
-  gives (row30 (i, b)) = brackets-by i (ap bracketLeadOf b)
-  gives (row31 (i, e)) = brackets-by i e
-  gives (row32 (i, b)) = brackets-by i (ap bracketLeadOf b)
+      braces-at i b ∙ rw (ne-eqb (peekAt xs 1) (code "=") f, ne-eqb (peekAt xs 1) (code "~") g, ne-eqb (peekAt xs 1) end h)
+  gives (row25 (i, b)) = braces-at i b
+  gives (row26 (i, n)) = other-in-braces i n
+  gives (row27 (i, b)) = braces-at i b
+  gives (row28 (i, s, b)) = brackets-at i b ∙ rw s
+  gives (row29 (i, s, f, b)) = brackets-at i b ∙ rw (s, f)
+  gives (row30 (i, b)) = brackets-at i b
+  gives (row31 (i, n)) = other-in-brackets i n
+  gives (row32 (i, b)) = brackets-at i b
 
 pub rows-given : RowsGiven
-rows-given look m xs r o = ((λ e. subst (Told m xs) e (told m xs look)), gives look m xs)
+rows-given m xs r o = ((λ e. subst (Told m xs) e (told m xs)), gives m xs)
 
 pub one-row : OneRow
 one-row m xs r o s p a b =
-    let e = gives (λ w. keyword.Nothing) m xs a in
-    let f = gives (λ w. keyword.Nothing) m xs b in
+    let e = gives m xs a in
+    let f = gives m xs b in
     (cc, cc)
 
--- the numbers of the rows
-pub row-bounds : {m : Mode} {xs : List ℕ} {r o : ℕ} → Row m xs r o → (10 ≤ r) × (r ≤ 32)
+row-bounds : {m : Mode} {xs : List ℕ} {r o : ℕ} → Row m xs r o → (10 ≤ r) × (r ≤ 32)
 row-bounds (row10 h) = (omega arith, omega arith)
 row-bounds (row11 h) = (omega arith, omega arith)
 row-bounds (row12 h) = (omega arith, omega arith)
@@ -223,3 +334,6 @@ row-bounds (row29 h) = (omega arith, omega arith)
 row-bounds (row30 h) = (omega arith, omega arith)
 row-bounds (row31 h) = (omega arith, omega arith)
 row-bounds (row32 h) = (omega arith, omega arith)
+
+pub row-numbers : RowNumbers
+row-numbers m xs r o h = row-bounds h

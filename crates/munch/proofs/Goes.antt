@@ -1,7 +1,7 @@
 -- A step takes one byte at least and ends within the bytes, and cuts no character of a text: a lexeme ends behind an ASCII byte, be it the
 -- first, the second, the last of a run, or the one that a number or a string ends with; a comment ends behind one, or at the end. A refusal is
--- given at the start, behind a first byte that is ASCII, or where a number or a string has its fault. By the mode, then by what the first byte
--- begins.
+-- given at the start, behind a first byte that is ASCII, or where a number or a string has its fault. By the mode, then by the rows
+-- of its table.
 use Prim.Native.Nat.{ℕ, suc, _<_, _≤_, suc-le-suc}
 use Prim.Native.Char.{code}
 use native.Mathlib.Omega.{arith}
@@ -18,7 +18,6 @@ use Rattle.scan.specs.laws.Edge.{Bytes, Edge, first, last, behind, AsciiAlone}
 use Rattle.scan.specs.Run.{runEnd}
 use Rattle.proving.proofs.Choice.{either}
 use Rattle.scan.proofs.Edges.{ascii-inside, edge-within, edge-run, class-ascii, one-ascii}
-use Rattle.token.specs.declared.Keyword.{Keyword}
 use Rattle.token.specs.Kinds.{eqlc, neq, lte, lss, gte, gtr, eqlRegex, neqRegex}
 use Rattle.numeral.specs.declared.Numeral.{Numeral}
 use Rattle.numeral.specs.declared.Numeral.the-variants.{Number, Duration, Neither}
@@ -30,23 +29,16 @@ use Rattle.quoted.specs.declared.Quoted.the-variants as quoting
 use Rattle.quoted.specs.Quoted.{quotedOf, commentEnd}
 use Rattle.quoted.specs.laws.Quoted.{Lies}
 use Rattle.quoted.proofs.Strings.{string-within}
-use Rattle.quoted.proofs.Comments.{comment-few, comment-within}
-use Rattle.munch.specs.declared.lead.Lead.{Lead}
-use Rattle.munch.specs.declared.lead.Lead.the-variants as lead
-use Rattle.munch.specs.declared.lead.BraceLead.{BraceLead}
-use Rattle.munch.specs.declared.lead.BraceLead.the-variants as brace
-use Rattle.munch.specs.declared.lead.BracketLead.{BracketLead}
-use Rattle.munch.specs.declared.lead.BracketLead.the-variants as bracket
-use Rattle.munch.specs.Lead.{leadOf, braceLeadOf, bracketLeadOf}
-use Rattle.munch.specs.laws.Lead.{Begun, BraceBegun, BracketBegun}
-use Rattle.munch.proofs.lead.Leads.{start-ascii, quote-ascii, lead-begun, brace-lead-begun, bracket-lead-begun}
+use Rattle.quoted.proofs.Comments.{comment-within}
 use Rattle.munch.specs.declared.Inside.{Inside}
 use Rattle.munch.specs.declared.Inside.the-variants.{Nothing, Braces, Brackets}
 use Rattle.munch.specs.declared.Mode.{Mode}
 use Rattle.munch.specs.declared.Step.{Step}
 use Rattle.munch.specs.declared.Step.the-variants.{Lexeme, Refused}
-use Rattle.munch.specs.Munch.{mode, ifNext, numberBy, numberStep, dotStep, quotedBy, quotedStep, commentStep, wordStep, equalsStep, bangStep, compareStep, rightParenStep, leftBracketStep, endStep, outsideStep, braceWord, braceEquals, braceBang, braceStep, colonStep, bracketStep, stepIn, munchedBy}
+use Rattle.munch.specs.Munch.{mode, ifNext, numberBy, numberStep, dotStep, quotedBy, quotedStep, commentStep, wordStep, equalsStep, bangStep, compareStep, rightParenStep, endStep, braceWord, braceEquals, braceBang, colonStep, outsideTable, braceTable, bracketTable, stepIn, munched}
 use Rattle.munch.specs.laws.Step.{Past, Goes, StepGoes}
+use Rattle.munch.proofs.Openings.{Each, by-rows}
+use Rattle.munch.proofs.Starts.{start-ascii, quote-ascii}
 
 -- white space and letters are ASCII
 space-ascii : AsciiAlone isSpace
@@ -84,8 +76,8 @@ module _ (xs : List ℕ) (h : peekAt xs 0 < 0x80) where
   past-comment =
       record {
         some = omega arith;
-        within = omega (arith, comment-few (drop 1 xs), length-drop 1 xs, ascii-inside xs 0 h);
-        edge = λ b. edge-next xs h (comment-within (drop 1 xs) (bytes-next xs h b));
+        within = omega (arith, comment-within (drop 1 xs) .0, length-drop 1 xs, ascii-inside xs 0 h);
+        edge = λ b. edge-next xs h (comment-within (drop 1 xs) .1 (bytes-next xs h b));
       }
 
 module _ (m : Mode) (xs : List ℕ) where
@@ -153,64 +145,166 @@ module _ (d : ℕ) (xs : List ℕ) where
   unfolding endStep
   end-goes h = either (Goes (mode d Nothing) xs) (eqb d 0) (λ e. (h, ap (λ (n : ℕ). mode n Nothing) (eqb-true d 0 e))) (λ e. first)
 
-  outside-goes : (look : List ℕ → Keyword) (k : Lead) → Begun k (peekAt xs 0) → Goes (mode d Nothing) xs (outsideStep look d xs k)
-  unfolding outsideStep wordStep commentStep leftBracketStep
-  outside-goes look lead.Letter h = past-run xs (start-ascii (peekAt xs 0) h) Word (class-ascii Word refl)
-  outside-goes look lead.White h = past-one xs (space-ascii (peekAt xs 0) h)
-  outside-goes look lead.Hash h = past-comment xs (omega arith)
-  outside-goes look lead.Quote h = string-goes (mode d Nothing) xs (quote-ascii (peekAt xs 0) h)
-  outside-goes look (lead.Sign k) h = past-one xs (h .0)
-  outside-goes look lead.Digit h = number-goes (mode d Nothing) xs (mode d Nothing) (rw h)
-  outside-goes look lead.Dot h = dot-goes (mode d Nothing) xs h
-  outside-goes look lead.Equals h = equals-goes (mode d Nothing) xs (omega arith)
-  outside-goes look lead.Bang h = bang-goes (mode d Nothing) xs (omega arith)
-  outside-goes look lead.Less h = compare-goes (mode d Nothing) xs (omega arith) lte lss
-  outside-goes look lead.Greater h = compare-goes (mode d Nothing) xs (omega arith) gte gtr
-  outside-goes look lead.LeftParen h = past-one xs (omega arith)
-  outside-goes look lead.RightParen h = paren-goes (omega arith)
-  outside-goes look lead.LeftBrace h = past-one xs (omega arith)
-  outside-goes look lead.RightBrace h = first
-  outside-goes look lead.LeftBracket h = past-one xs (omega arith)
-  outside-goes look lead.RightBracket h = first
-  outside-goes look lead.End h = end-goes h
-  outside-goes look lead.Other h = first
+  colon-goes : (seen fresh : Bool) → peekAt xs 0 < 0x80 → Goes (mode d (Brackets seen fresh)) xs (colonStep d seen fresh)
+  unfolding colonStep
+  colon-goes seen fresh h =
+      let m = mode d (Brackets seen fresh) in
+      either (Goes m xs) seen (λ e. first) (λ e. either (Goes m xs) fresh (λ f. first) (λ f. past-one xs h))
 
-  brace-goes : (k : BraceLead) → BraceBegun k (peekAt xs 0) → Goes (mode d Braces) xs (braceStep d xs k)
-  unfolding braceStep braceWord commentStep
-  brace-goes brace.Letter h = past-run xs (alpha-ascii (peekAt xs 0) h) AlphaNumeric (class-ascii AlphaNumeric refl)
-  brace-goes brace.White h = past-one xs (space-ascii (peekAt xs 0) h)
-  brace-goes brace.Hash h = past-comment xs (omega arith)
-  brace-goes brace.Quote h = string-goes (mode d Braces) xs (quote-ascii (peekAt xs 0) h)
-  brace-goes brace.Comma h = past-one xs (omega arith)
-  brace-goes brace.Equals h = regex-goes (mode d Braces) xs (omega arith)
-  brace-goes brace.Bang h = brace-bang-goes (mode d Braces) xs (omega arith)
-  brace-goes brace.RightBrace h = past-one xs (omega arith)
-  brace-goes brace.LeftBrace h = first
-  brace-goes brace.End h = first
-  brace-goes brace.Other h = first
+  -- of the bytes that are left, in a mode
+  abbrev Going : Inside → (List ℕ → Step) → Type 0
+  Going i step = Goes (mode d i) xs (step xs)
 
-  module _ (seen fresh : Bool) where
-    colon-goes : peekAt xs 0 < 0x80 → Goes (mode d (Brackets seen fresh)) xs (colonStep d seen fresh)
-    unfolding colonStep
-    colon-goes h =
-        let m = mode d (Brackets seen fresh) in
-        either (Goes m xs) seen (λ e. first) (λ e. either (Goes m xs) fresh (λ f. first) (λ f. past-one xs h))
+  -- the first byte is a sign
+  ascii-sign : (y : ℕ) → y < 0x80 → eqb (peekAt xs 0) y ≡ true → peekAt xs 0 < 0x80
+  ascii-sign y l h = one-ascii y l (peekAt xs 0) h
 
-    bracket-goes : (k : BracketLead) → BracketBegun k (peekAt xs 0) → Goes (mode d (Brackets seen fresh)) xs (bracketStep d seen fresh xs k)
-    unfolding bracketStep
-    bracket-goes bracket.Digit h = number-goes (mode d (Brackets seen fresh)) xs (mode d (Brackets seen false)) (rw h)
-    bracket-goes bracket.White h = past-one xs (space-ascii (peekAt xs 0) h)
-    bracket-goes bracket.Colon h = colon-goes (omega arith)
-    bracket-goes bracket.RightBracket h = past-one xs (omega arith)
-    bracket-goes bracket.LeftBracket h = first
-    bracket-goes bracket.End h = first
-    bracket-goes bracket.Other h = first
+  one-sign : (y : ℕ) → y < 0x80 → eqb (peekAt xs 0) y ≡ true → Past xs 1
+  one-sign y l h = past-one xs (ascii-sign y l h)
 
-  inside-goes : (look : List ℕ → Keyword) (i : Inside) → Goes (mode d i) xs (stepIn look d i xs)
-  inside-goes look Nothing = outside-goes look (leadOf (peekAt xs 0)) (lead-begun (peekAt xs 0))
-  inside-goes look Braces = brace-goes (braceLeadOf (peekAt xs 0)) (brace-lead-begun (peekAt xs 0))
-  inside-goes look (Brackets seen fresh) = bracket-goes seen fresh (bracketLeadOf (peekAt xs 0)) (bracket-lead-begun (peekAt xs 0))
+  outside-goes : Each (Going Nothing) (peekAt xs 0) (outsideTable d)
+  unfolding outsideTable wordStep commentStep
+  outside-goes =
+      let here = mode d Nothing in (
+        (λ h. past-run xs (start-ascii (peekAt xs 0) h) Word (class-ascii Word refl)),
+        (
+          (λ h. past-one xs (space-ascii (peekAt xs 0) h)),
+          (
+            (λ h. string-goes here xs (quote-ascii (peekAt xs 0) h)),
+            (
+              (λ h. number-goes here xs here (rw h)),
+              (
+                (λ h. end-goes (eqb-true (peekAt xs 0) end h)),
+                (
+                  (λ h. past-comment xs (ascii-sign (code "#") (omega arith) h)),
+                  (
+                    (λ h. dot-goes here xs (eqb-true (peekAt xs 0) (code ".") h)),
+                    (
+                      one-sign (code "(") (omega arith),
+                      (
+                        (λ h. paren-goes (ascii-sign (code ")") (omega arith) h)),
+                        (
+                          one-sign (code "{") (omega arith),
+                          (
+                            (λ h. first),
+                            (
+                              one-sign (code "[") (omega arith),
+                              (
+                                (λ h. first),
+                                (
+                                  one-sign (code ",") (omega arith),
+                                  (
+                                    (λ h. equals-goes here xs (ascii-sign (code "=") (omega arith) h)),
+                                    (
+                                      one-sign (code "+") (omega arith),
+                                      (
+                                        one-sign (code "-") (omega arith),
+                                        (
+                                          one-sign (code "*") (omega arith),
+                                          (
+                                            one-sign (code "/") (omega arith),
+                                            (
+                                              one-sign (code "%") (omega arith),
+                                              (
+                                                one-sign (code "^") (omega arith),
+                                                (
+                                                  (λ h. bang-goes here xs (ascii-sign (code "!") (omega arith) h)),
+                                                  (
+                                                    (λ h. compare-goes here xs (ascii-sign (code "<") (omega arith) h) lte lss),
+                                                    (
+                                                      (λ h. compare-goes here xs (ascii-sign (code ">") (omega arith) h) gte gtr),
+                                                      (
+                                                        one-sign (code "@") (omega arith),
+                                                        tt,
+                                                      ),
+                                                    ),
+                                                  ),
+                                                ),
+                                              ),
+                                            ),
+                                          ),
+                                        ),
+                                      ),
+                                    ),
+                                  ),
+                                ),
+                              ),
+                            ),
+                          ),
+                        ),
+                      ),
+                    ),
+                  ),
+                ),
+              ),
+            ),
+          ),
+        ),
+      )
+
+  brace-goes : Each (Going Braces) (peekAt xs 0) (braceTable d)
+  unfolding braceTable braceWord commentStep
+  brace-goes =
+      let here = mode d Braces in (
+        (λ h. past-run xs (alpha-ascii (peekAt xs 0) h) AlphaNumeric (class-ascii AlphaNumeric refl)),
+        (
+          (λ h. past-one xs (space-ascii (peekAt xs 0) h)),
+          (
+            (λ h. string-goes here xs (quote-ascii (peekAt xs 0) h)),
+            (
+              (λ h. first),
+              (
+                (λ h. past-comment xs (ascii-sign (code "#") (omega arith) h)),
+                (
+                  (λ h. first),
+                  (
+                    one-sign (code "}") (omega arith),
+                    (
+                      one-sign (code ",") (omega arith),
+                      (
+                        (λ h. regex-goes here xs (ascii-sign (code "=") (omega arith) h)),
+                        (
+                          (λ h. brace-bang-goes here xs (ascii-sign (code "!") (omega arith) h)),
+                          tt,
+                        ),
+                      ),
+                    ),
+                  ),
+                ),
+              ),
+            ),
+          ),
+        ),
+      )
+
+  bracket-goes : (seen fresh : Bool) → Each (Going (Brackets seen fresh)) (peekAt xs 0) (bracketTable d seen fresh)
+  unfolding bracketTable
+  bracket-goes seen fresh = (
+    (λ h. past-one xs (space-ascii (peekAt xs 0) h)),
+    (
+      (λ h. number-goes (mode d (Brackets seen fresh)) xs (mode d (Brackets seen false)) (rw h)),
+      (
+        (λ h. first),
+        (
+          (λ h. first),
+          (
+            one-sign (code "]") (omega arith),
+            (
+              (λ h. colon-goes seen fresh (ascii-sign (code ":") (omega arith) h)),
+              tt,
+            ),
+          ),
+        ),
+      ),
+    ),
+  )
+
+  inside-goes : (i : Inside) → Goes (mode d i) xs (stepIn d i (peekAt xs 0) xs)
+  unfolding stepIn
+  inside-goes Nothing = by-rows (Going Nothing) (peekAt xs 0) (outsideTable d) 19 outside-goes (λ n. first)
+  inside-goes Braces = by-rows (Going Braces) (peekAt xs 0) (braceTable d) 26 brace-goes (λ n. first)
+  inside-goes (Brackets seen fresh) = by-rows (Going (Brackets seen fresh)) (peekAt xs 0) (bracketTable d seen fresh) 31 (bracket-goes seen fresh) (λ n. first)
 
 pub step-goes : StepGoes
-unfolding munchedBy
-step-goes look m xs = inside-goes (m .depth) xs look (m .inside)
+unfolding munched
+step-goes m xs = inside-goes (m .depth) xs (m .inside)

@@ -1,3 +1,5 @@
+pub mod Openings
+pub mod Starts
 pub mod Table
 pub mod Goes
 pub mod Fits

@@ -22,26 +22,21 @@ use Rattle.scan.proofs.Runs.{run-within, run-append, run-inside, peek-append}
 use Rattle.token.specs.declared.Keyword.{Keyword}
 use Rattle.token.specs.declared.Keyword.the-variants as keyword
 use Rattle.token.specs.Kinds.{identifier, lss, lte, gtr, gte}
+use Rattle.token.specs.Words.{keywordOf}
 use Rattle.numeral.proofs.Seam.{numeral-seam}
 use Rattle.quoted.specs.declared.Quoted.{Quoted}
 use Rattle.quoted.specs.declared.Quoted.the-variants as quoting
 use Rattle.quoted.specs.Quoted.{quotedOf, commentEnd}
 use Rattle.quoted.proofs.Strings.{string-seam}
 use Rattle.quoted.proofs.Comments.{comment-seam}
-use Rattle.munch.specs.declared.lead.Lead.{Lead}
-use Rattle.munch.specs.declared.lead.Lead.the-variants as lead
-use Rattle.munch.specs.declared.lead.BraceLead.{BraceLead}
-use Rattle.munch.specs.declared.lead.BraceLead.the-variants as brace
-use Rattle.munch.specs.declared.lead.BracketLead.{BracketLead}
-use Rattle.munch.specs.declared.lead.BracketLead.the-variants as bracket
-use Rattle.munch.specs.Lead.{leadOf, braceLeadOf, bracketLeadOf}
 use Rattle.munch.specs.Word.{isFill, isCalled, ruleBy, isOr, braceRule, kindBy}
 use Rattle.munch.specs.declared.Inside.{Inside}
 use Rattle.munch.specs.declared.Inside.the-variants.{Nothing, Braces, Brackets}
 use Rattle.munch.specs.declared.Mode.{Mode}
 use Rattle.munch.specs.declared.Step.{Step}
 use Rattle.munch.specs.declared.Step.the-variants.{Lexeme, Comment, Refused}
-use Rattle.munch.specs.Munch.{mode, numberStep, dotStep, quotedBy, quotedStep, commentStep, wordStep, equalsStep, bangStep, compareStep, outsideStep, braceWord, braceEquals, braceBang, braceStep, bracketStep, stepIn, munchedBy}
+use Rattle.munch.specs.Munch.{mode, numberStep, dotStep, quotedBy, quotedStep, commentStep, wordStep, equalsStep, bangStep, compareStep, braceWord, braceEquals, braceBang, outsideTable, braceTable, bracketTable, stepIn, munched}
+use Rattle.munch.proofs.Openings.{Each, by-rows}
 use Rattle.munch.specs.laws.Step.{Seam, same, grown, called, refused, StepSeam}
 
 -- no word goes on with a newline, and it is no digit, as the end is none
@@ -74,25 +69,25 @@ module _ (xs ys : List ℕ) (n : ℕ) where
   or-line l = rw (take-append-le n xs (code "\n" ∷ ys) l, peek-append (λ c. eqb c (code " ")) (code "\n") refl xs ys n l)
 
 -- so a word's kind stays, but for that of a fill word
-module _ (look : List ℕ → Keyword) (m : Mode) (xs ys : List ℕ) (n : ℕ) (l : n ≤ length xs) where
-  fill-seam : (k : ℕ) → look (take n xs) ≡ keyword.Kind k → (b : Bool) → isFill k ≡ b → Dec (runEnd (isIn class.Space) xs n < length xs)
-      → Seam look xs (Lexeme (kindBy (ruleBy (keyword.Kind k) xs n)) n m) (Lexeme (kindBy (ruleBy (keyword.Kind k) (lined xs ys) n)) n m)
+module _ (m : Mode) (xs ys : List ℕ) (n : ℕ) (l : n ≤ length xs) where
+  fill-seam : (k : ℕ) → keywordOf (take n xs) ≡ keyword.Kind k → (b : Bool) → isFill k ≡ b → Dec (runEnd (isIn class.Space) xs n < length xs)
+      → Seam xs (Lexeme (kindBy (ruleBy (keyword.Kind k) xs n)) n m) (Lexeme (kindBy (ruleBy (keyword.Kind k) (lined xs ys) n)) n m)
   unfolding ruleBy kindBy
   fill-seam k e false f d = rw f (same (Lexeme k n m))
   fill-seam k e true f (yes h) = rw (f, called-stays xs ys n h) (same _)
   fill-seam k e true f (no h) =
       let g : runEnd (isIn class.Space) xs n ≡ length xs = omega (arith, run-within (isIn class.Space) xs n) in
       rw (f, not-called xs ys n g)
-      (either (λ r. Seam look xs (Lexeme identifier n m) (Lexeme (kindBy r) n m)) (isCalled (lined xs ys) n) (λ c. called k n m e f g) (λ c. same (Lexeme identifier n m)))
+      (either (λ r. Seam xs (Lexeme identifier n m) (Lexeme (kindBy r) n m)) (isCalled (lined xs ys) n) (λ c. called k n m e f g) (λ c. same (Lexeme identifier n m)))
 
-  rule-seam : (w : Keyword) → look (take n xs) ≡ w → Seam look xs (Lexeme (kindBy (ruleBy w xs n)) n m) (Lexeme (kindBy (ruleBy w (lined xs ys) n)) n m)
+  rule-seam : (w : Keyword) → keywordOf (take n xs) ≡ w → Seam xs (Lexeme (kindBy (ruleBy w xs n)) n m) (Lexeme (kindBy (ruleBy w (lined xs ys) n)) n m)
   unfolding ruleBy
   rule-seam (keyword.Kind k) e = fill-seam k e (isFill k) refl (decLt (runEnd (isIn class.Space) xs n) (length xs))
   rule-seam keyword.Nothing e = rw (take-append-le n xs (code "\n" ∷ ys) l) (same _)
 
-module _ (look : List ℕ → Keyword) (x : ℕ) (xs ys : List ℕ) where
+module _ (x : ℕ) (xs ys : List ℕ) where
   abbrev Seamed : Step → Step → Type 0
-  Seamed = Seam look (x ∷ xs)
+  Seamed = Seam (x ∷ xs)
 
   abbrev on : List ℕ
   on = lined (x ∷ xs) ys
@@ -125,12 +120,12 @@ module _ (look : List ℕ → Keyword) (x : ℕ) (xs ys : List ℕ) where
       go (inr e) = rw (e .0, e .1) grown
 
   module _ (m : Mode) where
-    word-seam : Seamed (wordStep look m (x ∷ xs)) (wordStep look m on)
+    word-seam : Seamed (wordStep m (x ∷ xs)) (wordStep m on)
     unfolding wordStep
     word-seam =
         let n = runEnd (isIn class.Word) (x ∷ xs) 1 in
         rw (run-line class.Word word-line, take-append-le n (x ∷ xs) (code "\n" ∷ ys) (run-bound class.Word))
-        (rule-seam look m (x ∷ xs) ys n (run-bound class.Word) (look (take n (x ∷ xs))) refl)
+        (rule-seam m (x ∷ xs) ys n (run-bound class.Word) (keywordOf (take n (x ∷ xs))) refl)
 
     brace-word-seam : Seamed (braceWord m (x ∷ xs)) (braceWord m on)
     unfolding braceWord braceRule
@@ -176,60 +171,156 @@ module _ (look : List ℕ → Keyword) (x : ℕ) (xs ys : List ℕ) where
         next-seam (λ c. eqb c (code "=")) refl (same _)
         (next-seam (λ c. eqb c (code "~")) refl (same _) (refusals-seam (eqb (peekAt (x ∷ xs) 1) end) 13 1 24 1 _))
 
+  -- of the bytes, and of those with the newline behind them
+  abbrev Seaming : (List ℕ → Step) → Type 0
+  Seaming step = Seamed (step (x ∷ xs)) (step on)
+
   module _ (d : ℕ) where
-    outside-seam : (k : Lead) → Seamed (outsideStep look d (x ∷ xs) k) (outsideStep look d on k)
-    unfolding outsideStep
-    outside-seam lead.Letter = word-seam (mode d Nothing)
-    outside-seam lead.White = same _
-    outside-seam lead.Hash = comment-seamed
-    outside-seam lead.Quote = quoted-seam (mode d Nothing)
-    outside-seam (lead.Sign k) = same _
-    outside-seam lead.Digit = number-seam (mode d Nothing)
-    outside-seam lead.Dot = dot-seam (mode d Nothing)
-    outside-seam lead.Equals = equals-seam (mode d Nothing)
-    outside-seam lead.Bang = bang-seam (mode d Nothing)
-    outside-seam lead.Less = compare-seam (mode d Nothing) lte lss
-    outside-seam lead.Greater = compare-seam (mode d Nothing) gte gtr
-    outside-seam lead.LeftParen = same _
-    outside-seam lead.RightParen = same _
-    outside-seam lead.LeftBrace = same _
-    outside-seam lead.RightBrace = same _
-    outside-seam lead.LeftBracket = same _
-    outside-seam lead.RightBracket = same _
-    outside-seam lead.End = same _
-    outside-seam lead.Other = same _
+    outside-seam : Each Seaming x (outsideTable d)
+    unfolding outsideTable
+    outside-seam =
+        let here = mode d Nothing in (
+          (λ h. word-seam here),
+          (
+            (λ h. same _),
+            (
+              (λ h. quoted-seam here),
+              (
+                (λ h. number-seam here),
+                (
+                  (λ h. same _),
+                  (
+                    (λ h. comment-seamed),
+                    (
+                      (λ h. dot-seam here),
+                      (
+                        (λ h. same _),
+                        (
+                          (λ h. same _),
+                          (
+                            (λ h. same _),
+                            (
+                              (λ h. same _),
+                              (
+                                (λ h. same _),
+                                (
+                                  (λ h. same _),
+                                  (
+                                    (λ h. same _),
+                                    (
+                                      (λ h. equals-seam here),
+                                      (
+                                        (λ h. same _),
+                                        (
+                                          (λ h. same _),
+                                          (
+                                            (λ h. same _),
+                                            (
+                                              (λ h. same _),
+                                              (
+                                                (λ h. same _),
+                                                (
+                                                  (λ h. same _),
+                                                  (
+                                                    (λ h. bang-seam here),
+                                                    (
+                                                      (λ h. compare-seam here lte lss),
+                                                      (
+                                                        (λ h. compare-seam here gte gtr),
+                                                        (
+                                                          (λ h. same _),
+                                                          tt,
+                                                        ),
+                                                      ),
+                                                    ),
+                                                  ),
+                                                ),
+                                              ),
+                                            ),
+                                          ),
+                                        ),
+                                      ),
+                                    ),
+                                  ),
+                                ),
+                              ),
+                            ),
+                          ),
+                        ),
+                      ),
+                    ),
+                  ),
+                ),
+              ),
+            ),
+          ),
+        )
 
-    brace-seam : (k : BraceLead) → Seamed (braceStep d (x ∷ xs) k) (braceStep d on k)
-    unfolding braceStep
-    brace-seam brace.Letter = brace-word-seam (mode d Braces)
-    brace-seam brace.White = same _
-    brace-seam brace.Hash = comment-seamed
-    brace-seam brace.Quote = quoted-seam (mode d Braces)
-    brace-seam brace.Comma = same _
-    brace-seam brace.Equals = regex-seam (mode d Braces)
-    brace-seam brace.Bang = brace-bang-seam (mode d Braces)
-    brace-seam brace.RightBrace = same _
-    brace-seam brace.LeftBrace = same _
-    brace-seam brace.End = same _
-    brace-seam brace.Other = same _
+    brace-seam : Each Seaming x (braceTable d)
+    unfolding braceTable
+    brace-seam =
+        let here = mode d Braces in (
+          (λ h. brace-word-seam here),
+          (
+            (λ h. same _),
+            (
+              (λ h. quoted-seam here),
+              (
+                (λ h. same _),
+                (
+                  (λ h. comment-seamed),
+                  (
+                    (λ h. same _),
+                    (
+                      (λ h. same _),
+                      (
+                        (λ h. same _),
+                        (
+                          (λ h. regex-seam here),
+                          (
+                            (λ h. brace-bang-seam here),
+                            tt,
+                          ),
+                        ),
+                      ),
+                    ),
+                  ),
+                ),
+              ),
+            ),
+          ),
+        )
 
-    bracket-seam : (seen fresh : Bool) (k : BracketLead) → Seamed (bracketStep d seen fresh (x ∷ xs) k) (bracketStep d seen fresh on k)
-    unfolding bracketStep
-    bracket-seam seen fresh bracket.Digit = number-seam (mode d (Brackets seen false))
-    bracket-seam seen fresh bracket.White = same _
-    bracket-seam seen fresh bracket.Colon = same _
-    bracket-seam seen fresh bracket.RightBracket = same _
-    bracket-seam seen fresh bracket.LeftBracket = same _
-    bracket-seam seen fresh bracket.End = same _
-    bracket-seam seen fresh bracket.Other = same _
+    bracket-seam : (seen fresh : Bool) → Each Seaming x (bracketTable d seen fresh)
+    unfolding bracketTable
+    bracket-seam seen fresh = (
+      (λ h. same _),
+      (
+        (λ h. number-seam (mode d (Brackets seen false))),
+        (
+          (λ h. same _),
+          (
+            (λ h. same _),
+            (
+              (λ h. same _),
+              (
+                (λ h. same _),
+                tt,
+              ),
+            ),
+          ),
+        ),
+      ),
+    )
 
-    -- the first byte, and so what it begins, stays
-    inside-seam : (i : Inside) → Seamed (stepIn look d i (x ∷ xs)) (stepIn look d i on)
-    inside-seam Nothing = outside-seam (leadOf x)
-    inside-seam Braces = brace-seam (braceLeadOf x)
-    inside-seam (Brackets seen fresh) = bracket-seam seen fresh (bracketLeadOf x)
+    -- the first byte, and so the row, stays
+    inside-seam : (i : Inside) → Seamed (stepIn d i x (x ∷ xs)) (stepIn d i x on)
+    unfolding stepIn
+    inside-seam Nothing = by-rows Seaming x (outsideTable d) 19 outside-seam (λ n. same _)
+    inside-seam Braces = by-rows Seaming x (braceTable d) 26 brace-seam (λ n. same _)
+    inside-seam (Brackets seen fresh) = by-rows Seaming x (bracketTable d seen fresh) 31 (bracket-seam seen fresh) (λ n. same _)
 
 pub step-seam : StepSeam
-unfolding munchedBy
-step-seam look m [] ys h = absurd (omega arith)
-step-seam look m (x ∷ xs) ys h = inside-seam look x xs ys (m .depth) (m .inside)
+unfolding munched
+step-seam m [] ys h = absurd (omega arith)
+step-seam m (x ∷ xs) ys h = inside-seam x xs ys (m .depth) (m .inside)

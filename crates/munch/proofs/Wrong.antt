@@ -6,7 +6,7 @@ use mathlib.Core.List.{List, [], _∷_}
 use mathlib.Core.Path.{_≡_}
 use denote.Ref.{now}
 use Rattle.scan.specs.Ascii.{ascii}
-use Rattle.scan.specs.Byte.{isWithin, isIn, isSpace, isAlpha, isAlphaNumeric, isWord, isLine, lowered}
+use Rattle.scan.specs.Byte.{isWithin, isIn, isSpace, isAlpha, isAlphaNumeric, isWord, isLine, isQuote, lowered}
 use Rattle.proving.proofs.One.{Answers}
 use Rattle.scan.specs.Run.{runLength}
 use Rattle.scan.specs.Text.{has, sameText}
@@ -18,13 +18,13 @@ use Rattle.token.specs.Words.{_names_, words, kindIn, keywordOf}
 use Rattle.token.specs.steps.Padded.{padded}
 use Rattle.token.specs.steps.WordRows.{tableOf, isRow, foundIn, keywordIn}
 use Rattle.quoted.specs.Quoted.{quotedFrom, commentEnd}
-use Rattle.munch.specs.Lead.{symbolOf, leadOf, braceSymbolOf, braceLeadOf, bracketSymbolOf, bracketLeadOf}
-use Rattle.munch.specs.Word.{isFill, ruleBy, isOr, braceRule, kindBy}
+use Rattle.munch.specs.Word.{isWordStart, isFill, ruleBy, isOr, braceRule, kindBy}
 use Rattle.munch.specs.declared.Inside.the-variants.{Nothing, Braces, Brackets}
 use Rattle.munch.specs.declared.Mode.{Mode}
 use Rattle.munch.specs.declared.Step.{Step}
 use Rattle.munch.specs.declared.Step.the-variants.{Lexeme, Comment, Refused, Finished}
-use Rattle.munch.specs.Munch.{mode, outside, quotedStep, commentStep, wordStep, bangStep, rightParenStep, leftBracketStep, endStep, outsideStep, braceWord, braceStep, colonStep, bracketStep, munchedBy, munched}
+use Rattle.munch.specs.Munch.{mode, outside, quotedStep, commentStep, wordStep, bangStep, rightParenStep, endStep, braceWord, colonStep, outsideTable, braceTable, bracketTable, stepIn, munched}
+use Rattle.munch.specs.steps.Lent.{wordStepBy, munchedBy}
 use Rattle.munch.proofs.munch_in.Kinds as munch-in
 use Rattle.munch.proofs.munch_in.Reads as munch-in-reads
 use Rattle.munch.proofs.munch.Kinds as munch
@@ -32,14 +32,14 @@ use Rattle.munch.proofs.munch.Reads as munch-reads
 
 -- what computes at the bytes that are left
 munching : Unit {0}
-unfolding munchedBy outsideStep braceStep bracketStep quotedStep commentStep wordStep braceWord bangStep rightParenStep leftBracketStep endStep colonStep leadOf symbolOf braceLeadOf braceSymbolOf bracketLeadOf bracketSymbolOf isFill ruleBy isOr braceRule kindBy keywordIn foundIn isRow tableOf padded keywordOf words kindIn quotedFrom commentEnd charsPast sizeOf charLength sizeIn fits codeOf isWithin isIn isSpace isAlpha isAlphaNumeric isWord isLine lowered runLength sameText has
+unfolding munched munchedBy stepIn outsideTable braceTable bracketTable quotedStep commentStep wordStep wordStepBy braceWord bangStep rightParenStep endStep colonStep isWordStart isQuote isFill ruleBy isOr braceRule kindBy keywordIn foundIn isRow tableOf padded keywordOf words kindIn quotedFrom commentEnd charsPast sizeOf charLength sizeIn fits codeOf isWithin isIn isSpace isAlpha isAlphaNumeric isWord isLine lowered runLength sameText has
 munching = tt
 
 abbrev munch-in-gives : List ℕ → List ℕ → Mode → Step → Type 0
 munch-in-gives table xs m v =
     Answers munch-in.ps munch-in.r munch-in-reads.Post (λ κs a. (now (a .0) ≡ table) × (now (a .1 .0) ≡ xs) × (a .1 .1 .0 ≡ m)) (λ κs. v)
 
-munch-in-at : (table xs : List ℕ) (m : Mode) → munch-in-gives table xs m (munchedBy (keywordIn table) m xs)
+munch-in-at : (table xs : List ℕ) (m : Mode) → munch-in-gives table xs m (munchedBy table m xs)
 munch-in-at table xs m κs a x e p h = cc (p, h .0, h .1, h .2)
 
 pub word-has-the-kind-of-the-table : munch-in-gives (tableOf ("a" names lor ∷ [])) (ascii "a") outside (Lexeme lor 1 outside)

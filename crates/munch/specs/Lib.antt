@@ -1,4 +1,4 @@
-pub mod Lead
 pub mod Munch
 pub mod Word
 pub mod laws
+pub mod steps

@@ -1,32 +1,24 @@
 -- One step of reading a query: what the bytes that are left begin with, in a mode. Document 01, "Lexing rules"; its refusals 10 to 32, of which
--- "11, 12 and 14 to 18 are given only outside braces and brackets, 13 also in braces".
+-- "11, 12 and 14 to 18 are given only outside braces and brackets, 13 also in braces". The three tables say what each first byte does.
 -- A refusal's place is its offset in the bytes that are left: "it" is 0, or 1 behind a `!`; "end" is where they end, which is 1 behind a `!`.
 use Prim.Native.Nat.{ℕ, suc, _-_}
-use Prim.Native.Char.{code}
+use Prim.Native.Char.{Char, code}
 use mathlib.Core.Bool.{Bool, true, false, cond}
-use mathlib.Core.List.{List}
+use mathlib.Core.List.{List, [], _∷_}
 use lib.Dec.{eqb, ltb}
 use lib.ListN.{take, drop}
 use Rattle.scan.specs.declared.byte.Class.the-variants.{AlphaNumeric, Word}
-use Rattle.scan.specs.Byte.{end, peekAt, isDigit, isIn}
+use Rattle.scan.specs.Byte.{end, peekAt, isSpace, isAlpha, isDigit, isQuote, isIn}
 use Rattle.scan.specs.Run.{runEnd}
-use Rattle.token.specs.declared.Keyword.{Keyword}
 use Rattle.token.specs.Words.{keywordOf}
-use Rattle.token.specs.Kinds.{string, number, duration, leftParen, rightParen, leftBrace, rightBrace, leftBracket, rightBracket, comma, colon, eql, eqlc, neq, lte, lss, gte, gtr, eqlRegex, neqRegex}
+use Rattle.token.specs.Kinds.{string, number, duration, leftParen, rightParen, leftBrace, rightBrace, leftBracket, rightBracket, comma, colon, eql, add, sub, mul, div, modulo, pow, eqlc, neq, lte, lss, gte, gtr, eqlRegex, neqRegex, atSign}
 use Rattle.numeral.specs.declared.Numeral.{Numeral}
 use Rattle.numeral.specs.declared.Numeral.the-variants.{Number, Duration, Neither}
 use Rattle.numeral.specs.Numeral.{numeralOf}
 use Rattle.quoted.specs.declared.Quoted.{Quoted}
 use Rattle.quoted.specs.declared.Quoted.the-variants as quoting
 use Rattle.quoted.specs.Quoted.{quotedOf, commentEnd}
-use Rattle.munch.specs.declared.lead.Lead.{Lead}
-use Rattle.munch.specs.declared.lead.Lead.the-variants as lead
-use Rattle.munch.specs.declared.lead.BraceLead.{BraceLead}
-use Rattle.munch.specs.declared.lead.BraceLead.the-variants as brace
-use Rattle.munch.specs.declared.lead.BracketLead.{BracketLead}
-use Rattle.munch.specs.declared.lead.BracketLead.the-variants as bracket
-use Rattle.munch.specs.Lead.{leadOf, braceLeadOf, bracketLeadOf}
-use Rattle.munch.specs.Word.{ruleBy, braceRule, kindBy}
+use Rattle.munch.specs.Word.{isWordStart, ruleBy, braceRule, kindBy}
 use Rattle.munch.specs.declared.Inside.{Inside}
 use Rattle.munch.specs.declared.Inside.the-variants.{Nothing, Braces, Brackets}
 use Rattle.munch.specs.declared.Mode.{Mode}
@@ -49,6 +41,20 @@ mostDepth = 0xffffffffffffffff
 unfoldable pub deeper : ℕ → ℕ
 deeper depth = cond (ltb depth mostDepth) (suc depth) depth
 
+-- the steps that a first byte can begin, each of the bytes from it on: one whatever follows; so a sign that is whole with its one byte, a byte
+-- of white space, and what is refused as it stands
+abbrev pub always : Step → List ℕ → Step
+always s xs = s
+
+abbrev pub sign : ℕ → Mode → List ℕ → Step
+sign kind m = always (Lexeme kind 1 m)
+
+abbrev pub white : Mode → List ℕ → Step
+white m = always (Space m)
+
+abbrev pub refuse : ℕ → List ℕ → Step
+refuse number = always (Refused number 0)
+
 -- one step where a byte, or the end, follows the first, else another
 abbrev pub ifNext : List ℕ → ℕ → Step → Step → Step
 ifNext xs c two one = cond (eqb (peekAt xs 1) c) two one
@@ -67,10 +73,6 @@ unfoldable pub dotStep : Mode → List ℕ → Step
 dotStep m xs = cond (isDigit (peekAt xs 1)) (numberStep m xs) (ifNext xs end (Refused 15 0) (Refused 14 1))
 
 -- "The lexeme includes both signs." 21 to 23 are given where `quoted` says, one byte on for the opening sign
-abbrev pub stringRefused : Quoted → Step
-stringRefused (quoting.Closed n) = Refused 0 0
-stringRefused (quoting.Refused r n) = Refused r (suc n)
-
 abbrev pub quotedBy : Mode → Quoted → Step
 quotedBy m (quoting.Closed n) = Lexeme string (suc n) m
 quotedBy m (quoting.Refused r n) = Refused r (suc n)
@@ -81,18 +83,23 @@ quotedStep m xs = quotedBy m (quotedOf (peekAt xs 0) (drop 1 xs))
 unfoldable pub commentStep : List ℕ → Step
 commentStep xs = Comment (suc (commentEnd (drop 1 xs)))
 
--- "Outside braces a word .. goes on with letters, digits, `:`"; `look` gives the kind that a word has of its own
-unfoldable pub wordStep : (List ℕ → Keyword) → Mode → List ℕ → Step
-wordStep look m xs = let n = runEnd (isIn Word) xs 1 in Lexeme (kindBy (ruleBy (look (take n xs)) xs n)) n m
+-- "Outside braces a word .. goes on with letters, digits, `:`"
+unfoldable pub wordStep : Mode → List ℕ → Step
+wordStep m xs = let n = runEnd (isIn Word) xs 1 in Lexeme (kindBy (ruleBy (keywordOf (take n xs)) xs n)) n m
 
--- 11 "`=~` outside braces", at "the `~`"
+-- "Inside braces every word (no colon) is .."
+unfoldable pub braceWord : Mode → List ℕ → Step
+braceWord m xs = let n = runEnd (isIn AlphaNumeric) xs 1 in Lexeme (kindBy (braceRule xs n)) n m
+
+-- `==`; 11 "`=~` outside braces", at "the `~`"; `=`
 unfoldable pub equalsStep : Mode → List ℕ → Step
 equalsStep m xs = ifNext xs (code "=") (Lexeme eqlc 2 m) (ifNext xs (code "~") (Refused 11 1) (Lexeme eql 1 m))
 
--- 13 "`!` at the end"; 12 "other character after `!` outside"
+-- `!=`; 13 "`!` at the end"; 12 "other character after `!` outside"
 unfoldable pub bangStep : Mode → List ℕ → Step
 bangStep m xs = ifNext xs (code "=") (Lexeme neq 2 m) (ifNext xs end (Refused 13 1) (Refused 12 1))
 
+-- `<=` and `<`, `>=` and `>`
 unfoldable pub compareStep : ℕ → ℕ → Mode → List ℕ → Step
 compareStep equal alone m xs = ifNext xs (code "=") (Lexeme equal 2 m) (Lexeme alone 1 m)
 
@@ -100,86 +107,110 @@ compareStep equal alone m xs = ifNext xs (code "=") (Lexeme equal 2 m) (Lexeme a
 unfoldable pub rightParenStep : ℕ → Step
 rightParenStep d = cond (eqb d 0) (Refused 16 0) (Lexeme rightParen 1 (mode (d - 1) Nothing))
 
-unfoldable pub leftBracketStep : ℕ → Step
-leftBracketStep d = Lexeme leftBracket 1 (mode d (Brackets false true))
-
 -- 10 "end with `(` open, no other refusal there": what is open inside, a string and a `!` have refusals of their own
 unfoldable pub endStep : ℕ → Step
 endStep d = cond (eqb d 0) Finished (Refused 10 0)
 
--- outside braces and brackets, by what the first byte begins; white space is passed a byte at a time, and ends "just opened", while a comment
--- leaves the mode as it is; 17, 18 "unmatched .. `}`, `]`"; 19 "other character outside"
-unfoldable pub outsideStep : (List ℕ → Keyword) → ℕ → List ℕ → Lead → Step
-outsideStep look d xs lead.Letter = wordStep look (mode d Nothing) xs
-outsideStep look d xs lead.White = Space (mode d Nothing)
-outsideStep look d xs lead.Hash = commentStep xs
-outsideStep look d xs lead.Quote = quotedStep (mode d Nothing) xs
-outsideStep look d xs (lead.Sign k) = Lexeme k 1 (mode d Nothing)
-outsideStep look d xs lead.Digit = numberStep (mode d Nothing) xs
-outsideStep look d xs lead.Dot = dotStep (mode d Nothing) xs
-outsideStep look d xs lead.Equals = equalsStep (mode d Nothing) xs
-outsideStep look d xs lead.Bang = bangStep (mode d Nothing) xs
-outsideStep look d xs lead.Less = compareStep lte lss (mode d Nothing) xs
-outsideStep look d xs lead.Greater = compareStep gte gtr (mode d Nothing) xs
-outsideStep look d xs lead.LeftParen = Lexeme leftParen 1 (mode (deeper d) Nothing)
-outsideStep look d xs lead.RightParen = rightParenStep d
-outsideStep look d xs lead.LeftBrace = Lexeme leftBrace 1 (mode d Braces)
-outsideStep look d xs lead.RightBrace = Refused 17 0
-outsideStep look d xs lead.LeftBracket = leftBracketStep d
-outsideStep look d xs lead.RightBracket = Refused 18 0
-outsideStep look d xs lead.End = endStep d
-outsideStep look d xs lead.Other = Refused 19 0
-
--- "Inside braces every word (no colon) is .."
-unfoldable pub braceWord : Mode → List ℕ → Step
-braceWord m xs = let n = runEnd (isIn AlphaNumeric) xs 1 in Lexeme (kindBy (braceRule xs n)) n m
-
+-- in braces: `=~`, `=`
 unfoldable pub braceEquals : Mode → List ℕ → Step
 braceEquals m xs = ifNext xs (code "~") (Lexeme eqlRegex 2 m) (Lexeme eql 1 m)
 
--- 13 "`!` at the end", "also in braces"; 24 "other character after `!` .. inside braces"
+-- `!=`, `!~`; 13 "`!` at the end", "also in braces"; 24 "other character after `!` .. inside braces"
 unfoldable pub braceBang : Mode → List ℕ → Step
 braceBang m xs =
     ifNext xs (code "=") (Lexeme neq 2 m) (ifNext xs (code "~") (Lexeme neqRegex 2 m) (ifNext xs end (Refused 13 1) (Refused 24 1)))
-
--- in braces; 25 "`{` in braces"; 27 "end in braces"; 26 "other character .. in braces"
-unfoldable pub braceStep : ℕ → List ℕ → BraceLead → Step
-braceStep d xs brace.Letter = braceWord (mode d Braces) xs
-braceStep d xs brace.White = Space (mode d Braces)
-braceStep d xs brace.Hash = commentStep xs
-braceStep d xs brace.Quote = quotedStep (mode d Braces) xs
-braceStep d xs brace.Comma = Lexeme comma 1 (mode d Braces)
-braceStep d xs brace.Equals = braceEquals (mode d Braces) xs
-braceStep d xs brace.Bang = braceBang (mode d Braces) xs
-braceStep d xs brace.RightBrace = Lexeme rightBrace 1 (mode d Nothing)
-braceStep d xs brace.LeftBrace = Refused 25 0
-braceStep d xs brace.End = Refused 27 0
-braceStep d xs brace.Other = Refused 26 0
 
 -- 28 "second colon"; 29 "colon directly after `[`"
 unfoldable pub colonStep : ℕ → Bool → Bool → Step
 colonStep d seen fresh = cond seen (Refused 28 0) (cond fresh (Refused 29 0) (Lexeme colon 1 (mode d (Brackets true false))))
 
--- in brackets: whether their colon was seen, and whether the byte before is their `[`; 30 "`[` in brackets"; 32 "end .. in brackets"; 31 "other
--- character .. in brackets"
-unfoldable pub bracketStep : ℕ → Bool → Bool → List ℕ → BracketLead → Step
-bracketStep d seen fresh xs bracket.Digit = numberStep (mode d (Brackets seen false)) xs
-bracketStep d seen fresh xs bracket.White = Space (mode d (Brackets seen false))
-bracketStep d seen fresh xs bracket.Colon = colonStep d seen fresh
-bracketStep d seen fresh xs bracket.RightBracket = Lexeme rightBracket 1 (mode d Nothing)
-bracketStep d seen fresh xs bracket.LeftBracket = Refused 30 0
-bracketStep d seen fresh xs bracket.End = Refused 32 0
-bracketStep d seen fresh xs bracket.Other = Refused 31 0
+-- a row of a table: the first bytes that it is for, and the step that they begin
+pub record Opening : Type 0 where
+  pub takes : ℕ → Bool
+  pub step : List ℕ → Step
 
--- the step in a mode, with the words that a search knows
-abbrev pub stepIn : (List ℕ → Keyword) → ℕ → Inside → List ℕ → Step
-stepIn look d Nothing xs = outsideStep look d xs (leadOf (peekAt xs 0))
-stepIn look d Braces xs = braceStep d xs (braceLeadOf (peekAt xs 0))
-stepIn look d (Brackets seen fresh) xs = bracketStep d seen fresh xs (bracketLeadOf (peekAt xs 0))
+abbrev pub row : (ℕ → Bool) → (List ℕ → Step) → Opening
+row takes step = record { takes = takes; step = step }
 
-unfoldable pub munchedBy : (List ℕ → Keyword) → Mode → List ℕ → Step
-munchedBy look m xs = stepIn look (m .depth) (m .inside) xs
+-- a sign, and the end
+abbrev pub is : Char → ℕ → Bool
+is x c = eqb c (code x)
 
--- with document 01's words
-abbrev pub munched : Mode → List ℕ → Step
-munched m xs = munchedBy keywordOf m xs
+abbrev pub isEnd : ℕ → Bool
+isEnd c = eqb c end
+
+-- the step of the first row that is for the byte; where none is, it is refused with a number
+abbrev pub stepFor : List Opening → ℕ → ℕ → List ℕ → Step
+stepFor [] number c = refuse number
+stepFor (o ∷ t) number c = cond (o .takes c) (o .step) (stepFor t number c)
+
+-- outside braces and brackets; 17, 18 "unmatched .. `}`, `]`"
+unfoldable pub outsideTable : ℕ → List Opening
+outsideTable d =
+    let here = mode d Nothing in
+    row isWordStart (wordStep here)
+    ∷ row isSpace (white here)
+    ∷ row isQuote (quotedStep here)
+    ∷ row isDigit (numberStep here)
+    ∷ row isEnd (always (endStep d))
+    ∷ row (is "#") commentStep
+    ∷ row (is ".") (dotStep here)
+    ∷ row (is "(") (sign leftParen (mode (deeper d) Nothing))
+    ∷ row (is ")") (always (rightParenStep d))
+    ∷ row (is "{") (sign leftBrace (mode d Braces))
+    ∷ row (is "}") (refuse 17)
+    ∷ row (is "[") (sign leftBracket (mode d (Brackets false true)))
+    ∷ row (is "]") (refuse 18)
+    ∷ row (is ",") (sign comma here)
+    ∷ row (is "=") (equalsStep here)
+    ∷ row (is "+") (sign add here)
+    ∷ row (is "-") (sign sub here)
+    ∷ row (is "*") (sign mul here)
+    ∷ row (is "/") (sign div here)
+    ∷ row (is "%") (sign modulo here)
+    ∷ row (is "^") (sign pow here)
+    ∷ row (is "!") (bangStep here)
+    ∷ row (is "<") (compareStep lte lss here)
+    ∷ row (is ">") (compareStep gte gtr here)
+    ∷ row (is "@") (sign atSign here)
+    ∷ []
+
+-- in braces, which "also hold white space, comments, strings, `, = =~ != !~`, nothing else"; 25 "`{` in braces"; 27 "end in braces"
+unfoldable pub braceTable : ℕ → List Opening
+braceTable d =
+    let here = mode d Braces in
+    row isAlpha (braceWord here)
+    ∷ row isSpace (white here)
+    ∷ row isQuote (quotedStep here)
+    ∷ row isEnd (refuse 27)
+    ∷ row (is "#") commentStep
+    ∷ row (is "{") (refuse 25)
+    ∷ row (is "}") (sign rightBrace (mode d Nothing))
+    ∷ row (is ",") (sign comma here)
+    ∷ row (is "=") (braceEquals here)
+    ∷ row (is "!") (braceBang here)
+    ∷ []
+
+-- in brackets, which "hold white space, numbers, durations and at most one colon, not directly after `[`": whether their colon was seen, and
+-- whether the byte before is their `[`. White space ends that, so that `[ :5m]` is accepted. A `#` begins nothing there ("none exist inside
+-- `[ ]`"), nor does a point ("outside brackets, by `.` and a digit"). 30 "`[` in brackets"; 32 "end .. in brackets"
+unfoldable pub bracketTable : ℕ → Bool → Bool → List Opening
+bracketTable d seen fresh =
+    let here = mode d (Brackets seen false) in
+    row isSpace (white here)
+    ∷ row isDigit (numberStep here)
+    ∷ row isEnd (refuse 32)
+    ∷ row (is "[") (refuse 30)
+    ∷ row (is "]") (sign rightBracket (mode d Nothing))
+    ∷ row (is ":") (always (colonStep d seen fresh))
+    ∷ []
+
+-- 19, 26, 31 "other character outside, in braces, in brackets"
+unfoldable pub stepIn : ℕ → Inside → ℕ → List ℕ → Step
+stepIn d Nothing = stepFor (outsideTable d) 19
+stepIn d Braces = stepFor (braceTable d) 26
+stepIn d (Brackets seen fresh) = stepFor (bracketTable d seen fresh) 31
+
+-- the step, by the first of the bytes that are left, or their end
+unfoldable pub munched : Mode → List ℕ → Step
+munched m xs = stepIn (m .depth) (m .inside) (peekAt xs 0) xs

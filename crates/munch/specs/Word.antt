@@ -1,13 +1,13 @@
 -- The rule that gives a word its kind: document 01, "Lexing rules". A word is the first n bytes of those that are left.
 use Prim.Native.Nat.{ℕ}
 use Prim.Native.Char.{code}
-use mathlib.Core.Bool.{Bool, cond, _&&_}
+use mathlib.Core.Bool.{Bool, cond, _&&_, _||_}
 use mathlib.Core.List.{List, map}
 use lib.Dec.{eqb}
 use lib.ListN.{take}
 use Rattle.scan.specs.declared.byte.Class.the-variants.{Space}
 use Rattle.scan.specs.Ascii.{ascii}
-use Rattle.scan.specs.Byte.{peekAt, isWithin, lowered, isIn}
+use Rattle.scan.specs.Byte.{peekAt, isWithin, isAlpha, lowered, isIn}
 use Rattle.scan.specs.Run.{runEnd}
 use Rattle.scan.specs.Text.{sameText, has}
 use Rattle.token.specs.declared.Keyword.{Keyword}
@@ -15,6 +15,10 @@ use Rattle.token.specs.declared.Keyword.the-variants.{Kind, Nothing}
 use Rattle.munch.specs.declared.word.Rule.{Rule}
 use Rattle.munch.specs.declared.word.Rule.the-variants.{Or, InBraces, Table, FillCalled, FillAlone, WithColon, Plain}
 use Rattle.token.specs.Kinds.{identifier, metricIdentifier, lor, fill, fillRight}
+
+-- "Outside braces a word starts with a letter or `:`"
+unfoldable pub isWordStart : ℕ → Bool
+isWordStart c = isAlpha c || eqb c (code ":")
 
 -- "fill, fill_left and fill_right"
 unfoldable pub isFill : ℕ → Bool

@@ -1,3 +1,2 @@
-pub mod Lead
 pub mod Rows
 pub mod Step

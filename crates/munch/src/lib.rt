@@ -1,27 +1,24 @@
 // One step of reading a query: what the bytes that are left begin with, by the mode that those before have led to.
 // Document 01's rows that refuse it are numbered in `refusals`.
-pub mod lead;
 mod refusals;
+mod signs;
 pub mod word;
 
-use crate::lead::BraceLead;
-use crate::lead::BracketLead;
-use crate::lead::Lead;
 use numeral::Numeral;
 use quoted::Quoted;
 use scan::byte;
 use scan::byte::Class;
 use token::kinds;
 ghost use mathlib.Core.Path.{_≡_};
-ghost use mathlib.Core.Bool.{true};
+ghost use mathlib.Core.Bool.{true, false};
 ghost use Prim.Native.Nat.{ℕ, suc, _^_, _<_};
 ghost use lib.ListN.{length};
-ghost use Rattle.scan.specs.Byte.{peekAt};
-ghost use Rattle.token.specs.steps.WordRows.{keywordIn};
-ghost use Rattle.munch.specs.Lead.{isQuote, leadOf, braceLeadOf, bracketLeadOf};
+ghost use Rattle.scan.specs.Byte.{peekAt, isSpace, isDigit, isQuote};
 ghost use Rattle.numeral.specs.declared.Numeral.the-variants.{Number};
 ghost use Rattle.quoted.specs.declared.Quoted.the-variants as quoting;
-ghost use Rattle.munch.specs.Munch.{mode, deeper, ifNext, numberBy, numberStep, dotStep, stringRefused, quotedStep, commentStep, wordStep, equalsStep, bangStep, compareStep, leftBracketStep, rightParenStep, endStep, outsideStep, braceWord, braceEquals, braceBang, braceStep, colonStep, bracketStep, munchedBy, munched};
+ghost use Rattle.munch.specs.Word.{isWordStart};
+ghost use Rattle.munch.specs.Munch.{mode, deeper, ifNext, numberBy, numberStep, dotStep, quotedStep, commentStep, equalsStep, bangStep, compareStep, rightParenStep, endStep, braceWord, braceEquals, braceBang, colonStep, stepIn, munched};
+ghost use Rattle.munch.specs.steps.Lent.{wordStepBy, lentStep, munchedBy};
 
 // What is open inside a query's parentheses: nothing, braces, or brackets; of these, whether their colon was seen, and whether they were just
 // opened.
@@ -110,7 +107,7 @@ fn number_step(s: &[u8], mode: Mode) -> Step
 // The refusal of a string, one byte on for the opening sign.
 fn string_refused(q: Quoted) -> Step
     requires { ⌜ ((number at : ℕ) → q ≡ quoting.Refused number at → suc at < 2 ^ 64) ⌝ }
-    ensures { λ r. ⌜ r ≡ stringRefused q ⌝ }
+    ensures { λ r. ⌜ ((number at : ℕ) → q ≡ quoting.Refused number at → r ≡ Step.Refused number (suc at)) ⌝ }
 {
     let Quoted::Refused { number, at } = q else {
         return refused(utf8::NO_REFUSAL, 0);
@@ -142,7 +139,7 @@ fn comment_step(s: &[u8]) -> Step
 // A word outside braces, by a table of words.
 fn word_step(words: &[u8], s: &[u8], mode: Mode) -> Step
     requires { ⌜ 0 < length (now s) ⌝ }
-    ensures { λ r. ⌜ r ≡ wordStep (keywordIn (now (words .entry))) mode (now (s .entry)) ⌝ }
+    ensures { λ r. ⌜ r ≡ wordStepBy (now (words .entry)) mode (now (s .entry)) ⌝ }
 {
     let n = scan::run_end(Class::Word, s, 1);
     let own = token::keyword_in(words, &s[..n]);
@@ -230,15 +227,15 @@ fn right_paren(depth: usize) -> Step
     lexeme(kinds::T_RIGHT_PAREN, 1, in_mode(depth - 1, Inside::Nothing))
 }
 
-// An opening bracket.
-fn left_bracket(depth: usize) -> Step
-    ensures { λ r. ⌜ r ≡ leftBracketStep depth ⌝ }
+// Brackets just opened.
+fn just_opened(depth: usize) -> Mode
+    ensures { λ r. ⌜ r ≡ mode depth (Inside.Brackets false true) ⌝ }
 {
     let inside = Inside::Brackets {
         seen: false,
         fresh: true,
     };
-    lexeme(kinds::T_LEFT_BRACKET, 1, in_mode(depth, inside))
+    in_mode(depth, inside)
 }
 
 // The end outside.
@@ -251,37 +248,69 @@ fn end_step(depth: usize) -> Step
     refused(refusals::UNCLOSED_PAREN, 0)
 }
 
-// A step outside braces and brackets.
-fn outside_step(words: &[u8], s: &[u8], depth: usize) -> Step
-    ensures { λ r. ⌜ r ≡ outsideStep (keywordIn (now (words .entry))) depth (now (s .entry)) (leadOf (peekAt (now (s .entry)) 0)) ⌝ }
+// A step outside that a sign begins, the end, or another character.
+fn sign_step(s: &[u8], c: usize, depth: usize) -> Step
+    requires { ⌜ c ≡ peekAt (now s) 0 ⌝ }
+    requires { ⌜ (isWordStart c ≡ false) × (isSpace c ≡ false) × (isQuote c ≡ false) × (isDigit c ≡ false) ⌝ }
+    ensures { λ r. ⌜ r ≡ stepIn depth Inside.Nothing c (now (s .entry)) ⌝ }
 {
     let here = in_mode(depth, Inside::Nothing);
-    let l = lead::lead_of(byte::peek(s, 0));
-    match l {
-        Lead::Letter => word_step(words, s, here),
-        Lead::White => Step::Space { mode: here },
-        Lead::Hash => comment_step(s),
-        Lead::Quote => quoted_step(s, here),
-        Lead::Sign(kind) => lexeme(kind, 1, here),
-        Lead::Digit => number_step(s, here),
-        Lead::Dot => dot_step(s, here),
-        Lead::Equals => equals_step(s, here),
-        Lead::Bang => bang_step(s, here),
-        Lead::Less => compare_step(s, kinds::T_LTE, kinds::T_LSS, here),
-        Lead::Greater => compare_step(s, kinds::T_GTE, kinds::T_GTR, here),
-        Lead::LeftParen => lexeme(
+    match c {
+        byte::END => end_step(depth),
+        signs::HASH => comment_step(s),
+        signs::DOT => dot_step(s, here),
+        signs::LEFT_PAREN => lexeme(
             kinds::T_LEFT_PAREN,
             1,
             in_mode(deeper(depth), Inside::Nothing),
         ),
-        Lead::RightParen => right_paren(depth),
-        Lead::LeftBrace => lexeme(kinds::T_LEFT_BRACE, 1, in_mode(depth, Inside::Braces)),
-        Lead::RightBrace => refused(refusals::UNMATCHED_BRACE, 0),
-        Lead::LeftBracket => left_bracket(depth),
-        Lead::RightBracket => refused(refusals::UNMATCHED_BRACKET, 0),
-        Lead::End => end_step(depth),
-        Lead::Other => refused(refusals::OTHER, 0),
+        signs::RIGHT_PAREN => right_paren(depth),
+        signs::LEFT_BRACE => lexeme(kinds::T_LEFT_BRACE, 1, in_mode(depth, Inside::Braces)),
+        signs::RIGHT_BRACE => refused(refusals::UNMATCHED_BRACE, 0),
+        signs::LEFT_BRACKET => lexeme(kinds::T_LEFT_BRACKET, 1, just_opened(depth)),
+        signs::RIGHT_BRACKET => refused(refusals::UNMATCHED_BRACKET, 0),
+        signs::COMMA => lexeme(kinds::T_COMMA, 1, here),
+        signs::EQUALS => equals_step(s, here),
+        signs::PLUS => lexeme(kinds::T_ADD, 1, here),
+        signs::MINUS => lexeme(kinds::T_SUB, 1, here),
+        signs::STAR => lexeme(kinds::T_MUL, 1, here),
+        signs::SLASH => lexeme(kinds::T_DIV, 1, here),
+        signs::PERCENT => lexeme(kinds::T_MOD, 1, here),
+        signs::CARET => lexeme(kinds::T_POW, 1, here),
+        signs::BANG => bang_step(s, here),
+        signs::LESS => compare_step(s, kinds::T_LTE, kinds::T_LSS, here),
+        signs::GREATER => compare_step(s, kinds::T_GTE, kinds::T_GTR, here),
+        signs::AT => lexeme(kinds::T_AT, 1, here),
+        _ => refused(refusals::OTHER, 0),
     }
+}
+
+// Whether a byte begins a word outside braces.
+fn is_word_start(c: usize) -> bool
+    ensures { λ r. ⌜ r ≡ isWordStart c ⌝ }
+{
+    byte::is_alpha(c) || c == signs::COLON
+}
+
+// A step outside braces and brackets.
+fn outside_step(words: &[u8], s: &[u8], depth: usize) -> Step
+    ensures { λ r. ⌜ r ≡ lentStep (now (words .entry)) depth Inside.Nothing (now (s .entry)) ⌝ }
+{
+    let here = in_mode(depth, Inside::Nothing);
+    let c = byte::peek(s, 0);
+    if is_word_start(c) {
+        return word_step(words, s, here);
+    }
+    if byte::is_space(c) {
+        return Step::Space { mode: here };
+    }
+    if byte::is_quote(c) {
+        return quoted_step(s, here);
+    }
+    if byte::is_digit(c) {
+        return number_step(s, here);
+    }
+    sign_step(s, c, depth)
 }
 
 // An equals sign in braces.
@@ -312,22 +341,28 @@ fn brace_bang(s: &[u8], mode: Mode) -> Step
 
 // A step in braces.
 fn brace_step(s: &[u8], depth: usize) -> Step
-    ensures { λ r. ⌜ r ≡ braceStep depth (now (s .entry)) (braceLeadOf (peekAt (now (s .entry)) 0)) ⌝ }
+    ensures { λ r. ⌜ r ≡ munched (mode depth Inside.Braces) (now (s .entry)) ⌝ }
 {
     let here = in_mode(depth, Inside::Braces);
-    let l = lead::brace_lead_of(byte::peek(s, 0));
-    match l {
-        BraceLead::Letter => brace_word(s, here),
-        BraceLead::White => Step::Space { mode: here },
-        BraceLead::Hash => comment_step(s),
-        BraceLead::Quote => quoted_step(s, here),
-        BraceLead::Comma => lexeme(kinds::T_COMMA, 1, here),
-        BraceLead::Equals => brace_equals(s, here),
-        BraceLead::Bang => brace_bang(s, here),
-        BraceLead::RightBrace => lexeme(kinds::T_RIGHT_BRACE, 1, in_mode(depth, Inside::Nothing)),
-        BraceLead::LeftBrace => refused(refusals::BRACE_IN_BRACES, 0),
-        BraceLead::End => refused(refusals::END_IN_BRACES, 0),
-        BraceLead::Other => refused(refusals::OTHER_IN_BRACES, 0),
+    let c = byte::peek(s, 0);
+    if byte::is_alpha(c) {
+        return brace_word(s, here);
+    }
+    if byte::is_space(c) {
+        return Step::Space { mode: here };
+    }
+    if byte::is_quote(c) {
+        return quoted_step(s, here);
+    }
+    match c {
+        byte::END => refused(refusals::END_IN_BRACES, 0),
+        signs::HASH => comment_step(s),
+        signs::LEFT_BRACE => refused(refusals::BRACE_IN_BRACES, 0),
+        signs::RIGHT_BRACE => lexeme(kinds::T_RIGHT_BRACE, 1, in_mode(depth, Inside::Nothing)),
+        signs::COMMA => lexeme(kinds::T_COMMA, 1, here),
+        signs::EQUALS => brace_equals(s, here),
+        signs::BANG => brace_bang(s, here),
+        _ => refused(refusals::OTHER_IN_BRACES, 0),
     }
 }
 
@@ -350,29 +385,29 @@ fn colon_step(depth: usize, seen: bool, fresh: bool) -> Step
 
 // A step in brackets.
 fn bracket_step(s: &[u8], depth: usize, seen: bool, fresh: bool) -> Step
-    ensures { λ r. ⌜ r ≡ bracketStep depth seen fresh (now (s .entry)) (bracketLeadOf (peekAt (now (s .entry)) 0)) ⌝ }
+    ensures { λ r. ⌜ r ≡ munched (mode depth (Inside.Brackets seen fresh)) (now (s .entry)) ⌝ }
 {
     let inside = Inside::Brackets { seen, fresh: false };
     let here = in_mode(depth, inside);
-    let l = lead::bracket_lead_of(byte::peek(s, 0));
-    match l {
-        BracketLead::Digit => number_step(s, here),
-        BracketLead::White => Step::Space { mode: here },
-        BracketLead::Colon => colon_step(depth, seen, fresh),
-        BracketLead::RightBracket => lexeme(
-            kinds::T_RIGHT_BRACKET,
-            1,
-            in_mode(depth, Inside::Nothing),
-        ),
-        BracketLead::LeftBracket => refused(refusals::BRACKET_IN_BRACKETS, 0),
-        BracketLead::End => refused(refusals::END_IN_BRACKETS, 0),
-        BracketLead::Other => refused(refusals::OTHER_IN_BRACKETS, 0),
+    let c = byte::peek(s, 0);
+    if byte::is_space(c) {
+        return Step::Space { mode: here };
+    }
+    if byte::is_digit(c) {
+        return number_step(s, here);
+    }
+    match c {
+        byte::END => refused(refusals::END_IN_BRACKETS, 0),
+        signs::LEFT_BRACKET => refused(refusals::BRACKET_IN_BRACKETS, 0),
+        signs::RIGHT_BRACKET => lexeme(kinds::T_RIGHT_BRACKET, 1, in_mode(depth, Inside::Nothing)),
+        signs::COLON => colon_step(depth, seen, fresh),
+        _ => refused(refusals::OTHER_IN_BRACKETS, 0),
     }
 }
 
 // What the bytes that are left begin with, by a table of words.
 pub fn munch_in(words: &[u8], s: &[u8], mode: Mode) -> Step
-    ensures { λ r. ⌜ r ≡ munchedBy (keywordIn (now (words .entry))) mode (now (s .entry)) ⌝ }
+    ensures { λ r. ⌜ r ≡ munchedBy (now (words .entry)) mode (now (s .entry)) ⌝ }
 {
     let inside = mode.inside;
     match inside {

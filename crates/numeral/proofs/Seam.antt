@@ -18,7 +18,7 @@ use Rattle.scan.proofs.Runs.{run-within, run-append, peek-append}
 use Rattle.scan.specs.Sign.{isSign, pastSign}
 use Rattle.numeral.specs.declared.Part.{Part}
 use Rattle.numeral.specs.declared.Part.the-variants.{Unit, UnitS, Digits}
-use Rattle.numeral.specs.Numeral.{isHex, fractionEnd, mantissaEnd, exponentEnd, numberEnd, isUnit, isFirstUnit, stopOf, turnOf, turned, partOf, durationFrom, numeralOf}
+use Rattle.numeral.specs.Numeral.{isHex, fractionEnd, mantissaEnd, exponentEnd, numberEnd, isUnit, isFirstUnit, stopOf, turnOf, turned, partBehind, durationFrom, numeralOf}
 use Rattle.numeral.specs.laws.Numeral.{NumeralSeam}
 use Rattle.numeral.proofs.Within.{alpha-ascii, point-ascii, letter-ascii, past, sign-edge, hex-edge, digitsEnd, digits-edge, number-edge}
 
@@ -105,7 +105,7 @@ line-ends Digits n ys = refl
 duration-line : (p : Part) (n : ℕ) (xs ys : List ℕ) → durationFrom p n (lined xs ys) ≡ durationFrom p n xs
 unfolding durationFrom
 duration-line p n [] ys = line-ends p n ys
-duration-line p n (x ∷ xs) ys = ap (turned (turnOf p x) n) (duration-line (partOf (turnOf p x)) (n + 1) xs ys)
+duration-line p n (x ∷ xs) ys = ap (turned (turnOf p x) n) (duration-line (partBehind (turnOf p x)) (n + 1) xs ys)
 
 pub numeral-seam : NumeralSeam
 unfolding numeralOf

@@ -19,7 +19,7 @@ use Rattle.numeral.specs.declared.Part.the-variants.{Unit, UnitS, Digits
 use Rattle.numeral.specs.declared.Turn.{Turn}
 use Rattle.numeral.specs.declared.Turn.the-variants.{On, Ends, Fails}
 use Rattle.numeral.specs.declared.Numeral.{Numeral}
-use Rattle.numeral.specs.Numeral.{isUnit, stopOf, turnOf, turned, partOf, durationFrom}
+use Rattle.numeral.specs.Numeral.{isUnit, stopOf, turnOf, turned, partBehind, durationFrom}
 
 unit-ascii : AsciiAlone isUnit
 unfolding isUnit
@@ -55,12 +55,12 @@ end-turned UnitS n rest = refl
 end-turned Digits n rest = refl
 
 turned-at : (p : Part) (n : ℕ) (xs : List ℕ) (i : ℕ)
-    → durationFrom p n (drop i xs) ≡ turned (turnOf p (peekAt xs i)) n (durationFrom (partOf (turnOf p (peekAt xs i))) (n + 1) (drop (suc i) xs))
+    → durationFrom p n (drop i xs) ≡ turned (turnOf p (peekAt xs i)) n (durationFrom (partBehind (turnOf p (peekAt xs i))) (n + 1) (drop (suc i) xs))
 turned-at p n [] zero = end-turned p n _
 turned-at p n [] (suc i) = end-turned p n _
 turned-at p n (x ∷ xs) zero = unfold durationFrom in refl
 turned-at p n (x ∷ xs) (suc i) = turned-at p n xs i
 
 pub duration-at : (p : Part) (xs : List ℕ) (n : ℕ) {t : Turn} → turnOf p (peekAt xs n) ≡ t
-    → durationFrom p n (drop n xs) ≡ turned t n (durationFrom (partOf t) (n + 1) (drop (n + 1) xs))
+    → durationFrom p n (drop n xs) ≡ turned t n (durationFrom (partBehind t) (n + 1) (drop (n + 1) xs))
 duration-at p xs n e = rw (turned-at p n xs n, e, add-one)

@@ -25,7 +25,7 @@ use Rattle.numeral.specs.declared.Part.the-variants.{Unit}
 use Rattle.numeral.specs.declared.Turn.{Turn}
 use Rattle.numeral.specs.declared.Turn.the-variants.{On, Ends, Fails}
 use Rattle.numeral.specs.declared.Numeral.{Numeral}
-use Rattle.numeral.specs.Numeral.{isHex, fractionEnd, mantissaEnd, exponentEnd, numberEnd, isFirstUnit, turnOf, turned, partOf, durationFrom, taken, numeralOf}
+use Rattle.numeral.specs.Numeral.{isHex, fractionEnd, mantissaEnd, exponentEnd, numberEnd, isFirstUnit, turnOf, turned, partBehind, durationFrom, taken, numeralOf}
 use Rattle.numeral.specs.laws.Numeral.{NumeralWithin}
 use Rattle.numeral.proofs.Turns.{on-ascii, on-inside, duration-at}
 
@@ -114,7 +114,7 @@ module _ (xs : List ℕ) where
       → Within n (durationFrom p n (drop n xs))
   turn-within p n h next = rw (duration-at p xs n refl) (go (turnOf p (peekAt xs n)) refl)
     where
-      go : (t : Turn) → turnOf p (peekAt xs n) ≡ t → Within n (turned t n (durationFrom (partOf t) (n + 1) (drop (n + 1) xs)))
+      go : (t : Turn) → turnOf p (peekAt xs n) ≡ t → Within n (turned t n (durationFrom (partBehind t) (n + 1) (drop (n + 1) xs)))
       go (On q) e = let r = next q (on-inside p q xs n e) (rw add-one (behind n (on-ascii q (peekAt xs n) p e))) in (omega (arith, r .0), r .1)
       go Ends e = (omega arith, h)
       go Fails e = (omega arith, h)

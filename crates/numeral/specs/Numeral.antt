@@ -63,15 +63,15 @@ turned (On p) n rest = rest
 turned Ends n rest = Duration n
 turned Fails n rest = Neither n
 
-abbrev pub partOf : Turn → Part
-partOf (On p) = p
-partOf Ends = Unit
-partOf Fails = Unit
+abbrev pub partBehind : Turn → Part
+partBehind (On p) = p
+partBehind Ends = Unit
+partBehind Fails = Unit
 
 -- the bytes of a duration that was read through to a part, n bytes before them
 unfoldable pub durationFrom : Part → ℕ → List ℕ → Numeral
 durationFrom p n [] = turned (turnOf p end) n (Neither n)
-durationFrom p n (x ∷ xs) = let t = turnOf p x in turned t n (durationFrom (partOf t) (n + 1) xs)
+durationFrom p n (x ∷ xs) = let t = turnOf p x in turned t n (durationFrom (partBehind t) (n + 1) xs)
 
 -- how many bytes are taken
 abbrev pub taken : Numeral → ℕ

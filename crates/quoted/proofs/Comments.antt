@@ -32,8 +32,7 @@ line-within xs = omega (arith, run-within (isIn Line) xs 0)
 to-the-end : (xs : List ℕ) → ltb (runEnd (isIn Line) xs 0) (length xs) ≡ false → runEnd (isIn Line) xs 0 ≡ length xs
 to-the-end xs e = omega (arith, ltb-false (runEnd (isIn Line) xs 0) (length xs) e, line-within xs)
 
--- in any case it ends within the bytes
-pub comment-few : (xs : List ℕ) → commentEnd xs ≤ length xs
+comment-few : (xs : List ℕ) → commentEnd xs ≤ length xs
 unfolding commentEnd
 comment-few xs =
     let n = runEnd (isIn Line) xs 0 in
@@ -41,11 +40,13 @@ comment-few xs =
 
 pub comment-within : CommentWithin
 unfolding commentEnd
-comment-within xs b =
-    let n = runEnd (isIn Line) xs 0 in
-    either (Edge xs) (ltb n (length xs))
-    (λ e. behind n (line-end (peekAt xs n) (b n (ltb-true n (length xs) e)) (run-stopped (isIn Line) (end-in-none Line) xs 0)))
-    (λ e. subst (Edge xs) (sym (to-the-end xs e)) last)
+comment-within xs =
+    let n = runEnd (isIn Line) xs 0 in (
+      comment-few xs,
+      λ b. either (Edge xs) (ltb n (length xs))
+          (λ e. behind n (line-end (peekAt xs n) (b n (ltb-true n (length xs) e)) (run-stopped (isIn Line) (end-in-none Line) xs 0)))
+          (λ e. subst (Edge xs) (sym (to-the-end xs e)) last),
+    )
 
 -- with a newline behind the bytes, a comment takes in the byte that ends it
 newline-ends : (xs ys : List ℕ) → commentEnd (xs ++ code "\n" ∷ ys) ≡ suc (runEnd (isIn Line) xs 0)

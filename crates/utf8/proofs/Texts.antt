@@ -16,6 +16,7 @@ use Rattle.utf8.specs.Code.{codeOf}
 use Rattle.utf8.specs.Text.{Char, charsOf, sizeOf, prefixEnd, begunIn, charNumber}
 use Rattle.utf8.specs.Answers.{place, nextStart, characterAt}
 use Rattle.utf8.specs.laws.Characters.{One, OneByOne, CharsOne, CharacterOne}
+use Rattle.utf8.specs.laws.Bounds.{PrefixBound}
 use Rattle.proving.proofs.Choice.{either-same, and-left, and-right}
 use Rattle.utf8.proofs.Lead.{second, sized, char-by}
 use Rattle.utf8.proofs.Chars.{char-bound, chars-none, chars-some}
@@ -120,7 +121,7 @@ Filled (c ∷ cs) = (0 < c .size) × Filled cs
 pub filled : (xs : List ℕ) → Filled (charsOf xs)
 filled = by-characters (λ xs. Filled (charsOf xs)) (λ xs e. rw (chars-none xs e) tt) (λ bs ys o ih. rw (chars-one bs ys o) (o .some, ih))
 
-pub prefix-bound : (xs : List ℕ) → prefixEnd xs ≤ length xs
+pub prefix-bound : PrefixBound
 unfolding sizeOf
 prefix-bound =
     by-characters (λ xs. prefixEnd xs ≤ length xs) (λ xs e. rw (chars-none xs e) (omega arith))

@@ -29,11 +29,11 @@ pub data Case : Type 0 where
   -- a duration is written as a text
   written : Duration → List ℕ → Case
 
-abbrev pub duration : ℕ → ℕ → Duration
-duration s n = record { secs = s; nanos = n }
+abbrev pub elapsed : ℕ → ℕ → Duration
+elapsed s n = record { secs = s; nanos = n }
 
 abbrev pub days : ℕ → Duration
-days n = duration (n * 86400) 0
+days n = elapsed (n * 86400) 0
 
 abbrev pub queries : List Case
 queries =
@@ -52,8 +52,8 @@ texts =
     literal Crate (ascii "\"\\303\\251\"") (0xc3 ∷ 0x83 ∷ 0xc2 ∷ 0xa9 ∷ [])
     ∷ literal Documented (ascii "\"\\303\\251\"") (0xc3 ∷ 0xa9 ∷ [])
     ∷ timed (ascii "0") (Refused (atStart 51))
-    ∷ timed (ascii "00") (Lasts (duration 0 0))
-    ∷ timed (ascii "0.0009765625") (Lasts (duration 0 976562))
+    ∷ timed (ascii "00") (Lasts (elapsed 0 0))
+    ∷ timed (ascii "0.0009765625") (Lasts (elapsed 0 976562))
     ∷ timed (ascii "1d5000000000ms") (Lasts (days 1))
     ∷ written (days 90) (ascii "90d")
     ∷ written (days 14) (ascii "2w")

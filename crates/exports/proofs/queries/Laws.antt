@@ -5,17 +5,18 @@ use mathlib.Core.Path.{_≡_, subst}
 use Rattle.lex.specs.declared.Lexing.{Lexing}
 use Rattle.lex.specs.declared.Lexing.the-variants.{Count, Refused}
 use Rattle.lex.specs.Lex.{lexed}
-use Rattle.lex.proofs.Bounds.{Bounded, lexing-bound}
+use Rattle.lex.specs.laws.Bounds.{LexingWithin}
+use Rattle.lex.proofs.Bounds.{lexing-bounded}
 use Rattle.exports.specs.Lexer.{lexerCode}
 use Rattle.exports.specs.laws.Codes.{looksRefused, isNotLexed, LexerTold, LexerKept}
-use Rattle.exports.proofs.packing.Laws.{small, packed-told, placed-kept}
+use Rattle.exports.proofs.packing.Laws.{small, packed-told}
 
 pub lexer-told : LexerTold
-lexer-told room q = go (lexed room q) (lexing-bound room q)
+lexer-told room q = go (lexed room q) (lexing-bounded room q)
   where
-    go : (x : Lexing) → Bounded x → looksRefused (lexerCode x) ≡ isNotLexed x
+    go : (x : Lexing) → LexingWithin x → looksRefused (lexerCode x) ≡ isNotLexed x
     go (Count n) h = small n (omega arith)
     go (Refused r) h = packed-told r
 
 pub lexer-kept : LexerKept
-lexer-kept room q r e = placed-kept (omega arith) (omega arith) (subst Bounded e (lexing-bound room q))
+lexer-kept room q r e = let b = subst LexingWithin e (lexing-bounded room q) in omega (arith, b .0, b .1, b .2)

@@ -8,7 +8,7 @@ use contract.Lifetimes.{Lfts}
 use borrow.Fn.Kinds.{Dens}
 use denote.Ref.{now}
 use Rattle.scan.specs.Ascii.{ascii}
-use Rattle.scan.specs.Byte.{isWithin, isIn, isSpace, isAlpha, isAlphaNumeric, isWord, lowered}
+use Rattle.scan.specs.Byte.{isWithin, isIn, isSpace, isAlpha, isAlphaNumeric, isWord, isQuote, lowered}
 use Rattle.proving.proofs.One.{Answers, Leaves}
 use Rattle.scan.specs.Run.{runLength}
 use Rattle.scan.specs.Text.{has, sameText}
@@ -17,11 +17,10 @@ use Rattle.utf8.specs.Code.{codeOf}
 use Rattle.utf8.specs.Text.{charsPast, sizeOf, begunIn, charNumber}
 use Rattle.utf8.specs.Answers.{validityOf, admitted}
 use Rattle.token.specs.Words.{words, kindIn, keywordOf}
-use Rattle.munch.specs.Lead.{symbolOf, leadOf}
-use Rattle.munch.specs.Word.{ruleBy, kindBy}
-use Rattle.munch.specs.Munch.{wordStep, endStep, outsideStep, munchedBy}
-use Rattle.lex.specs.Steps.{stepsPast, readFrom}
-use Rattle.lex.specs.Lex.{tallied, measured, lexed, listed, leftBy, kindOf, startOf, lengthOf, shortest}
+use Rattle.munch.specs.Word.{isWordStart, ruleBy, kindBy}
+use Rattle.munch.specs.Munch.{wordStep, endStep, outsideTable, stepIn, munched}
+use Rattle.lex.specs.Outcome.{stepsPast, readFrom}
+use Rattle.lex.specs.Lex.{answerBy, measured, lexed, listed, leftAfter, kindOf, startsAt, lengthOf, shortest}
 use Rattle.exports.specs.Packed.{packedAs}
 use Rattle.exports.specs.Lexer.{lexerCode}
 use Rattle.exports.proofs.queries.simmerpath_lexer.Kinds as simmerpath-lexer
@@ -29,7 +28,7 @@ use Rattle.exports.proofs.queries.simmerpath_lexer.Reads as simmerpath-
 
 -- what computes at an input
 computing : Unit {0}
-unfolding lexed measured tallied stepsPast readFrom munchedBy outsideStep leadOf symbolOf wordStep endStep ruleBy kindBy keywordOf words kindIn admitted validityOf charsPast sizeOf charNumber begunIn charLength sizeIn fits codeOf isWithin isIn isSpace isAlpha isAlphaNumeric isWord lowered runLength sameText has
+unfolding lexed measured answerBy stepsPast readFrom munched stepIn outsideTable isWordStart isQuote wordStep endStep ruleBy kindBy keywordOf words kindIn admitted validityOf charsPast sizeOf charNumber begunIn charLength sizeIn fits codeOf isWithin isIn isSpace isAlpha isAlphaNumeric isWord lowered runLength sameText has
 computing = tt
 
 -- the query and the three lists that are lent
@@ -61,7 +60,7 @@ abbrev simmerpath-lexer-leaves-kinds : List ℕ → List ℕ → List ℕ → Li
 simmerpath-lexer-leaves-kinds q ks ss ls v =
     Leaves simmerpath-lexer.ps simmerpath-lexer.r simmerpath-lexer-reads.Post (Given q ks ss ls) (λ κs e. now (e .1 .0)) v
 
-simmerpath-lexer-left-kinds : (q ks ss ls : List ℕ) → simmerpath-lexer-leaves-kinds q ks ss ls (leftBy (lexed (shortest (length ks) (length ss) (length ls)) q) (listed kindOf q ks) ks)
+simmerpath-lexer-left-kinds : (q ks ss ls : List ℕ) → simmerpath-lexer-leaves-kinds q ks ss ls (leftAfter (lexed (shortest (length ks) (length ss) (length ls)) q) (listed kindOf q ks) ks)
 simmerpath-lexer-left-kinds q ks ss ls κs a x e p h = cc (p .1 .0, h .0, h .1, h .2, h .3)
 
 pub kinds-behind-the-last-stay : simmerpath-lexer-leaves-kinds (ascii "ab") nines nines nines (1 ∷ 0 ∷ 9 ∷ [])
@@ -76,7 +75,7 @@ abbrev simmerpath-lexer-leaves-starts : List ℕ → List ℕ → List ℕ → L
 simmerpath-lexer-leaves-starts q ks ss ls v =
     Leaves simmerpath-lexer.ps simmerpath-lexer.r simmerpath-lexer-reads.Post (Given q ks ss ls) (λ κs e. now (e .1 .1 .0)) v
 
-simmerpath-lexer-left-starts : (q ks ss ls : List ℕ) → simmerpath-lexer-leaves-starts q ks ss ls (leftBy (lexed (shortest (length ks) (length ss) (length ls)) q) (listed startOf q ss) ss)
+simmerpath-lexer-left-starts : (q ks ss ls : List ℕ) → simmerpath-lexer-leaves-starts q ks ss ls (leftAfter (lexed (shortest (length ks) (length ss) (length ls)) q) (listed startsAt q ss) ss)
 simmerpath-lexer-left-starts q ks ss ls κs a x e p h = cc (p .1 .1 .0, h .0, h .1, h .2, h .3)
 
 pub starts-are-not-taken-for-lengths : simmerpath-lexer-leaves-starts (ascii "ab") nines nines nines (0 ∷ 2 ∷ 9 ∷ [])
@@ -91,7 +90,7 @@ abbrev simmerpath-lexer-leaves-lengths : List ℕ → List ℕ → List ℕ → 
 simmerpath-lexer-leaves-lengths q ks ss ls v =
     Leaves simmerpath-lexer.ps simmerpath-lexer.r simmerpath-lexer-reads.Post (Given q ks ss ls) (λ κs e. now (e .1 .1 .1 .0)) v
 
-simmerpath-lexer-left-lengths : (q ks ss ls : List ℕ) → simmerpath-lexer-leaves-lengths q ks ss ls (leftBy (lexed (shortest (length ks) (length ss) (length ls)) q) (listed lengthOf q ls) ls)
+simmerpath-lexer-left-lengths : (q ks ss ls : List ℕ) → simmerpath-lexer-leaves-lengths q ks ss ls (leftAfter (lexed (shortest (length ks) (length ss) (length ls)) q) (listed lengthOf q ls) ls)
 simmerpath-lexer-left-lengths q ks ss ls κs a x e p h = cc (p .1 .1 .1, h .0, h .1, h .2, h .3)
 
 pub lengths-are-not-taken-for-starts : simmerpath-lexer-leaves-lengths (ascii "ab") nines nines nines (2 ∷ 0 ∷ 9 ∷ [])

@@ -15,7 +15,7 @@ use Rattle.token.specs.Words.{keywordOf}
 use Rattle.munch.specs.Word.{isFill}
 use Rattle.lex.specs.declared.Lexing.{Lexing}
 use Rattle.lex.specs.declared.Lexing.the-variants.{Count, Refused}
-use Rattle.lex.specs.Steps.{Entry, entry}
+use Rattle.lex.specs.Outcome.{Entry, entry}
 use Rattle.lex.specs.Lex.{entriesOf, measured, lexed, roomed}
 
 -- two queries with a newline between

@@ -7,14 +7,14 @@ use denote.Ref.{now}
 use lib.ListN.{length, drop, length-drop}
 use Rattle.scan.proofs.Edges.{edge-within}
 use Rattle.proving.proofs.Lists.{rest-of}
-use Rattle.token.specs.steps.WordRows.{keywordIn}
 use Rattle.munch.specs.declared.Mode.{Mode}
 use Rattle.munch.specs.declared.Step.{Step}
-use Rattle.munch.specs.Munch.{munchedBy, munched}
+use Rattle.munch.specs.Munch.{munched}
+use Rattle.munch.specs.steps.Lent.{munchedBy}
 use Rattle.munch.specs.laws.Step.{Past, Goes}
 use Rattle.munch.proofs.Table.{by-table}
-use Rattle.lex.specs.Steps.{stepLength, stepMode, followed, stepsPast, readFrom}
-use Rattle.lex.specs.Lex.{tallied, tallyOf}
+use Rattle.lex.specs.Outcome.{stepLength, stepMode, followed, stepsPast, readFrom}
+use Rattle.lex.specs.steps.Tally.{tallied, tallyOf}
 use Rattle.lex.proofs.Steps.{steps-at, goes-at}
 use borrow.Author.Needs.{needs}
 use Rattle.lex.proofs.count_lexemes.Statement.{statement}
@@ -42,7 +42,7 @@ mode c = c .before .before .loop .mode
 
 told : (c : Place) {s : Step} → c .munch-in .result ≡ s → munched (mode c) (drop (from c) (bytes c)) ≡ s
 told c e =
-    sym (c .munch-in .ensures ∙ ap₂ (λ (w t : List ℕ). munchedBy (keywordIn w) (mode c) t) (c .before .before .before .before .before .pre .0) (rest-of (bytes c) (from c)) ∙ by-table (mode c) (drop (from c) (bytes c)))
+    sym (c .munch-in .ensures ∙ ap₂ (λ (w t : List ℕ). munchedBy w (mode c) t) (c .before .before .before .before .before .pre .0) (rest-of (bytes c) (from c)) ∙ by-table (mode c) (drop (from c) (bytes c)))
     ∙ e
 
 -- how far it goes, and what the rest of the steps is
@@ -55,7 +55,7 @@ further c g = (g .some, omega (arith, g .within, length-drop (from c) (bytes c),
 still : (c : Place) {s : Step} → c .munch-in .result ≡ s
     → tallyOf (bytes c) ≡ tallied (c .before .before .loop .count) (readFrom (from c) (followed s (stepsPast 0 (stepMode (mode c) s) (drop (from c + stepLength s) (bytes c)))))
 still c e =
-    c .before .before .loop .inv .2 ∙ ap (λ (t : List Step). tallied (c .before .before .loop .count) (readFrom (from c) t)) (steps-at (bytes c) (from c) (mode c) (told c e))
+    c .before .before .loop .inv .2 ∙ ap (λ (t : List Step). tallied (c .before .before .loop .count) (readFrom (from c) t)) (steps-at (bytes c) (from c) (mode c) _ (told c e))
 
 loop-holds : tie.Need-loop-holds Inv-loop μ-loop
 loop-holds c = (search needs, search needs, refl)

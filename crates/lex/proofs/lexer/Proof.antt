@@ -4,7 +4,8 @@ use mathlib.Core.Path.{refl, sym, ap, _∙_}
 use denote.Ref.{now}
 use Rattle.lex.specs.declared.Lexing.the-variants.{Refused}
 use Rattle.lex.specs.Lex.{lexed}
-use Rattle.lex.proofs.Measures.{measured-count, fits, fits-not}
+use Rattle.lex.proofs.Given.{measured-given}
+use Rattle.lex.proofs.Room.{fits, fits-not}
 use borrow.Author.Needs.{needs}
 use Rattle.lex.proofs.lexer.Statement.{statement}
 use Rattle.lex.proofs.lexer.Tie as tie
@@ -41,9 +42,9 @@ slice-aggregate-write-lexemes c = search needs
 
 write-lexemes-requires : tie.Need-write-lexemes-requires
 write-lexemes-requires c κs =
-    let t = measured-count (now (c .before .before .before .before .before .before .before .before .before .before .before .before .before .before .before .args .query)) _ (sym (c .before .before .before .before .before .before .before .before .before .before .measure .ensures) ∙ c .before .before .before .before .before .before .before .before .m .given .1) in
+    let t = measured-given (now (c .before .before .before .before .before .before .before .before .before .before .before .before .before .before .before .args .query)) _ .0 (sym (c .before .before .before .before .before .before .before .before .before .before .measure .ensures) ∙ c .before .before .before .before .before .before .before .before .m .given .1) in
     let s = c .before .before .before .before .before .before .shortest .ensures in
-    (c .before .before .before .before .words .ensures, (omega (arith, t .0 .0), (omega (arith, t .1, s), (omega (arith, t .1, s), omega (arith, t .1, s)))))
+    (c .before .before .before .before .words .ensures, (omega (arith, t .0 .0), (omega (arith, t .2, s), (omega (arith, t .2, s), omega (arith, t .2, s)))))
 
 same-length : tie.Need-same-length
 same-length c = search needs

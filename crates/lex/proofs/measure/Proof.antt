@@ -6,7 +6,9 @@ use Rattle.utf8.specs.Answers.{textLimit, notAdmitted}
 use Rattle.utf8.proofs.Given.{admitted-text}
 use Rattle.lex.specs.declared.Tally.{Tally}
 use Rattle.lex.specs.declared.Lexing.the-variants.{Refused}
-use Rattle.lex.specs.Lex.{refusedIn, counted, measured}
+use Rattle.lex.specs.Lex.{measured}
+use Rattle.lex.specs.steps.Tally.{refusedIn, answerIn}
+use Rattle.lex.proofs.Tallies.{tally-answer}
 use borrow.Author.Needs.{needs}
 use Rattle.lex.proofs.measure.Statement.{statement}
 use Rattle.lex.proofs.measure.Tie as tie
@@ -50,9 +52,9 @@ refused-in-requires : tie.Need-refused-in-requires
 refused-in-requires c κs = search needs
 
 -- a text that is admitted is measured by its count
-counts : (c : tie.After-count-lexemes) (t : Tally) → c .count-lexemes .result ≡ t → let q = now (c .before .before .before .before .before .before .before .args .query) in counted q t ≡ measured q
+counts : (c : tie.After-count-lexemes) (t : Tally) → c .count-lexemes .result ≡ t → let q = now (c .before .before .before .before .before .before .before .args .query) in answerIn q t ≡ measured q
 unfolding measured
-counts c t e = rw (← c .before .before .before .before .before .admit .ensures, c .before .before .before .enum-told .given .1, ← c .count-lexemes .ensures, e)
+counts c t e = let q = now (c .before .before .before .before .before .before .before .args .query) in rw (← c .before .before .before .before .before .admit .ensures, c .before .before .before .enum-told .given .1, ← e, c .count-lexemes .ensures) (tally-answer q)
 
 returns-2 : tie.Need-returns-2
 returns-2 c =

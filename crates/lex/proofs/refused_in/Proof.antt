@@ -1,7 +1,7 @@
 -- The refusal is that of a count that is known to be one.
 use mathlib.Core.Path.{sym, ap, _∙_}
 use denote.Ref.{now}
-use Rattle.lex.specs.Lex.{refusedIn}
+use Rattle.lex.specs.steps.Tally.{refusedIn}
 use borrow.Author.Needs.{needs}
 use Rattle.lex.proofs.refused_in.Statement.{statement}
 use Rattle.lex.proofs.refused_in.Tie as tie

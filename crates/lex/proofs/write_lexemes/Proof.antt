@@ -13,7 +13,7 @@ use Rattle.munch.specs.declared.Step.{Step}
 use Rattle.munch.specs.Munch.{munched}
 use Rattle.munch.specs.laws.Step.{Goes}
 use Rattle.munch.proofs.Table.{by-table}
-use Rattle.lex.specs.Steps.{stepLength, stepMode, followed, stepsPast, readFrom}
+use Rattle.lex.specs.Outcome.{stepLength, stepMode, followed, stepsPast, readFrom}
 use Rattle.lex.specs.Lex.{entries}
 use Rattle.lex.proofs.Steps.{steps-at, goes-at}
 use Rattle.lex.proofs.Lists.{Written, written-start, written-more, written-end}
@@ -60,7 +60,7 @@ module _ (c : Place) {s : Step} (e : c .munch-in .result ≡ s) where
   goes = (goes-at (bytes c) (at c) (mode c) told, length-drop (at c) (bytes c))
 
   left : Left c s
-  left = rw (steps-at (bytes c) (at c) (mode c) told) at (c .before .before .loop .inv .2)
+  left = rw (steps-at (bytes c) (at c) (mode c) _ told) at (c .before .before .loop .inv .2)
 
 -- behind `put`: where the step was seen to be a lexeme
 abbrev seen : tie.After-slice-known6 Inv-loop μ-loop → tie.After-s Inv-loop μ-loop

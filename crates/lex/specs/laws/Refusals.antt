@@ -13,7 +13,7 @@ use Rattle.munch.specs.declared.Step.the-variants.{Lexeme, Space, Comment, Fini
 use Rattle.munch.specs.Munch.{outside, munched}
 use Rattle.munch.specs.laws.Rows.{Row}
 use Rattle.lex.specs.declared.Lexing.the-variants.{Count, Refused}
-use Rattle.lex.specs.Lex.{entriesOf, refusedAt, lexed}
+use Rattle.lex.specs.Lex.{entriesOf, refusedAt, measured, lexed}
 
 -- the reading reaches an offset, in a mode, with nothing refused before it
 pub data Reaches (q : List ℕ) : ℕ → Mode → Type 0 where
@@ -52,6 +52,10 @@ LexingGiven =
     × ((r p : ℕ) → firstRow ≤ r → x ≡ Refused (refusedAt q r p) ↔ Taken textLimit q × RowAt q r p)
     × (x ≡ Refused noRoom ↔ Taken textLimit q × Ends q × (room < length (entriesOf q)))
     × ((n : ℕ) → x ≡ Count n ↔ Taken textLimit q × Ends q × (n ≡ length (entriesOf q)) × (n ≤ room))
+
+-- and measured without regard to room
+abbrev pub MeasuredGiven : Type 0
+MeasuredGiven = (q : List ℕ) (n : ℕ) → measured q ≡ Count n ↔ Taken textLimit q × Ends q × (n ≡ length (entriesOf q))
 
 -- no two rows hold, and none where the reading comes to the end
 abbrev pub OneRowAt : Type 0

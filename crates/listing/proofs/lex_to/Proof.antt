@@ -4,7 +4,7 @@ use Rattle.listing.proofs.Few.{refused-few}
 use Rattle.listing.proofs.Lexemes.{lists-hold}
 use Rattle.listing.specs.Listing.{mostLexemes, zipped, printedBy, refusal}
 use Rattle.lex.specs.declared.Lexing.{Lexing}
-use Rattle.lex.specs.Lex.{entriesOf, refusedBy, lexed, shortest}
+use Rattle.lex.specs.Lex.{entriesOf, notLexed, lexed, shortest}
 use denote.Ref.{now}
 use lib.Seq.{length-take-le}
 use lib.ListN.{length, take}
@@ -24,8 +24,8 @@ enum-known-x c = search needs
 enum-told : tie.Need-enum-told
 enum-told c = search needs
 
-refused-by-requires : tie.Need-refused-by-requires
-refused-by-requires c κs = search needs
+not-lexed-requires : tie.Need-not-lexed-requires
+not-lexed-requires c κs = search needs
 
 put-refusal-requires : tie.Need-put-refusal-requires
 put-refusal-requires c κs = search needs
@@ -67,7 +67,7 @@ returns c =
     let x = c .before .before .before .before .before .enum-told .given in
     let start = c .before .before .before .before .before .before .before .before .before .before .before .before .before .before .before .before .before .before .before .before .before .before in
     let e = answered (c .before .before .before .before .before .before .before .before .before .before .before .before .before) (x .1) in
-    let r : c .before .before .before .refused-by .result ≡ x .0 .0 = c .before .before .before .refused-by .ensures ∙ ap refusedBy (x .1) in
+    let r : c .before .before .before .not-lexed .result ≡ x .0 .0 = c .before .before .before .not-lexed .ensures ∙ ap notLexed (x .1) in
     rw e (puts _ 0 (refusal (x .0 .0)) (rw r at (c .before .before .put-refusal .ensures)) (omega (arith, start .pre, refused-few mostLexemes (now (start .args .query)) (x .0 .0) e)))
 
 slice-reshare-prefix-put-lexemes : tie.Need-slice-reshare-prefix-put-lexemes
@@ -122,7 +122,7 @@ lex-to-spec =
     lexer-requires
     enum-known-x
     enum-told
-    refused-by-requires
+    not-lexed-requires
     put-refusal-requires
     same-length
     same-length-2

@@ -4,7 +4,7 @@ use Rattle.listing.proofs.Few.{lexeme-few}
 use Rattle.listing.proofs.Lexemes.{text-more, text-all}
 use Rattle.listing.specs.steps.Puts.{Puts}
 use Rattle.listing.specs.Listing.{longestLexeme, lexemeText, lexemesText, zipped}
-use Rattle.lex.specs.Steps.{entry}
+use Rattle.lex.specs.Outcome.{entry}
 use mathlib.Core.Path.{_≡_, refl}
 use lib.ListN.{length, take, getD}
 use denote.Ref.{now}

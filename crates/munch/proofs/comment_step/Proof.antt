@@ -5,7 +5,7 @@ use denote.Ref.{now}
 use lib.ListN.{drop, length-drop}
 use Rattle.proving.proofs.Lists.{rest-of}
 use Rattle.quoted.specs.Quoted.{commentEnd}
-use Rattle.quoted.proofs.Comments.{comment-few}
+use Rattle.quoted.proofs.Comments.{comment-within}
 use Rattle.munch.specs.declared.Step.the-variants.{Comment}
 use Rattle.munch.specs.Munch.{commentStep}
 use borrow.Author.Needs.{needs}
@@ -29,7 +29,7 @@ there : (c : tie.After-comment-end) → c .comment-end .result ≡ commentEnd (d
 there c = c .comment-end .ensures ∙ ap commentEnd (rest-of (now (c .before .before .before .args .s)) 1)
 
 add-length : tie.Need-add-length
-add-length c = let s = now (c .before .before .before .args .s) in omega (arith, comment-few (drop 1 s), length-drop 1 s, there c)
+add-length c = let s = now (c .before .before .before .args .s) in omega (arith, comment-within (drop 1 s) .0, length-drop 1 s, there c)
 
 returns : tie.Need-returns
 unfolding commentStep

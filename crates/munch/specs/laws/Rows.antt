@@ -1,26 +1,24 @@
 -- Document 01's rows 10 to 32 as conditions: on the mode that a step is made in, on the bytes that are left, and on the place of the refusal
 -- among these. `RowsGiven` says that a step is refused with a number at a place exactly when its row holds; `proofs/Given` has the proof.
-use Prim.Native.Nat.{ℕ, suc, _<_}
+use Prim.Native.Nat.{ℕ, suc, _≤_, _<_}
 use Prim.Native.Char.{code}
-use mathlib.Core.Bool.{Bool, true, false}
-use mathlib.Core.List.{List}
+use Prim.Native.String as text
+use Prim.Native.String.{String}
+use mathlib.Core.Bool.{Bool, true, false, _||_}
+use mathlib.Core.List.{List, [], _∷_}
 use mathlib.Core.Logic.{_↔_, _⊎_}
 use mathlib.Core.Path.{_≡_}
 use lib.ListN.{drop}
-use Rattle.scan.specs.Byte.{end, peekAt, isDigit}
-use Rattle.token.specs.declared.Keyword.{Keyword}
+use Rattle.scan.specs.Byte.{end, peekAt, isSpace, isAlpha, isDigit, isQuote}
 use Rattle.numeral.specs.declared.Numeral.the-variants.{Neither}
 use Rattle.numeral.specs.Numeral.{numeralOf}
 use Rattle.quoted.specs.declared.Quoted.the-variants as quoting
 use Rattle.quoted.specs.Quoted.{unknownEscape, endInEscape, endInString, quotedOf}
-use Rattle.munch.specs.declared.lead.Lead.the-variants as lead
-use Rattle.munch.specs.declared.lead.BraceLead.the-variants as brace
-use Rattle.munch.specs.declared.lead.BracketLead.the-variants as bracket
-use Rattle.munch.specs.Lead.{isQuote, leadOf, braceLeadOf, bracketLeadOf}
 use Rattle.munch.specs.declared.Inside.the-variants.{Nothing, Braces, Brackets}
 use Rattle.munch.specs.declared.Mode.{Mode}
 use Rattle.munch.specs.declared.Step.the-variants.{Refused}
-use Rattle.munch.specs.Munch.{munchedBy}
+use Rattle.munch.specs.Word.{isWordStart}
+use Rattle.munch.specs.Munch.{is, isEnd, munched}
 
 -- where: outside braces and brackets, in braces, in brackets
 abbrev pub Outside : Mode → Type 0
@@ -49,6 +47,12 @@ NumberBegins m xs =
 -- "Strings open with `"`, `'` or a backquote"
 abbrev pub StringBegins : Mode → List ℕ → Type 0
 StringBegins m xs = (Outside m ⊎ InBraces m) × (isQuote (peekAt xs 0) ≡ true)
+
+-- whether a byte is of one of the classes, or one of the signs
+abbrev pub isOneOf : List (ℕ → Bool) → String → ℕ → Bool
+isOneOf [] text.[] c = false
+isOneOf [] (text._∷_ x signs) c = is x c || isOneOf [] signs c
+isOneOf (p ∷ ps) signs c = p c || isOneOf ps signs c
 
 -- 10 "end with `(` open, no other refusal there"
 abbrev pub ParenOpenAtEnd : Mode → List ℕ → Type 0
@@ -84,9 +88,12 @@ UnmatchedBrace m xs = Outside m × Begins (code "}") xs
 abbrev pub UnmatchedBracket : Mode → List ℕ → Type 0
 UnmatchedBracket m xs = Outside m × Begins (code "]") xs
 
--- 19 "other character outside": one that begins nothing there, by `specs/Lead`
+-- 19 "other character outside": than a word, white space, a string and a number begin with, the `#` of a comment, the point, and the signs
+abbrev pub namedOutside : ℕ → Bool
+namedOutside c = isOneOf (isWordStart ∷ isSpace ∷ isQuote ∷ isDigit ∷ isEnd ∷ []) "#.(){}[],=+-*/%^!<>@" c
+
 abbrev pub OtherOutside : Mode → List ℕ → Type 0
-OtherOutside m xs = Outside m × (leadOf (peekAt xs 0) ≡ lead.Other)
+OtherOutside m xs = Outside m × (namedOutside (peekAt xs 0) ≡ false)
 
 -- 20 "neither number nor duration", as `numeral` says of the bytes
 abbrev pub NeitherThere : ℕ → Mode → List ℕ → Type 0
@@ -105,9 +112,12 @@ AfterBangInBraces m xs =
 abbrev pub BraceInBraces : Mode → List ℕ → Type 0
 BraceInBraces m xs = InBraces m × Begins (code "{") xs
 
--- 26 "other character .. in braces": one that begins nothing there
+-- 26 "other character .. in braces": "Braces also hold white space, comments, strings, `, = =~ != !~`, nothing else"
+abbrev pub namedInBraces : ℕ → Bool
+namedInBraces c = isOneOf (isAlpha ∷ isSpace ∷ isQuote ∷ isEnd ∷ []) "#{},=!" c
+
 abbrev pub OtherInBraces : Mode → List ℕ → Type 0
-OtherInBraces m xs = InBraces m × (braceLeadOf (peekAt xs 0) ≡ brace.Other)
+OtherInBraces m xs = InBraces m × (namedInBraces (peekAt xs 0) ≡ false)
 
 -- 27 "end in braces"
 abbrev pub EndInBraces : Mode → List ℕ → Type 0
@@ -125,9 +135,12 @@ ColonFirst m xs = (b : InBrackets m) × (b .seen ≡ false) × (b .fresh ≡ tru
 abbrev pub BracketInBrackets : Mode → List ℕ → Type 0
 BracketInBrackets m xs = InBrackets m × Begins (code "[") xs
 
--- 31 "other character .. in brackets": one that begins nothing there
+-- 31 "other character .. in brackets": "Brackets hold white space, numbers, durations and at most one colon"
+abbrev pub namedInBrackets : ℕ → Bool
+namedInBrackets c = isOneOf (isSpace ∷ isDigit ∷ isEnd ∷ []) "[]:" c
+
 abbrev pub OtherInBrackets : Mode → List ℕ → Type 0
-OtherInBrackets m xs = InBrackets m × (bracketLeadOf (peekAt xs 0) ≡ bracket.Other)
+OtherInBrackets m xs = InBrackets m × (namedInBrackets (peekAt xs 0) ≡ false)
 
 -- 32 "end .. in brackets"
 abbrev pub EndInBrackets : Mode → List ℕ → Type 0
@@ -160,7 +173,11 @@ pub data Row (m : Mode) (xs : List ℕ) : ℕ → ℕ → Type 0 where
   row32 : EndInBrackets m xs → Row m xs 32 0
 
 abbrev pub RowsGiven : Type 0
-RowsGiven = (look : List ℕ → Keyword) (m : Mode) (xs : List ℕ) (r o : ℕ) → munchedBy look m xs ≡ Refused r o ↔ Row m xs r o
+RowsGiven = (m : Mode) (xs : List ℕ) (r o : ℕ) → munched m xs ≡ Refused r o ↔ Row m xs r o
+
+-- the first and the last of their numbers
+abbrev pub RowNumbers : Type 0
+RowNumbers = (m : Mode) (xs : List ℕ) (r o : ℕ) → Row m xs r o → (10 ≤ r) × (r ≤ 32)
 
 -- no two of them hold together
 abbrev pub OneRow : Type 0

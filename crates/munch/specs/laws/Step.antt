@@ -1,6 +1,6 @@
--- What the crates above may know of a step, as statements; `proofs/Goes` and `proofs/Seam` have their proofs. They hold whatever words a search
--- knows.
-use Prim.Native.Nat.{ℕ, suc, _≤_, _<_}
+-- What the crates above may know of a step, as statements; `proofs/Goes`, `proofs/Fits`, `proofs/Seam` and `proofs/Table`
+-- have their proofs.
+use Prim.Native.Nat.{ℕ, suc, _^_, _≤_, _<_}
 use Prim.Native.Char.{code}
 use mathlib.Core.Bool.{true}
 use mathlib.Core.List.{List, _∷_, _++_}
@@ -10,14 +10,16 @@ use Rattle.scan.specs.declared.byte.Class.the-variants as class
 use Rattle.scan.specs.Byte.{end, peekAt, isIn}
 use Rattle.scan.specs.laws.Edge.{Edge, Bytes}
 use Rattle.scan.specs.Run.{runEnd}
-use Rattle.token.specs.declared.Keyword.{Keyword}
 use Rattle.token.specs.declared.Keyword.the-variants.{Kind}
 use Rattle.token.specs.Kinds.{identifier}
+use Rattle.token.specs.Words.{keywordOf}
+use Rattle.token.specs.steps.WordRows.{wordTable}
 use Rattle.munch.specs.Word.{isFill}
 use Rattle.munch.specs.declared.Mode.{Mode}
 use Rattle.munch.specs.declared.Step.{Step}
 use Rattle.munch.specs.declared.Step.the-variants.{Lexeme, Space, Comment, Refused, Finished}
-use Rattle.munch.specs.Munch.{outside, munchedBy}
+use Rattle.munch.specs.Munch.{outside, munched}
+use Rattle.munch.specs.steps.Lent.{munchedBy}
 
 -- so many of the bytes, one at least; where they are a text, no character is cut behind them
 pub record Past (xs : List ℕ) (n : ℕ) : Type 0 where
@@ -34,16 +36,31 @@ Goes m xs (Refused r o) = Edge xs o
 Goes m xs Finished = (peekAt xs 0 ≡ end) × (m ≡ outside)
 
 abbrev pub StepGoes : Type 0
-StepGoes = (look : List ℕ → Keyword) (m : Mode) (xs : List ℕ) → Goes m xs (munchedBy look m xs)
+StepGoes = (m : Mode) (xs : List ℕ) → Goes m xs (munched m xs)
+
+-- the kind of a lexeme has 16 bits
+abbrev pub Fits : Step → Type 0
+Fits (Lexeme k n m) = k < 2 ^ 16
+Fits (Space m) = Unit {0}
+Fits (Comment n) = Unit {0}
+Fits (Refused r o) = Unit {0}
+Fits Finished = Unit {0}
+
+abbrev pub StepFits : Type 0
+StepFits = (m : Mode) (xs : List ℕ) → Fits (munched m xs)
 
 -- what a newline behind the bytes does to a step on them: nothing; but a comment that runs to the end takes it in, and a fill word with
 -- nothing but white space behind it may become one that a parenthesis follows. Of a refused step nothing is said.
-pub data Seam (look : List ℕ → Keyword) (xs : List ℕ) : Step → Step → Type 0 where
-  same : (s : Step) → Seam look xs s s
-  grown : Seam look xs (Comment (length xs)) (Comment (suc (length xs)))
-  called : (k n : ℕ) (m : Mode) → look (take n xs) ≡ Kind k → isFill k ≡ true → runEnd (isIn class.Space) xs n ≡ length xs → Seam look xs (Lexeme identifier n m) (Lexeme k n m)
-  refused : (r o : ℕ) (s : Step) → Seam look xs (Refused r o) s
+pub data Seam (xs : List ℕ) : Step → Step → Type 0 where
+  same : (s : Step) → Seam xs s s
+  grown : Seam xs (Comment (length xs)) (Comment (suc (length xs)))
+  called : (k n : ℕ) (m : Mode) → keywordOf (take n xs) ≡ Kind k → isFill k ≡ true → runEnd (isIn class.Space) xs n ≡ length xs → Seam xs (Lexeme identifier n m) (Lexeme k n m)
+  refused : (r o : ℕ) (s : Step) → Seam xs (Refused r o) s
 
 abbrev pub StepSeam : Type 0
 StepSeam =
-    (look : List ℕ → Keyword) (m : Mode) (xs ys : List ℕ) → 0 < length xs → Seam look xs (munchedBy look m xs) (munchedBy look m (xs ++ code "\n" ∷ ys))
+    (m : Mode) (xs ys : List ℕ) → 0 < length xs → Seam xs (munched m xs) (munched m (xs ++ code "\n" ∷ ys))
+
+-- a step by the table of document 01's words, as the code makes it, is the step
+abbrev pub ByTable : Type 0
+ByTable = (m : Mode) (xs : List ℕ) → munchedBy wordTable m xs ≡ munched m xs

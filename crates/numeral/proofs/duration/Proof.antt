@@ -9,7 +9,7 @@ use denote.Ref.{now}
 use Rattle.scan.specs.Byte.{peekAt}
 use Rattle.numeral.specs.declared.Part.{Part}
 use Rattle.numeral.specs.declared.Turn.{Turn}
-use Rattle.numeral.specs.Numeral.{turnOf, turned, partOf, durationFrom}
+use Rattle.numeral.specs.Numeral.{turnOf, turned, partBehind, durationFrom}
 use Rattle.numeral.proofs.Turns.{on-inside, duration-at}
 use borrow.Author.Needs.{needs}
 use Rattle.numeral.proofs.duration.Statement.{statement}
@@ -41,7 +41,7 @@ module _ (c : tie.After-turn-of Inv-loop μ-loop) where
   goes-on e = on-inside part _ bytes at (turn-is e)
 
   read-on : {t : Turn} → c .turn-of .result ≡ t
-      → durationFrom Part.Unit from (drop from bytes) ≡ turned t at (durationFrom (partOf t) (at + 1) (drop (at + 1) bytes))
+      → durationFrom Part.Unit from (drop from bytes) ≡ turned t at (durationFrom (partBehind t) (at + 1) (drop (at + 1) bytes))
   read-on e = c .before .before .loop .inv ∙ duration-at part bytes at (turn-is e)
 
 loop-holds : tie.Need-loop-holds Inv-loop μ-loop

@@ -31,9 +31,9 @@ StringNumbered = (symbol : ℕ) (xs : List ℕ) → Numbered (quotedOf symbol xs
 abbrev pub StringSeam : Type 0
 StringSeam = (symbol : ℕ) (xs ys : List ℕ) (n : ℕ) → quotedOf symbol xs ≡ Closed n → quotedOf symbol (xs ++ ys) ≡ Closed n
 
--- a comment ends within the bytes, behind one that is ASCII or at the end
+-- a comment ends within the bytes; of bytes, behind one that is ASCII or at the end
 abbrev pub CommentWithin : Type 0
-CommentWithin = (xs : List ℕ) → Bytes xs → Edge xs (commentEnd xs)
+CommentWithin = (xs : List ℕ) → (commentEnd xs ≤ length xs) × (Bytes xs → Edge xs (commentEnd xs))
 
 -- a newline behind the bytes changes nothing, but that a comment that runs to the end takes it in
 abbrev pub CommentSeam : Type 0

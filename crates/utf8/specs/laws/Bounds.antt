@@ -1,4 +1,4 @@
--- How far the answers go, as statements. Their proofs stand in `proofs/Bounds`.
+-- How far the answers go, as statements. Their proofs stand in `proofs/Bounds` and `proofs/Texts`.
 use Prim.Native.Nat.{ℕ, _≤_, _<_}
 use mathlib.Core.List.{List}
 use mathlib.Core.Path.{_≡_}
@@ -7,7 +7,7 @@ use Rattle.utf8.specs.declared.Refusal.{Refusal}
 use Rattle.utf8.specs.declared.Admission.{Admission}
 use Rattle.utf8.specs.declared.Admission.the-variants.{Admitted, Refused}
 use Rattle.utf8.specs.declared.Character.the-variants.{Scalar, IllFormed}
-use Rattle.utf8.specs.Text.{charNumber}
+use Rattle.utf8.specs.Text.{prefixEnd, charNumber}
 use Rattle.utf8.specs.Answers.{admitted, characterAt}
 
 -- a refusal of a number so great at most, at a place no further than a limit
@@ -23,6 +23,10 @@ Bounded limit (Refused r) = Placed 2 limit r
 
 abbrev pub AdmittedBound : Type 0
 AdmittedBound = (limit : ℕ) (xs : List ℕ) → Bounded limit (admitted limit xs)
+
+-- the longest well-formed prefix ends within the text
+abbrev pub PrefixBound : Type 0
+PrefixBound = (xs : List ℕ) → prefixEnd xs ≤ length xs
 
 -- there are no more characters than bytes
 abbrev pub NumberBound : Type 0

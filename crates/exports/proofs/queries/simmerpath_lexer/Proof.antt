@@ -7,8 +7,8 @@ use denote.Ref.{now}
 use borrow.Author.Needs.{needs}
 use lib.ListN.{length}
 use Rattle.lex.specs.declared.Lexing.{Lexing}
-use Rattle.lex.specs.Steps.{Entry}
-use Rattle.lex.specs.Lex.{lexed, listed, leftBy, kindOf, startOf, lengthOf, shortest, refusedBy}
+use Rattle.lex.specs.Outcome.{Entry}
+use Rattle.lex.specs.Lex.{lexed, listed, leftAfter, kindOf, startsAt, lengthOf, shortest, notLexed}
 use Rattle.exports.specs.Packed.{packedOf}
 use Rattle.exports.specs.Lexer.{lexerCode}
 use Rattle.exports.proofs.queries.simmerpath_lexer.Statement.{statement}
@@ -23,8 +23,8 @@ enum-known-l c = search needs
 enum-told : tie.Need-enum-told
 enum-told c = search needs
 
-refused-by-requires : tie.Need-refused-by-requires
-refused-by-requires c κs = search needs
+not-lexed-requires : tie.Need-not-lexed-requires
+not-lexed-requires c κs = search needs
 
 packed-requires : tie.Need-packed-requires
 packed-requires c κs = search needs
@@ -50,9 +50,9 @@ module _ (c : tie.After-lexer) where
 
   -- what a list is left with
   abbrev left : (Entry → ℕ) → List ℕ → List ℕ
-  left f d = leftBy (lexed room q) (listed f q d) d
+  left f d = leftAfter (lexed room q) (listed f q d) d
 
-  left-is : (c .lexer .last .1 .0 ≡ left kindOf ks) × ((c .lexer .last .1 .1 .0 ≡ left startOf ss) × (c .lexer .last .1 .1 .1 .0 ≡ left lengthOf ls))
+  left-is : (c .lexer .last .1 .0 ≡ left kindOf ks) × ((c .lexer .last .1 .1 .0 ≡ left startsAt ss) × (c .lexer .last .1 .1 .1 .0 ≡ left lengthOf ls))
   left-is = rw (c .lexer .ensures .0) at (c .lexer .ensures .1)
 
   -- the code of the answer in whose arm we are
@@ -72,7 +72,7 @@ returns : tie.Need-returns
 returns c =
     let d = c .before .before .before .before .before .before .before .before .before .before in
     let e = c .before .before .enum-told .given .1 in
-    (c .packed .ensures ∙ ap packedOf (c .before .refused-by .ensures ∙ ap refusedBy e) ∙ code-is d _ e, left-is d)
+    (c .packed .ensures ∙ ap packedOf (c .before .not-lexed .ensures ∙ ap notLexed e) ∙ code-is d _ e, left-is d)
 
 same-length-4 : tie.Need-same-length-4
 same-length-4 c = search needs
@@ -95,7 +95,7 @@ simmerpath-lexer-spec =
     lexer-requires
     enum-known-l
     enum-told
-    refused-by-requires
+    not-lexed-requires
     packed-requires
     same-length
     same-length-2

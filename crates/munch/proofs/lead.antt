@@ -1,3 +1,0 @@
-pub mod Leads
-pub mod Unique
-pub mod Wrong
