@@ -7,14 +7,15 @@ use lib.ListN.{length, drop}
 use Rattle.utf8.specs.declared.Refusal.{Refusal}
 use Rattle.utf8.specs.declared.Admission.{Admission}
 use Rattle.utf8.specs.declared.Admission.the-variants as admission
+use Rattle.token.specs.Kinds.{eofKind}
 use Rattle.utf8.specs.Answers.{textLimit, placeAt, noRoom, noRefusal, admitted}
 use Rattle.lex.specs.declared.Lexing.{Lexing}
 use Rattle.lex.specs.declared.Lexing.the-variants.{Count, Refused}
 use Rattle.lex.specs.Outcome.{Entry, entry, Outcome, reads, ends, refuses, outcomeOf}
 
--- the lexemes that were read; "EOF: start at the query's length, length 0", kind 0
+-- the lexemes that were read; "EOF: start at the query's length, length 0"
 abbrev pub eof : ℕ → Entry
-eof at = entry 0 at 0
+eof at = entry eofKind at 0
 
 abbrev pub entries : Outcome → List Entry
 entries (reads e r) = e ∷ entries r

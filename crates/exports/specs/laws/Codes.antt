@@ -97,11 +97,6 @@ TokenDisplayTold = (room k : ℕ) → let d = displayed room k in looksRefused (
 abbrev pub TokenDisplayKept : Type 0
 TokenDisplayKept = Packable noRoom
 
--- of a text that is written
-abbrev pub isNotWritten : Writing → Bool
-isNotWritten (writing.Written n) = false
-isNotWritten (writing.Refused r) = true
-
 -- of `simmerpath_escape_string`
 abbrev pub EscapeTold : Type 0
 EscapeTold = (room : ℕ) (xs : List ℕ) → let e = escapingOf room xs in looksRefused (writtenCode e) ≡ isNotWritten e
