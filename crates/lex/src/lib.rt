@@ -22,7 +22,7 @@ pub enum Lexing {
 }
 
 // The same, where the place is a byte offset alone.
-pub enum Tally {
+enum Tally {
     Count(usize),
     Refused { number: usize, at: ByteOffset },
 }
