@@ -27,7 +27,7 @@ use Rattle.munch.specs.declared.Mode.{Mode}
 use Rattle.munch.specs.declared.Step.{Step}
 use Rattle.munch.specs.Munch.{mode, ifNext, numberBy, numberStep, dotStep, quotedBy, quotedStep, commentStep, wordStep, equalsStep, bangStep, compareStep, rightParenStep, endStep, braceWord, braceEquals, braceBang, colonStep, outsideTable, braceTable, bracketTable, stepIn, munched}
 use Rattle.munch.specs.laws.Step.{Fits, StepFits}
-use Rattle.munch.proofs.Openings.{Each, by-rows}
+use Rattle.munch.proofs.Openings.{by-rows}
 
 module _ (m : Mode) (xs : List ℕ) where
   number-fits : Fits (numberStep m xs)
@@ -100,148 +100,71 @@ module _ (d : ℕ) (xs : List ℕ) where
   abbrev Small : (List ℕ → Step) → Type 0
   Small step = Fits (step xs)
 
-  outside-fits : Each Small (peekAt xs 0) (outsideTable d)
-  unfolding outsideTable commentStep
+  outside-fits : Fits (stepIn d Nothing (peekAt xs 0) xs)
+  unfolding stepIn outsideTable commentStep
   outside-fits =
-      let here = mode d Nothing in (
-        (λ h. word-step-fits here),
-        (
-          (λ h. tt),
-          (
-            (λ h. string-fits here xs),
-            (
-              (λ h. number-fits here xs),
-              (
-                (λ h. end-fits),
-                (
-                  (λ h. tt),
-                  (
-                    (λ h. dot-fits here xs),
-                    (
-                      (λ h. omega arith),
-                      (
-                        (λ h. paren-fits),
-                        (
-                          (λ h. omega arith),
-                          (
-                            (λ h. tt),
-                            (
-                              (λ h. omega arith),
-                              (
-                                (λ h. tt),
-                                (
-                                  (λ h. omega arith),
-                                  (
-                                    (λ h. equals-fits here xs),
-                                    (
-                                      (λ h. omega arith),
-                                      (
-                                        (λ h. omega arith),
-                                        (
-                                          (λ h. omega arith),
-                                          (
-                                            (λ h. omega arith),
-                                            (
-                                              (λ h. omega arith),
-                                              (
-                                                (λ h. omega arith),
-                                                (
-                                                  (λ h. bang-fits here xs),
-                                                  (
-                                                    (λ h. compare-fits here xs lte lss (omega arith) (omega arith)),
-                                                    (
-                                                      (λ h. compare-fits here xs gte gtr (omega arith) (omega arith)),
-                                                      (
-                                                        (λ h. omega arith),
-                                                        tt,
-                                                      ),
-                                                    ),
-                                                  ),
-                                                ),
-                                              ),
-                                            ),
-                                          ),
-                                        ),
-                                      ),
-                                    ),
-                                  ),
-                                ),
-                              ),
-                            ),
-                          ),
-                        ),
-                      ),
-                    ),
-                  ),
-                ),
-              ),
-            ),
-          ),
-        ),
-      )
+      let here = mode d Nothing in
+      by-rows Small (peekAt xs 0) (outsideTable d) 19
+      (λ h. word-step-fits here)
+      (λ h. tt)
+      (λ h. string-fits here xs)
+      (λ h. number-fits here xs)
+      (λ h. end-fits)
+      (λ h. tt)
+      (λ h. dot-fits here xs)
+      (λ h. omega arith)
+      (λ h. paren-fits)
+      (λ h. omega arith)
+      (λ h. tt)
+      (λ h. omega arith)
+      (λ h. tt)
+      (λ h. omega arith)
+      (λ h. equals-fits here xs)
+      (λ h. omega arith)
+      (λ h. omega arith)
+      (λ h. omega arith)
+      (λ h. omega arith)
+      (λ h. omega arith)
+      (λ h. omega arith)
+      (λ h. bang-fits here xs)
+      (λ h. compare-fits here xs lte lss (omega arith) (omega arith))
+      (λ h. compare-fits here xs gte gtr (omega arith) (omega arith))
+      (λ h. omega arith)
+      (λ n. tt)
 
-  brace-fits : Each Small (peekAt xs 0) (braceTable d)
-  unfolding braceTable commentStep
+  brace-fits : Fits (stepIn d Braces (peekAt xs 0) xs)
+  unfolding stepIn braceTable commentStep
   brace-fits =
-      let here = mode d Braces in (
-        (λ h. brace-word-step-fits here),
-        (
-          (λ h. tt),
-          (
-            (λ h. string-fits here xs),
-            (
-              (λ h. tt),
-              (
-                (λ h. tt),
-                (
-                  (λ h. tt),
-                  (
-                    (λ h. omega arith),
-                    (
-                      (λ h. omega arith),
-                      (
-                        (λ h. regex-fits here xs),
-                        (
-                          (λ h. brace-bang-fits here xs),
-                          tt,
-                        ),
-                      ),
-                    ),
-                  ),
-                ),
-              ),
-            ),
-          ),
-        ),
-      )
+      let here = mode d Braces in
+      by-rows Small (peekAt xs 0) (braceTable d) 26
+      (λ h. brace-word-step-fits here)
+      (λ h. tt)
+      (λ h. string-fits here xs)
+      (λ h. tt)
+      (λ h. tt)
+      (λ h. tt)
+      (λ h. omega arith)
+      (λ h. omega arith)
+      (λ h. regex-fits here xs)
+      (λ h. brace-bang-fits here xs)
+      (λ n. tt)
 
-  bracket-fits : (seen fresh : Bool) → Each Small (peekAt xs 0) (bracketTable d seen fresh)
-  unfolding bracketTable
-  bracket-fits seen fresh = (
-    (λ h. tt),
-    (
-      (λ h. number-fits _ xs),
-      (
-        (λ h. tt),
-        (
-          (λ h. tt),
-          (
-            (λ h. omega arith),
-            (
-              (λ h. colon-fits seen fresh),
-              tt,
-            ),
-          ),
-        ),
-      ),
-    ),
-  )
+  bracket-fits : (seen fresh : Bool) → Fits (stepIn d (Brackets seen fresh) (peekAt xs 0) xs)
+  unfolding stepIn bracketTable
+  bracket-fits seen fresh =
+      by-rows Small (peekAt xs 0) (bracketTable d seen fresh) 31
+      (λ h. tt)
+      (λ h. number-fits _ xs)
+      (λ h. tt)
+      (λ h. tt)
+      (λ h. omega arith)
+      (λ h. colon-fits seen fresh)
+      (λ n. tt)
 
   inside-fits : (i : Inside) → Fits (stepIn d i (peekAt xs 0) xs)
-  unfolding stepIn
-  inside-fits Nothing = by-rows Small (peekAt xs 0) (outsideTable d) 19 outside-fits (λ n. tt)
-  inside-fits Braces = by-rows Small (peekAt xs 0) (braceTable d) 26 brace-fits (λ n. tt)
-  inside-fits (Brackets seen fresh) = by-rows Small (peekAt xs 0) (bracketTable d seen fresh) 31 (bracket-fits seen fresh) (λ n. tt)
+  inside-fits Nothing = outside-fits
+  inside-fits Braces = brace-fits
+  inside-fits (Brackets seen fresh) = bracket-fits seen fresh
 
 pub step-fits : StepFits
 unfolding munched

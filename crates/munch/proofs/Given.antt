@@ -28,7 +28,7 @@ use Rattle.munch.specs.declared.Step.{Step}
 use Rattle.munch.specs.declared.Step.the-variants.{Lexeme, Space, Comment, Refused, Finished}
 use Rattle.munch.specs.Word.{isWordStart}
 use Rattle.munch.specs.Munch.{ifNext, refuse, numberBy, numberStep, dotStep, quotedBy, quotedStep, commentStep, wordStep, equalsStep, bangStep, compareStep, rightParenStep, endStep, braceWord, braceEquals, braceBang, colonStep, outsideTable, braceTable, bracketTable, stepIn, munched}
-use Rattle.munch.proofs.Openings.{Each, by-rows, none-takes}
+use Rattle.munch.proofs.Openings.{by-rows, none-takes}
 use Rattle.munch.proofs.Starts.{digit-outside, digit-in-brackets, quote-outside, quote-in-braces}
 use Rattle.munch.specs.laws.Rows.{Outside, InBraces, InBrackets, Begins, Follows, namedOutside, namedInBraces, namedInBrackets, NumberBegins, StringBegins, StringFails, Row, row10, row11, row12, row13, row14, row15, row16, row17, row18, row19, row20, row21, row22, row23, row24, row25, row26, row27, row28, row29, row30, row31, row32, RowsGiven, RowNumbers, OneRow}
 
@@ -74,155 +74,73 @@ module _ (m : Mode) (xs : List ℕ) where
   begun : (y : ℕ) → eqb (peekAt xs 0) y ≡ true → Begins y xs
   begun y h = eqb-true (peekAt xs 0) y h
 
-  outside-told : Outside m → Each Telling (peekAt xs 0) (outsideTable (m .depth))
-  unfolding outsideTable wordStep commentStep dotStep equalsStep bangStep compareStep rightParenStep endStep
-  outside-told o = (
-    (λ h. tt),
-    (
-      (λ h. tt),
-      (
-        (λ h. string-told (inl o, h) _),
-        (
-          (λ h. number-told (inl (inl o, h)) _),
-          (
-            (λ h. either (Told m xs) (eqb (m .depth) 0) (λ d. tt) (λ d. row10 (o, begun end h, omega (arith, eqb-false (m .depth) 0 d)))),
-            (
-              (λ h. tt),
-              (
-                (λ h. let b = begun (code ".") h in
-                    either (Told m xs) (isDigit (peekAt xs 1)) (λ d. number-told (inr (o, b, d)) _)
-                    (λ d. by-second (Told m xs) xs end (λ f. row15 (o, b, f)) (λ f. row14 (o, b, d, f)))),
-                (
-                  (λ h. tt),
-                  (
-                    (λ h. either (Told m xs) (eqb (m .depth) 0) (λ d. row16 (o, begun (code ")") h, eqb-true (m .depth) 0 d)) (λ d. tt)),
-                    (
-                      (λ h. tt),
-                      (
-                        (λ h. row17 (o, begun (code "}") h)),
-                        (
-                          (λ h. tt),
-                          (
-                            (λ h. row18 (o, begun (code "]") h)),
-                            (
-                              (λ h. tt),
-                              (
-                                (λ h. by-second (Told m xs) xs (code "=") (λ f. tt) (λ f. by-second (Told m xs) xs (code "~") (λ g. row11 (o, begun (code "=") h, g)) (λ g. tt))),
-                                (
-                                  (λ h. tt),
-                                  (
-                                    (λ h. tt),
-                                    (
-                                      (λ h. tt),
-                                      (
-                                        (λ h. tt),
-                                        (
-                                          (λ h. tt),
-                                          (
-                                            (λ h. tt),
-                                            (
-                                              (λ h. let b = begun (code "!") h in
-                                                  by-second (Told m xs) xs (code "=") (λ f. tt) (λ f. by-second (Told m xs) xs end (λ g. row13 (inl o, b, g)) (λ g. row12 (o, b, f, g)))),
-                                              (
-                                                (λ h. by-second (Told m xs) xs (code "=") (λ f. tt) (λ f. tt)),
-                                                (
-                                                  (λ h. by-second (Told m xs) xs (code "=") (λ f. tt) (λ f. tt)),
-                                                  (
-                                                    (λ h. tt),
-                                                    tt,
-                                                  ),
-                                                ),
-                                              ),
-                                            ),
-                                          ),
-                                        ),
-                                      ),
-                                    ),
-                                  ),
-                                ),
-                              ),
-                            ),
-                          ),
-                        ),
-                      ),
-                    ),
-                  ),
-                ),
-              ),
-            ),
-          ),
-        ),
-      ),
-    ),
-  )
+  outside-told : Outside m → Told m xs (stepIn (m .depth) Nothing (peekAt xs 0) xs)
+  unfolding stepIn outsideTable wordStep commentStep dotStep equalsStep bangStep compareStep rightParenStep endStep
+  outside-told o =
+      by-rows Telling (peekAt xs 0) (outsideTable (m .depth)) 19
+      (λ h. tt)
+      (λ h. tt)
+      (λ h. string-told (inl o, h) _)
+      (λ h. number-told (inl (inl o, h)) _)
+      (λ h. either (Told m xs) (eqb (m .depth) 0) (λ d. tt) (λ d. row10 (o, begun end h, omega (arith, eqb-false (m .depth) 0 d))))
+      (λ h. tt)
+      (λ h. let b = begun (code ".") h in either (Told m xs) (isDigit (peekAt xs 1)) (λ d. number-told (inr (o, b, d)) _) (λ d. by-second (Told m xs) xs end (λ f. row15 (o, b, f)) (λ f. row14 (o, b, d, f))))
+      (λ h. tt)
+      (λ h. either (Told m xs) (eqb (m .depth) 0) (λ d. row16 (o, begun (code ")") h, eqb-true (m .depth) 0 d)) (λ d. tt))
+      (λ h. tt)
+      (λ h. row17 (o, begun (code "}") h))
+      (λ h. tt)
+      (λ h. row18 (o, begun (code "]") h))
+      (λ h. tt)
+      (λ h. by-second (Told m xs) xs (code "=") (λ f. tt) (λ f. by-second (Told m xs) xs (code "~") (λ g. row11 (o, begun (code "=") h, g)) (λ g. tt)))
+      (λ h. tt)
+      (λ h. tt)
+      (λ h. tt)
+      (λ h. tt)
+      (λ h. tt)
+      (λ h. tt)
+      (λ h. let b = begun (code "!") h in by-second (Told m xs) xs (code "=") (λ f. tt) (λ f. by-second (Told m xs) xs end (λ g. row13 (inl o, b, g)) (λ g. row12 (o, b, f, g))))
+      (λ h. by-second (Told m xs) xs (code "=") (λ f. tt) (λ f. tt))
+      (λ h. by-second (Told m xs) xs (code "=") (λ f. tt) (λ f. tt))
+      (λ h. tt)
+      (λ n. row19 (o, n))
 
-  braces-told : InBraces m → Each Telling (peekAt xs 0) (braceTable (m .depth))
-  unfolding braceTable braceWord commentStep braceEquals braceBang
-  braces-told i = (
-    (λ h. tt),
-    (
-      (λ h. tt),
-      (
-        (λ h. string-told (inr i, h) _),
-        (
-          (λ h. row27 (i, begun end h)),
-          (
-            (λ h. tt),
-            (
-              (λ h. row25 (i, begun (code "{") h)),
-              (
-                (λ h. tt),
-                (
-                  (λ h. tt),
-                  (
-                    (λ h. by-second (Told m xs) xs (code "~") (λ f. tt) (λ f. tt)),
-                    (
-                      (λ h. let b = begun (code "!") h in
-                          by-second (Told m xs) xs (code "=") (λ f. tt)
-                          (λ f. by-second (Told m xs) xs (code "~") (λ g. tt) (λ g. by-second (Told m xs) xs end (λ k. row13 (inr i, b, k)) (λ k. row24 (i, b, f, g, k))))),
-                      tt,
-                    ),
-                  ),
-                ),
-              ),
-            ),
-          ),
-        ),
-      ),
-    ),
-  )
+  braces-told : InBraces m → Told m xs (stepIn (m .depth) Braces (peekAt xs 0) xs)
+  unfolding stepIn braceTable braceWord commentStep braceEquals braceBang
+  braces-told i =
+      by-rows Telling (peekAt xs 0) (braceTable (m .depth)) 26
+      (λ h. tt)
+      (λ h. tt)
+      (λ h. string-told (inr i, h) _)
+      (λ h. row27 (i, begun end h))
+      (λ h. tt)
+      (λ h. row25 (i, begun (code "{") h))
+      (λ h. tt)
+      (λ h. tt)
+      (λ h. by-second (Told m xs) xs (code "~") (λ f. tt) (λ f. tt))
+      (λ h. let b = begun (code "!") h in by-second (Told m xs) xs (code "=") (λ f. tt) (λ f. by-second (Told m xs) xs (code "~") (λ g. tt) (λ g. by-second (Told m xs) xs end (λ k. row13 (inr i, b, k)) (λ k. row24 (i, b, f, g, k)))))
+      (λ n. row26 (i, n))
 
-  brackets-told : (i : InBrackets m) → Each Telling (peekAt xs 0) (bracketTable (m .depth) (i .seen) (i .fresh))
-  unfolding bracketTable colonStep
-  brackets-told i = (
-    (λ h. tt),
-    (
-      (λ h. number-told (inl (inr i, h)) _),
-      (
-        (λ h. row32 (i, begun end h)),
-        (
-          (λ h. row30 (i, begun (code "[") h)),
-          (
-            (λ h. tt),
-            (
-              (λ h. let b = begun (code ":") h in
-                  either (Told m xs) (i .seen) (λ s. row28 (i, s, b)) (λ s. either (Told m xs) (i .fresh) (λ f. row29 (i, s, f, b)) (λ f. tt))),
-              tt,
-            ),
-          ),
-        ),
-      ),
-    ),
-  )
+  brackets-told : (i : InBrackets m) → Told m xs (stepIn (m .depth) (Brackets (i .seen) (i .fresh)) (peekAt xs 0) xs)
+  unfolding stepIn bracketTable colonStep
+  brackets-told i =
+      by-rows Telling (peekAt xs 0) (bracketTable (m .depth) (i .seen) (i .fresh)) 31
+      (λ h. tt)
+      (λ h. number-told (inl (inr i, h)) _)
+      (λ h. row32 (i, begun end h))
+      (λ h. row30 (i, begun (code "[") h))
+      (λ h. tt)
+      (λ h. let b = begun (code ":") h in either (Told m xs) (i .seen) (λ s. row28 (i, s, b)) (λ s. either (Told m xs) (i .fresh) (λ f. row29 (i, s, f, b)) (λ f. tt)))
+      (λ n. row31 (i, n))
 
   told : Told m xs (munched m xs)
-  unfolding munched stepIn outsideTable braceTable bracketTable
+  unfolding munched
   told = go (m .inside) refl
     where
       go : (i : Inside) → m .inside ≡ i → Told m xs (stepIn (m .depth) i (peekAt xs 0) xs)
-      go Nothing o = by-rows Telling (peekAt xs 0) (outsideTable (m .depth)) 19 (outside-told o) (λ n. row19 (o, n))
-      go Braces i = by-rows Telling (peekAt xs 0) (braceTable (m .depth)) 26 (braces-told i) (λ n. row26 (i, n))
-      go (Brackets s f) i = let b : InBrackets m = record { seen = s; fresh = f; there = i } in by-rows Telling (peekAt xs 0) (bracketTable (m .depth) s f) 31 (brackets-told b) (λ n. row31 (b, n))
+      go Nothing o = outside-told o
+      go Braces i = braces-told i
+      go (Brackets s f) i = brackets-told (record { seen = s; fresh = f; there = i })
 
 -- backward: the step where the mode is known, and what the table has for the first byte
 module _ (m : Mode) (xs : List ℕ) where

@@ -37,7 +37,7 @@ use Rattle.munch.specs.declared.Step.{Step}
 use Rattle.munch.specs.declared.Step.the-variants.{Lexeme, Refused}
 use Rattle.munch.specs.Munch.{mode, ifNext, numberBy, numberStep, dotStep, quotedBy, quotedStep, commentStep, wordStep, equalsStep, bangStep, compareStep, rightParenStep, endStep, braceWord, braceEquals, braceBang, colonStep, outsideTable, braceTable, bracketTable, stepIn, munched}
 use Rattle.munch.specs.laws.Step.{Past, Goes, StepGoes}
-use Rattle.munch.proofs.Openings.{Each, by-rows}
+use Rattle.munch.proofs.Openings.{by-rows}
 use Rattle.munch.proofs.Starts.{start-ascii, quote-ascii}
 
 -- white space and letters are ASCII
@@ -162,148 +162,71 @@ module _ (d : ℕ) (xs : List ℕ) where
   one-sign : (y : ℕ) → y < 0x80 → eqb (peekAt xs 0) y ≡ true → Past xs 1
   one-sign y l h = past-one xs (ascii-sign y l h)
 
-  outside-goes : Each (Going Nothing) (peekAt xs 0) (outsideTable d)
-  unfolding outsideTable wordStep commentStep
+  outside-goes : Goes (mode d Nothing) xs (stepIn d Nothing (peekAt xs 0) xs)
+  unfolding stepIn outsideTable wordStep commentStep
   outside-goes =
-      let here = mode d Nothing in (
-        (λ h. past-run xs (start-ascii (peekAt xs 0) h) Word (class-ascii Word refl)),
-        (
-          (λ h. past-one xs (space-ascii (peekAt xs 0) h)),
-          (
-            (λ h. string-goes here xs (quote-ascii (peekAt xs 0) h)),
-            (
-              (λ h. number-goes here xs here (rw h)),
-              (
-                (λ h. end-goes (eqb-true (peekAt xs 0) end h)),
-                (
-                  (λ h. past-comment xs (ascii-sign (code "#") (omega arith) h)),
-                  (
-                    (λ h. dot-goes here xs (eqb-true (peekAt xs 0) (code ".") h)),
-                    (
-                      one-sign (code "(") (omega arith),
-                      (
-                        (λ h. paren-goes (ascii-sign (code ")") (omega arith) h)),
-                        (
-                          one-sign (code "{") (omega arith),
-                          (
-                            (λ h. first),
-                            (
-                              one-sign (code "[") (omega arith),
-                              (
-                                (λ h. first),
-                                (
-                                  one-sign (code ",") (omega arith),
-                                  (
-                                    (λ h. equals-goes here xs (ascii-sign (code "=") (omega arith) h)),
-                                    (
-                                      one-sign (code "+") (omega arith),
-                                      (
-                                        one-sign (code "-") (omega arith),
-                                        (
-                                          one-sign (code "*") (omega arith),
-                                          (
-                                            one-sign (code "/") (omega arith),
-                                            (
-                                              one-sign (code "%") (omega arith),
-                                              (
-                                                one-sign (code "^") (omega arith),
-                                                (
-                                                  (λ h. bang-goes here xs (ascii-sign (code "!") (omega arith) h)),
-                                                  (
-                                                    (λ h. compare-goes here xs (ascii-sign (code "<") (omega arith) h) lte lss),
-                                                    (
-                                                      (λ h. compare-goes here xs (ascii-sign (code ">") (omega arith) h) gte gtr),
-                                                      (
-                                                        one-sign (code "@") (omega arith),
-                                                        tt,
-                                                      ),
-                                                    ),
-                                                  ),
-                                                ),
-                                              ),
-                                            ),
-                                          ),
-                                        ),
-                                      ),
-                                    ),
-                                  ),
-                                ),
-                              ),
-                            ),
-                          ),
-                        ),
-                      ),
-                    ),
-                  ),
-                ),
-              ),
-            ),
-          ),
-        ),
-      )
+      let here = mode d Nothing in
+      by-rows (Going Nothing) (peekAt xs 0) (outsideTable d) 19
+      (λ h. past-run xs (start-ascii (peekAt xs 0) h) Word (class-ascii Word refl))
+      (λ h. past-one xs (space-ascii (peekAt xs 0) h))
+      (λ h. string-goes here xs (quote-ascii (peekAt xs 0) h))
+      (λ h. number-goes here xs here (rw h))
+      (λ h. end-goes (eqb-true (peekAt xs 0) end h))
+      (λ h. past-comment xs (ascii-sign (code "#") (omega arith) h))
+      (λ h. dot-goes here xs (eqb-true (peekAt xs 0) (code ".") h))
+      (one-sign (code "(") (omega arith))
+      (λ h. paren-goes (ascii-sign (code ")") (omega arith) h))
+      (one-sign (code "{") (omega arith))
+      (λ h. first)
+      (one-sign (code "[") (omega arith))
+      (λ h. first)
+      (one-sign (code ",") (omega arith))
+      (λ h. equals-goes here xs (ascii-sign (code "=") (omega arith) h))
+      (one-sign (code "+") (omega arith))
+      (one-sign (code "-") (omega arith))
+      (one-sign (code "*") (omega arith))
+      (one-sign (code "/") (omega arith))
+      (one-sign (code "%") (omega arith))
+      (one-sign (code "^") (omega arith))
+      (λ h. bang-goes here xs (ascii-sign (code "!") (omega arith) h))
+      (λ h. compare-goes here xs (ascii-sign (code "<") (omega arith) h) lte lss)
+      (λ h. compare-goes here xs (ascii-sign (code ">") (omega arith) h) gte gtr)
+      (one-sign (code "@") (omega arith))
+      (λ n. first)
 
-  brace-goes : Each (Going Braces) (peekAt xs 0) (braceTable d)
-  unfolding braceTable braceWord commentStep
+  brace-goes : Goes (mode d Braces) xs (stepIn d Braces (peekAt xs 0) xs)
+  unfolding stepIn braceTable braceWord commentStep
   brace-goes =
-      let here = mode d Braces in (
-        (λ h. past-run xs (alpha-ascii (peekAt xs 0) h) AlphaNumeric (class-ascii AlphaNumeric refl)),
-        (
-          (λ h. past-one xs (space-ascii (peekAt xs 0) h)),
-          (
-            (λ h. string-goes here xs (quote-ascii (peekAt xs 0) h)),
-            (
-              (λ h. first),
-              (
-                (λ h. past-comment xs (ascii-sign (code "#") (omega arith) h)),
-                (
-                  (λ h. first),
-                  (
-                    one-sign (code "}") (omega arith),
-                    (
-                      one-sign (code ",") (omega arith),
-                      (
-                        (λ h. regex-goes here xs (ascii-sign (code "=") (omega arith) h)),
-                        (
-                          (λ h. brace-bang-goes here xs (ascii-sign (code "!") (omega arith) h)),
-                          tt,
-                        ),
-                      ),
-                    ),
-                  ),
-                ),
-              ),
-            ),
-          ),
-        ),
-      )
+      let here = mode d Braces in
+      by-rows (Going Braces) (peekAt xs 0) (braceTable d) 26
+      (λ h. past-run xs (alpha-ascii (peekAt xs 0) h) AlphaNumeric (class-ascii AlphaNumeric refl))
+      (λ h. past-one xs (space-ascii (peekAt xs 0) h))
+      (λ h. string-goes here xs (quote-ascii (peekAt xs 0) h))
+      (λ h. first)
+      (λ h. past-comment xs (ascii-sign (code "#") (omega arith) h))
+      (λ h. first)
+      (one-sign (code "}") (omega arith))
+      (one-sign (code ",") (omega arith))
+      (λ h. regex-goes here xs (ascii-sign (code "=") (omega arith) h))
+      (λ h. brace-bang-goes here xs (ascii-sign (code "!") (omega arith) h))
+      (λ n. first)
 
-  bracket-goes : (seen fresh : Bool) → Each (Going (Brackets seen fresh)) (peekAt xs 0) (bracketTable d seen fresh)
-  unfolding bracketTable
-  bracket-goes seen fresh = (
-    (λ h. past-one xs (space-ascii (peekAt xs 0) h)),
-    (
-      (λ h. number-goes (mode d (Brackets seen fresh)) xs (mode d (Brackets seen false)) (rw h)),
-      (
-        (λ h. first),
-        (
-          (λ h. first),
-          (
-            one-sign (code "]") (omega arith),
-            (
-              (λ h. colon-goes seen fresh (ascii-sign (code ":") (omega arith) h)),
-              tt,
-            ),
-          ),
-        ),
-      ),
-    ),
-  )
+  bracket-goes : (seen fresh : Bool) → Goes (mode d (Brackets seen fresh)) xs (stepIn d (Brackets seen fresh) (peekAt xs 0) xs)
+  unfolding stepIn bracketTable
+  bracket-goes seen fresh =
+      by-rows (Going (Brackets seen fresh)) (peekAt xs 0) (bracketTable d seen fresh) 31
+      (λ h. past-one xs (space-ascii (peekAt xs 0) h))
+      (λ h. number-goes (mode d (Brackets seen fresh)) xs (mode d (Brackets seen false)) (rw h))
+      (λ h. first)
+      (λ h. first)
+      (one-sign (code "]") (omega arith))
+      (λ h. colon-goes seen fresh (ascii-sign (code ":") (omega arith) h))
+      (λ n. first)
 
   inside-goes : (i : Inside) → Goes (mode d i) xs (stepIn d i (peekAt xs 0) xs)
-  unfolding stepIn
-  inside-goes Nothing = by-rows (Going Nothing) (peekAt xs 0) (outsideTable d) 19 outside-goes (λ n. first)
-  inside-goes Braces = by-rows (Going Braces) (peekAt xs 0) (braceTable d) 26 brace-goes (λ n. first)
-  inside-goes (Brackets seen fresh) = by-rows (Going (Brackets seen fresh)) (peekAt xs 0) (bracketTable d seen fresh) 31 (bracket-goes seen fresh) (λ n. first)
+  inside-goes Nothing = outside-goes
+  inside-goes Braces = brace-goes
+  inside-goes (Brackets seen fresh) = bracket-goes seen fresh
 
 pub step-goes : StepGoes
 unfolding munched

@@ -12,19 +12,24 @@ abbrev pub taken : List Opening → ℕ → Bool
 taken [] c = false
 taken (o ∷ t) c = o .takes c || taken t c
 
--- what holds of each row's step, where the row is for the byte
-abbrev pub Each : ((List ℕ → Step) → Type 0) → ℕ → List Opening → Type 0
-Each P c [] = Unit {0}
-Each P c (o ∷ t) = (o .takes c ≡ true → P (o .step)) × Each P c t
+-- from a fact of each row's step, where the row is for the byte, one after the other
+abbrev pub FromRows : ((List ℕ → Step) → Type 0) → ℕ → List Opening → Type 0 → Type 0
+FromRows P c [] fact = fact
+FromRows P c (o ∷ t) fact = (o .takes c ≡ true → P (o .step)) → FromRows P c t fact
 
-pub by-rows : (P : (List ℕ → Step) → Type 0) (c : ℕ) (t : List Opening) (number : ℕ) → Each P c t → (taken t c ≡ false → P (refuse number)) → P (stepFor t number c)
-by-rows P c [] number e other = other refl
-by-rows P c (o ∷ t) number e other = go (o .takes c) (e .0) (by-rows P c t number (e .1)) other
+pub by-rows : (P : (List ℕ → Step) → Type 0) (c : ℕ) (t : List Opening) (number : ℕ) → FromRows P c t ((taken t c ≡ false → P (refuse number)) → P (stepFor t number c))
+by-rows P c [] number = λ other. other refl
+by-rows P c (o ∷ t) number = λ h. onward t (λ rest. go (o .takes c) h rest) (by-rows P c t number)
   where
-    go : (b : Bool) → (b ≡ true → P (o .step)) → ((taken t c ≡ false → P (refuse number)) → P (stepFor t number c)) → (b || taken t c ≡ false → P (refuse number))
-        → P (cond b (o .step) (stepFor t number c))
+    go : (b : Bool) → (b ≡ true → P (o .step)) → ((taken t c ≡ false → P (refuse number)) → P (stepFor t number c))
+        → (b || taken t c ≡ false → P (refuse number)) → P (cond b (o .step) (stepFor t number c))
     go true h rest n = h refl
     go false h rest n = rest n
+
+    -- what follows from a fact follows from the rows that give it
+    onward : {A B : Type 0} (u : List Opening) → (A → B) → FromRows P c u A → FromRows P c u B
+    onward [] f a = f a
+    onward (p ∷ u) f a = λ k. onward u f (a k)
 
 -- where no row is for the byte
 pub none-takes : (t : List Opening) (number c : ℕ) → taken t c ≡ false → stepFor t number c ≡ refuse number

@@ -36,7 +36,7 @@ use Rattle.munch.specs.declared.Mode.{Mode}
 use Rattle.munch.specs.declared.Step.{Step}
 use Rattle.munch.specs.declared.Step.the-variants.{Lexeme, Comment, Refused}
 use Rattle.munch.specs.Munch.{mode, numberStep, dotStep, quotedBy, quotedStep, commentStep, wordStep, equalsStep, bangStep, compareStep, braceWord, braceEquals, braceBang, outsideTable, braceTable, bracketTable, stepIn, munched}
-use Rattle.munch.proofs.Openings.{Each, by-rows}
+use Rattle.munch.proofs.Openings.{by-rows}
 use Rattle.munch.specs.laws.Step.{Seam, same, grown, called, refused, StepSeam}
 
 -- no word goes on with a newline, and it is no digit, as the end is none
@@ -176,149 +176,72 @@ module _ (x : ℕ) (xs ys : List ℕ) where
   Seaming step = Seamed (step (x ∷ xs)) (step on)
 
   module _ (d : ℕ) where
-    outside-seam : Each Seaming x (outsideTable d)
-    unfolding outsideTable
+    outside-seam : Seamed (stepIn d Nothing x (x ∷ xs)) (stepIn d Nothing x on)
+    unfolding stepIn outsideTable
     outside-seam =
-        let here = mode d Nothing in (
-          (λ h. word-seam here),
-          (
-            (λ h. same _),
-            (
-              (λ h. quoted-seam here),
-              (
-                (λ h. number-seam here),
-                (
-                  (λ h. same _),
-                  (
-                    (λ h. comment-seamed),
-                    (
-                      (λ h. dot-seam here),
-                      (
-                        (λ h. same _),
-                        (
-                          (λ h. same _),
-                          (
-                            (λ h. same _),
-                            (
-                              (λ h. same _),
-                              (
-                                (λ h. same _),
-                                (
-                                  (λ h. same _),
-                                  (
-                                    (λ h. same _),
-                                    (
-                                      (λ h. equals-seam here),
-                                      (
-                                        (λ h. same _),
-                                        (
-                                          (λ h. same _),
-                                          (
-                                            (λ h. same _),
-                                            (
-                                              (λ h. same _),
-                                              (
-                                                (λ h. same _),
-                                                (
-                                                  (λ h. same _),
-                                                  (
-                                                    (λ h. bang-seam here),
-                                                    (
-                                                      (λ h. compare-seam here lte lss),
-                                                      (
-                                                        (λ h. compare-seam here gte gtr),
-                                                        (
-                                                          (λ h. same _),
-                                                          tt,
-                                                        ),
-                                                      ),
-                                                    ),
-                                                  ),
-                                                ),
-                                              ),
-                                            ),
-                                          ),
-                                        ),
-                                      ),
-                                    ),
-                                  ),
-                                ),
-                              ),
-                            ),
-                          ),
-                        ),
-                      ),
-                    ),
-                  ),
-                ),
-              ),
-            ),
-          ),
-        )
+        let here = mode d Nothing in
+        by-rows Seaming x (outsideTable d) 19
+        (λ h. word-seam here)
+        (λ h. same _)
+        (λ h. quoted-seam here)
+        (λ h. number-seam here)
+        (λ h. same _)
+        (λ h. comment-seamed)
+        (λ h. dot-seam here)
+        (λ h. same _)
+        (λ h. same _)
+        (λ h. same _)
+        (λ h. same _)
+        (λ h. same _)
+        (λ h. same _)
+        (λ h. same _)
+        (λ h. equals-seam here)
+        (λ h. same _)
+        (λ h. same _)
+        (λ h. same _)
+        (λ h. same _)
+        (λ h. same _)
+        (λ h. same _)
+        (λ h. bang-seam here)
+        (λ h. compare-seam here lte lss)
+        (λ h. compare-seam here gte gtr)
+        (λ h. same _)
+        (λ n. same _)
 
-    brace-seam : Each Seaming x (braceTable d)
-    unfolding braceTable
+    brace-seam : Seamed (stepIn d Braces x (x ∷ xs)) (stepIn d Braces x on)
+    unfolding stepIn braceTable
     brace-seam =
-        let here = mode d Braces in (
-          (λ h. brace-word-seam here),
-          (
-            (λ h. same _),
-            (
-              (λ h. quoted-seam here),
-              (
-                (λ h. same _),
-                (
-                  (λ h. comment-seamed),
-                  (
-                    (λ h. same _),
-                    (
-                      (λ h. same _),
-                      (
-                        (λ h. same _),
-                        (
-                          (λ h. regex-seam here),
-                          (
-                            (λ h. brace-bang-seam here),
-                            tt,
-                          ),
-                        ),
-                      ),
-                    ),
-                  ),
-                ),
-              ),
-            ),
-          ),
-        )
+        let here = mode d Braces in
+        by-rows Seaming x (braceTable d) 26
+        (λ h. brace-word-seam here)
+        (λ h. same _)
+        (λ h. quoted-seam here)
+        (λ h. same _)
+        (λ h. comment-seamed)
+        (λ h. same _)
+        (λ h. same _)
+        (λ h. same _)
+        (λ h. regex-seam here)
+        (λ h. brace-bang-seam here)
+        (λ n. same _)
 
-    bracket-seam : (seen fresh : Bool) → Each Seaming x (bracketTable d seen fresh)
-    unfolding bracketTable
-    bracket-seam seen fresh = (
-      (λ h. same _),
-      (
-        (λ h. number-seam (mode d (Brackets seen false))),
-        (
-          (λ h. same _),
-          (
-            (λ h. same _),
-            (
-              (λ h. same _),
-              (
-                (λ h. same _),
-                tt,
-              ),
-            ),
-          ),
-        ),
-      ),
-    )
+    bracket-seam : (seen fresh : Bool) → Seamed (stepIn d (Brackets seen fresh) x (x ∷ xs)) (stepIn d (Brackets seen fresh) x on)
+    unfolding stepIn bracketTable
+    bracket-seam seen fresh =
+        by-rows Seaming x (bracketTable d seen fresh) 31
+        (λ h. same _)
+        (λ h. number-seam (mode d (Brackets seen false)))
+        (λ h. same _)
+        (λ h. same _)
+        (λ h. same _)
+        (λ h. same _)
+        (λ n. same _)
 
     -- the first byte, and so the row, stays
     inside-seam : (i : Inside) → Seamed (stepIn d i x (x ∷ xs)) (stepIn d i x on)
-    unfolding stepIn
-    inside-seam Nothing = by-rows Seaming x (outsideTable d) 19 outside-seam (λ n. same _)
-    inside-seam Braces = by-rows Seaming x (braceTable d) 26 brace-seam (λ n. same _)
-    inside-seam (Brackets seen fresh) = by-rows Seaming x (bracketTable d seen fresh) 31 (bracket-seam seen fresh) (λ n. same _)
+    inside-seam Nothing = outside-seam
+    inside-seam Braces = brace-seam
+    inside-seam (Brackets seen fresh) = bracket-seam seen fresh
 
 pub step-seam : StepSeam
 unfolding munched

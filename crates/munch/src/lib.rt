@@ -1,6 +1,7 @@
 // One step of reading a query: what the bytes that are left begin with, by the mode that those before have led to.
 // Document 01's rows that refuse it are numbered in `refusals`.
 mod refusals;
+mod second;
 mod signs;
 pub mod word;
 
@@ -17,7 +18,7 @@ ghost use Rattle.scan.specs.Byte.{peekAt, isSpace, isDigit, isQuote};
 ghost use Rattle.numeral.specs.declared.Numeral.the-variants.{Number};
 ghost use Rattle.quoted.specs.declared.Quoted.the-variants as quoting;
 ghost use Rattle.munch.specs.Word.{isWordStart};
-ghost use Rattle.munch.specs.Munch.{mode, deeper, ifNext, numberBy, numberStep, dotStep, quotedStep, commentStep, equalsStep, bangStep, compareStep, rightParenStep, endStep, braceWord, braceEquals, braceBang, colonStep, stepIn, munched};
+ghost use Rattle.munch.specs.Munch.{mode, deeper, numberBy, numberStep, dotStep, quotedStep, commentStep, rightParenStep, endStep, braceWord, colonStep, stepIn, munched};
 ghost use Rattle.munch.specs.steps.Lent.{wordStepBy, lentStep, munchedBy};
 
 // What is open inside a query's parentheses: nothing, braces, or brackets; of these, whether their colon was seen, and whether they were just
@@ -73,13 +74,6 @@ fn deeper(depth: usize) -> usize
     ensures { λ r. ⌜ r ≡ deeper depth ⌝ }
 {
     if depth < usize::MAX { depth + 1 } else { depth }
-}
-
-// One step where a byte, or the end, follows the first, else another.
-fn if_next(s: &[u8], c: usize, two: Step, one: Step) -> Step
-    ensures { λ r. ⌜ r ≡ ifNext (now (s .entry)) c two one ⌝ }
-{
-    if byte::peek(s, 1) == c { two } else { one }
 }
 
 // A duration, or neither that nor a number.
@@ -171,49 +165,11 @@ fn dot_step(s: &[u8], mode: Mode) -> Step
     if byte::is_digit(byte::peek(s, 1)) {
         return number_step(s, mode);
     }
-    if_next(
+    second::if_next(
         s,
         byte::END,
         refused(refusals::END_AFTER_DOT, 0),
         refused(refusals::AFTER_DOT, 1),
-    )
-}
-
-// An equals sign outside.
-fn equals_step(s: &[u8], mode: Mode) -> Step
-    ensures { λ r. ⌜ r ≡ equalsStep mode (now (s .entry)) ⌝ }
-{
-    let one = if_next(
-        s,
-        b'~' as usize,
-        refused(refusals::REGEX_OUTSIDE, 1),
-        lexeme(kinds::T_EQL, 1, mode),
-    );
-    if_next(s, b'=' as usize, lexeme(kinds::T_EQLC, 2, mode), one)
-}
-
-// An exclamation mark outside.
-fn bang_step(s: &[u8], mode: Mode) -> Step
-    ensures { λ r. ⌜ r ≡ bangStep mode (now (s .entry)) ⌝ }
-{
-    let one = if_next(
-        s,
-        byte::END,
-        refused(refusals::END_AFTER_BANG, 1),
-        refused(refusals::AFTER_BANG, 1),
-    );
-    if_next(s, b'=' as usize, lexeme(kinds::T_NEQ, 2, mode), one)
-}
-
-// A sign that compares, alone or with an equals sign.
-fn compare_step(s: &[u8], equal: u16, alone: u16, mode: Mode) -> Step
-    ensures { λ r. ⌜ r ≡ compareStep equal alone mode (now (s .entry)) ⌝ }
-{
-    if_next(
-        s,
-        b'=' as usize,
-        lexeme(equal, 2, mode),
-        lexeme(alone, 1, mode),
     )
 }
 
@@ -270,16 +226,16 @@ fn sign_step(s: &[u8], c: usize, depth: usize) -> Step
         signs::LEFT_BRACKET => lexeme(kinds::T_LEFT_BRACKET, 1, just_opened(depth)),
         signs::RIGHT_BRACKET => refused(refusals::UNMATCHED_BRACKET, 0),
         signs::COMMA => lexeme(kinds::T_COMMA, 1, here),
-        signs::EQUALS => equals_step(s, here),
+        signs::EQUALS => second::equals_step(s, here),
         signs::PLUS => lexeme(kinds::T_ADD, 1, here),
         signs::MINUS => lexeme(kinds::T_SUB, 1, here),
         signs::STAR => lexeme(kinds::T_MUL, 1, here),
         signs::SLASH => lexeme(kinds::T_DIV, 1, here),
         signs::PERCENT => lexeme(kinds::T_MOD, 1, here),
         signs::CARET => lexeme(kinds::T_POW, 1, here),
-        signs::BANG => bang_step(s, here),
-        signs::LESS => compare_step(s, kinds::T_LTE, kinds::T_LSS, here),
-        signs::GREATER => compare_step(s, kinds::T_GTE, kinds::T_GTR, here),
+        signs::BANG => second::bang_step(s, here),
+        signs::LESS => second::compare_step(s, kinds::T_LTE, kinds::T_LSS, here),
+        signs::GREATER => second::compare_step(s, kinds::T_GTE, kinds::T_GTR, here),
         signs::AT => lexeme(kinds::T_AT, 1, here),
         _ => refused(refusals::OTHER, 0),
     }
@@ -313,32 +269,6 @@ fn outside_step(words: &[u8], s: &[u8], depth: usize) -> Step
     sign_step(s, c, depth)
 }
 
-// An equals sign in braces.
-fn brace_equals(s: &[u8], mode: Mode) -> Step
-    ensures { λ r. ⌜ r ≡ braceEquals mode (now (s .entry)) ⌝ }
-{
-    if_next(
-        s,
-        b'~' as usize,
-        lexeme(kinds::T_EQL_REGEX, 2, mode),
-        lexeme(kinds::T_EQL, 1, mode),
-    )
-}
-
-// An exclamation mark in braces.
-fn brace_bang(s: &[u8], mode: Mode) -> Step
-    ensures { λ r. ⌜ r ≡ braceBang mode (now (s .entry)) ⌝ }
-{
-    let one = if_next(
-        s,
-        byte::END,
-        refused(refusals::END_AFTER_BANG, 1),
-        refused(refusals::AFTER_BANG_IN_BRACES, 1),
-    );
-    let other = if_next(s, b'~' as usize, lexeme(kinds::T_NEQ_REGEX, 2, mode), one);
-    if_next(s, b'=' as usize, lexeme(kinds::T_NEQ, 2, mode), other)
-}
-
 // A step in braces.
 fn brace_step(s: &[u8], depth: usize) -> Step
     ensures { λ r. ⌜ r ≡ munched (mode depth Inside.Braces) (now (s .entry)) ⌝ }
@@ -360,8 +290,8 @@ fn brace_step(s: &[u8], depth: usize) -> Step
         signs::LEFT_BRACE => refused(refusals::BRACE_IN_BRACES, 0),
         signs::RIGHT_BRACE => lexeme(kinds::T_RIGHT_BRACE, 1, in_mode(depth, Inside::Nothing)),
         signs::COMMA => lexeme(kinds::T_COMMA, 1, here),
-        signs::EQUALS => brace_equals(s, here),
-        signs::BANG => brace_bang(s, here),
+        signs::EQUALS => second::brace_equals(s, here),
+        signs::BANG => second::brace_bang(s, here),
         _ => refused(refusals::OTHER_IN_BRACES, 0),
     }
 }

@@ -1,8 +1,8 @@
 -- The steps are those of the definition.
 use Rattle.munch.specs.Munch.{compareStep}
 use borrow.Author.Needs.{needs}
-use Rattle.munch.proofs.compare_step.Statement.{statement}
-use Rattle.munch.proofs.compare_step.Tie as tie
+use Rattle.munch.proofs.second.compare_step.Statement.{statement}
+use Rattle.munch.proofs.second.compare_step.Tie as tie
 
 cast-if-next : tie.Need-cast-if-next
 cast-if-next c = search needs

@@ -1,8 +1,8 @@
 -- The steps are those of the definition.
 use Rattle.munch.specs.Munch.{bangStep}
 use borrow.Author.Needs.{needs}
-use Rattle.munch.proofs.bang_step.Statement.{statement}
-use Rattle.munch.proofs.bang_step.Tie as tie
+use Rattle.munch.proofs.second.bang_step.Statement.{statement}
+use Rattle.munch.proofs.second.bang_step.Tie as tie
 
 refused-requires : tie.Need-refused-requires
 refused-requires c κs = search needs

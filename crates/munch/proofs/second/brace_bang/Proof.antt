@@ -1,8 +1,8 @@
 -- The steps are those of the definition.
 use Rattle.munch.specs.Munch.{braceBang}
 use borrow.Author.Needs.{needs}
-use Rattle.munch.proofs.brace_bang.Statement.{statement}
-use Rattle.munch.proofs.brace_bang.Tie as tie
+use Rattle.munch.proofs.second.brace_bang.Statement.{statement}
+use Rattle.munch.proofs.second.brace_bang.Tie as tie
 
 refused-requires : tie.Need-refused-requires
 refused-requires c κs = search needs

@@ -1,8 +1,8 @@
 -- The steps are those of the definition.
 use Rattle.munch.specs.Munch.{braceEquals}
 use borrow.Author.Needs.{needs}
-use Rattle.munch.proofs.brace_equals.Statement.{statement}
-use Rattle.munch.proofs.brace_equals.Tie as tie
+use Rattle.munch.proofs.second.brace_equals.Statement.{statement}
+use Rattle.munch.proofs.second.brace_equals.Tie as tie
 
 cast-if-next : tie.Need-cast-if-next
 cast-if-next c = search needs

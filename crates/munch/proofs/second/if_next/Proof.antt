@@ -1,8 +1,8 @@
 -- Each way out knows what follows.
 use borrow.Author.Tests.{eq-eqb, ne-eqb}
 use borrow.Author.Needs.{needs}
-use Rattle.munch.proofs.if_next.Statement.{statement}
-use Rattle.munch.proofs.if_next.Tie as tie
+use Rattle.munch.proofs.second.if_next.Statement.{statement}
+use Rattle.munch.proofs.second.if_next.Tie as tie
 
 peek-requires : tie.Need-peek-requires
 peek-requires c κs = search needs
