@@ -1,8 +1,9 @@
 -- The answer that each promise leaves at a telling input: a program that answers otherwise there, as the theorem's name says, cannot be
 -- proved. `FUNCTION-gives` is what the promise of FUNCTION answers at arguments, which is the definition's value there.
-use Prim.Native.Nat.{ℕ}
+use Prim.Native.Nat.{ℕ, _-_}
 use mathlib.Core.Bool.{true, false}
-use mathlib.Core.List.{List, [], _∷_}
+use mathlib.Core.List.{List, [], _++_}
+use lib.ListN.{replicate}
 use mathlib.Core.Path.{_≡_}
 use denote.Ref.{now}
 use Rattle.scan.specs.Ascii.{ascii}
@@ -16,7 +17,7 @@ use Rattle.utf8.specs.Text.{charsPast, sizeOf}
 use Rattle.token.specs.Kinds.{identifier, string, rightParen, leftBracket, comma, lor}
 use Rattle.token.specs.Words.{_names_, words, kindIn, keywordOf}
 use Rattle.token.specs.steps.Padded.{padded}
-use Rattle.token.specs.steps.WordRows.{tableOf, isRow, foundIn, keywordIn}
+use Rattle.token.specs.steps.WordRows.{wordRow, tableSize, rowOfWord, slotOf, isRow, foundAt, keywordIn}
 use Rattle.quoted.specs.Quoted.{quotedFrom, commentEnd}
 use Rattle.munch.specs.Word.{isWordStart, isFill, ruleBy, isOr, braceRule, kindBy}
 use Rattle.munch.specs.declared.Inside.the-variants.{Nothing, Braces, Brackets}
@@ -32,7 +33,7 @@ use Rattle.munch.proofs.munch.Reads as munch-reads
 
 -- what computes at the bytes that are left
 munching : Unit {0}
-unfolding munched munchedBy stepIn outsideTable braceTable bracketTable quotedStep commentStep wordStep wordStepBy braceWord bangStep rightParenStep endStep colonStep isWordStart isQuote isFill ruleBy isOr braceRule kindBy keywordIn foundIn isRow tableOf padded keywordOf words kindIn quotedFrom commentEnd charsPast sizeOf charLength sizeIn fits codeOf isWithin isIn isSpace isAlpha isAlphaNumeric isWord isLine lowered runLength sameText has
+unfolding munched munchedBy stepIn outsideTable braceTable bracketTable quotedStep commentStep wordStep wordStepBy braceWord bangStep rightParenStep endStep colonStep isWordStart isQuote isFill ruleBy isOr braceRule kindBy keywordIn foundAt isRow slotOf padded keywordOf words kindIn quotedFrom commentEnd charsPast sizeOf charLength sizeIn fits codeOf isWithin isIn isSpace isAlpha isAlphaNumeric isWord isLine lowered runLength sameText has
 munching = tt
 
 abbrev munch-in-gives : List ℕ → List ℕ → Mode → Step → Type 0
@@ -42,7 +43,7 @@ munch-in-gives table xs m v =
 munch-in-at : (table xs : List ℕ) (m : Mode) → munch-in-gives table xs m (munchedBy table m xs)
 munch-in-at table xs m κs a x e p h = cc (p, h .0, h .1, h .2)
 
-pub word-has-the-kind-of-the-table : munch-in-gives (tableOf ("a" names lor ∷ [])) (ascii "a") outside (Lexeme lor 1 outside)
+pub word-has-the-kind-of-the-table : munch-in-gives (rowOfWord ("a" names lor) ++ replicate (tableSize - wordRow) 0) (ascii "a") outside (Lexeme lor 1 outside)
 unfolding munching
 word-has-the-kind-of-the-table = munch-in-at _ _ _
 

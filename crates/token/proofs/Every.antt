@@ -14,7 +14,7 @@ module _ {A : Type 0} where
   every p [] = true
   every p (e ∷ es) = p e && every p es
 
-  every-at : (p : A → Bool) (es : List A) → every p es ≡ true → (d : A) (i : ℕ) → i < length es → p (getD es i d) ≡ true
+  pub every-at : (p : A → Bool) (es : List A) → every p es ≡ true → (d : A) (i : ℕ) → i < length es → p (getD es i d) ≡ true
   every-at p [] t d i h = absurd (not-suc-le-zero h)
   every-at p (e ∷ es) t d zero h = and-left _ _ t
   every-at p (e ∷ es) t d (suc i) h = every-at p es (and-right (p e) _ t) d i (le-of-suc-le-suc h)

@@ -2,7 +2,6 @@ pub mod Padding
 pub mod Every
 pub mod Displays
 pub mod DisplayRows
-pub mod Search
 pub mod Table
 pub mod Lookup
 pub mod Fits

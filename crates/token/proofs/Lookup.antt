@@ -1,18 +1,22 @@
--- The search of the table of words finds what the definition says: each row is its entry (`row-is`), a word longer than any is none, and
--- so is one with a character that is not ASCII, so that it may be looked for by its bytes (`by-bytes` of utf8).
-use Prim.Native.Nat.{ℕ, suc, _+_, _≤_}
+-- The search of the table of words finds what the definition says: each row is its entry (`row-is`), and a word that has one finds it by its slot
+-- (`led`); a word that is empty or longer than any is none, and so is one with a character that is not ASCII, so that it may be looked for by its bytes
+-- (`by-bytes` of utf8).
+use Prim.Native.Nat.{ℕ, zero, suc, _+_, _-_, _*_, _%_, _≤_, _<_}
+use native.Mathlib.Nat.{add-zero, le-of-suc-le-suc, not-suc-le-zero, mod-lt}
 use native.Mathlib.Omega.{arith}
-use native.Mathlib.Decide.{ℕ-discrete}
+use native.Mathlib.Decide.{ℕ-discrete, decLt}
 use mathlib.Core.Bool.{true, false, cond, _&&_, true≢false}
-use mathlib.Core.List.{List, [], _∷_, _++_, map}
+use mathlib.Core.List.{List, [], _∷_, _++_, map, append-assoc}
+use mathlib.Core.Logic.{_⊎_, inl, inr}
 use mathlib.Core.Path.{_≡_, refl, sym, ap, _∙_}
 use lib.Dec.{eqb, ltb}
-use lib.ListN.{length, getD, take, length-append, length-map, List·getD-append}
-use lib.Seq.{take-at, drop-at, getD-at, getD-append-add, take-append-le}
-use borrow.Author.Tests.{eq-eqb, ne-eqb, le-ltb, ltb-true}
+use lib.ListN.{length, getD, take, length-append, length-map}
+use lib.Seq.{take-at, drop-at, drop-drop, getD-at, getD-append-add, take-append-le}
+use borrow.Author.Tests.{eq-eqb, ne-eqb, le-ltb, lt-ltb}
 use Rattle.scan.specs.Byte.{lowered}
 use Rattle.scan.specs.Text.{sameText}
 use Rattle.proving.proofs.Choice.{either, and-left, and-right}
+use Rattle.proving.proofs.Tests.{tests-eq, tests-lt, tests-or}
 use Rattle.scan.proofs.Same.{same-not, same-is-equal}
 use Rattle.utf8.specs.laws.Ascii.{isAscii}
 use Rattle.utf8.proofs.Ascii.{by-bytes, lowered-other}
@@ -20,11 +24,11 @@ use Rattle.token.specs.declared.Keyword.{Keyword}
 use Rattle.token.specs.declared.Keyword.the-variants.{Kind, Nothing}
 use Rattle.token.specs.steps.Padded.{padded}
 use Rattle.token.proofs.Padding.{padded-length, padded-take}
-use Rattle.token.specs.Words.{KindText, words, kindIn, keywordOf}
-use Rattle.token.specs.laws.Words.{TableFinds}
-use Rattle.token.specs.steps.WordRows.{wordCount, widestWord, wordRow, rowOfWord, tableOf, wordTable, isRow, foundIn, keywordIn}
-use Rattle.token.proofs.Every.{every}
-use Rattle.token.proofs.Table.{isEntry, short, plain, counted, entries, word-found}
+use Rattle.token.specs.Words.{KindText, _names_, words, kindIn, keywordOf}
+use Rattle.token.specs.laws.Words.{wordAt, TableFinds}
+use Rattle.token.specs.steps.WordRows.{wordCount, widestWord, wordRow, slotsFrom, slotCount, tableSize, rowOfWord, tableOf, firstWeight, slotOf, rowFor, slotsOf, wordTable, isRow, rowIn, numberIn, foundAt, isOutOfTable, keywordIn}
+use Rattle.token.proofs.Every.{every, every-at}
+use Rattle.token.proofs.Table.{isEntry, some, short, plain, counted, entries, slot-leads, word-found, entry-found, none-found}
 
 module _ (e : KindText) (h : length (e .text) ≤ widestWord) where
   text-length : length (padded widestWord (e .text)) ≡ widestWord
@@ -33,13 +37,11 @@ module _ (e : KindText) (h : length (e .text) ≤ widestWord) where
   row-length : length (rowOfWord e) ≡ wordRow
   row-length = length-append (padded widestWord (e .text)) (length (e .text) ∷ e .kind ∷ []) ∙ omega (arith, text-length)
 
-  kind-at : (rest : List ℕ) → getD (rowOfWord e ++ rest) (suc widestWord) 0 ≡ e .kind
-  kind-at rest =
+  kind-of : getD (rowOfWord e) (suc widestWord) 0 ≡ e .kind
+  kind-of =
       let p = padded widestWord (e .text) in
       let k : suc widestWord ≡ length p + 1 = omega (arith, text-length) in
-      List·getD-append (rowOfWord e) rest 0 (suc widestWord) (omega (arith, row-length))
-      ∙ ap (λ (n : ℕ). getD (rowOfWord e) n 0) k
-      ∙ getD-append-add p (length (e .text) ∷ e .kind ∷ []) 1 0
+      ap (λ (n : ℕ). getD (rowOfWord e) n 0) k ∙ getD-append-add p (length (e .text) ∷ e .kind ∷ []) 1 0
 
   -- a row holds a word exactly where it is the entry's
   row-is : (w : List ℕ) → isRow (rowOfWord e) w ≡ sameText w (e .text)
@@ -52,31 +54,94 @@ module _ (e : KindText) (h : length (e .text) ≤ widestWord) where
           rw (eq-eqb (length (e .text)) (length w) k, ← k, take-append-le (length (e .text)) (padded widestWord (e .text)) (length (e .text) ∷ e .kind ∷ []) (omega (arith, text-length)), padded-take widestWord (e .text))
       go (no k) = rw (ne-eqb (length (e .text)) (length w) k, same-not w (e .text) (λ z. k (sym z)))
 
-found-is : (es : List KindText) (w : List ℕ) → every isEntry es ≡ true → foundIn (length es) (tableOf es) w ≡ kindIn es w
-unfolding foundIn tableOf kindIn
-found-is [] w h = refl
-found-is (e ∷ es) w h =
-    let s = short e (and-left _ _ h) in
-    let l = row-length e s in
-    rw (
-      le-ltb (length (rowOfWord e ++ tableOf es)) wordRow (omega (arith, l, length-append (rowOfWord e) (tableOf es))),
-      take-at (rowOfWord e) (tableOf es) wordRow l,
-      drop-at (rowOfWord e) (tableOf es) wordRow l,
-      row-is e s w,
-      found-is es w (and-right (isEntry e) _ h),
-    )
-    (ap (λ (k : ℕ). cond (sameText w (e .text)) (Kind k) (kindIn es w)) (kind-at e s (tableOf es)))
+-- row i of the table is that of entry i, whatever stands behind the rows
+row-at : (es : List KindText) (rest : List ℕ) → every isEntry es ≡ true → (i : ℕ) → i < length es → rowIn (tableOf es ++ rest) i ≡ rowOfWord (getD es i ("" names 0))
+unfolding tableOf
+row-at [] rest h i l = absurd (not-suc-le-zero l)
+row-at (e ∷ es) rest h zero l =
+    rw append-assoc (take-at (rowOfWord e) (tableOf es ++ rest) wordRow (row-length e (short e (and-left _ _ h))))
+row-at (e ∷ es) rest h (suc i) l =
+    let n = row-length e (short e (and-left _ _ h)) in
+    let m : suc i * wordRow ≡ wordRow + i * wordRow = omega arith in
+    rw (append-assoc, m, ← drop-drop, drop-at (rowOfWord e) (tableOf es ++ rest) wordRow n) (row-at es rest (and-right (isEntry e) _ h) i (le-of-suc-le-suc l))
+
+-- the rows of all have so many bytes
+rows-length : (es : List KindText) → every isEntry es ≡ true → length (tableOf es) ≡ length es * wordRow
+unfolding tableOf
+rows-length [] h = refl
+rows-length (e ∷ es) h =
+    length-append (rowOfWord e) (tableOf es) ∙ omega (arith, row-length e (short e (and-left _ _ h)), rows-length es (and-right (isEntry e) _ h))
+
+-- and a slot behind them holds the number that is for it
+slots-length : (n s : ℕ) (es : List KindText) → length (slotsOf n s es) ≡ n
+unfolding slotsOf
+slots-length zero s es = refl
+slots-length (suc n) s es = ap suc (slots-length n (suc s) es)
+
+slot-at : (n s : ℕ) (es : List KindText) (i : ℕ) → i < n → getD (slotsOf n s es) i 0 ≡ rowFor (s + i) 0 es
+unfolding slotsOf
+slot-at zero s es i l = absurd (not-suc-le-zero l)
+slot-at (suc n) s es zero l = rw add-zero
+slot-at (suc n) s es (suc i) l = slot-at n (suc s) es i (le-of-suc-le-suc l) ∙ (let m : suc s + i ≡ s + suc i = omega arith in rw m)
+
+rows-end : length (tableOf words) ≡ slotsFrom
+rows-end = omega (arith, rows-length words entries, counted)
+
+table-length : length wordTable ≡ tableSize
+unfolding wordTable
+table-length = length-append (tableOf words) (slotsOf slotCount 0 words) ∙ omega (arith, rows-end, slots-length slotCount 0 words)
+
+number-is : (w : List ℕ) → numberIn wordTable w ≡ rowFor (slotOf w) 0 words
+unfolding wordTable slotOf
+number-is w =
+    let s = (getD w 0 0 * firstWeight + getD w (length w - 1) 0 + length w) % slotCount in
+    let z : 0 + s ≡ s = omega arith in
+    rw (← rows-end, getD-append-add (tableOf words) (slotsOf slotCount 0 words) s 0) (slot-at slotCount 0 words s (mod-lt _ (omega arith)) ∙ rw z)
+
+-- the row that a word's slot names holds the word, or no row does
+module _ (w : List ℕ) where
+  abbrev number : ℕ
+  number = numberIn wordTable w
+
+  led : (i : ℕ) → i < wordCount → sameText w (wordAt i .text) ≡ true → number ≡ i
+  led i h s = number-is w ∙ rw (same-is-equal w (wordAt i .text) .0 s) (slot-leads i h)
+
+  row-is-word : number < wordCount → rowIn wordTable number ≡ rowOfWord (wordAt number)
+  unfolding wordTable
+  row-is-word h = row-at words (slotsOf slotCount 0 words) entries number (omega (arith, counted))
+
+  at-slot : foundAt number wordTable w ≡ kindIn words w
+  unfolding foundAt
+  at-slot = go (decLt number wordCount)
+    where
+      go : Dec (number < wordCount) → cond (ltb number wordCount && isRow (rowIn wordTable number) w) (Kind (getD (rowIn wordTable number) (suc widestWord) 0)) Nothing ≡ kindIn words w
+      go (no l) = rw (le-ltb number wordCount (omega arith)) (sym (none-found w (λ i h s. l (omega (arith, led i h s)))))
+      go (yes l) =
+          let short-one = short (wordAt number) (every-at isEntry words entries ("" names 0) number (omega (arith, counted))) in
+          rw (lt-ltb number wordCount l, row-is-word l, row-is (wordAt number) short-one w, kind-of (wordAt number) short-one)
+          (either (λ k. k ≡ kindIn words w) (sameText w (wordAt number .text)) (λ s. sym (entry-found w number l s)) (λ s. sym (none-found w (λ i h t. true≢false (sym t ∙ rw (← led i h t) s)))))
 
 pub table-finds : TableFinds
-unfolding keywordIn keywordOf wordTable
+unfolding keywordIn keywordOf
 table-finds xs = searched ∙ by-bytes Keyword Nothing (λ ys. kindIn words (map lowered ys)) other-none xs
   where
     other-none : (ys : List ℕ) → isAscii ys ≡ false → kindIn words (map lowered ys) ≡ Nothing
     other-none ys a =
         word-found (map lowered ys) (λ k. k ≡ Nothing) refl (λ e t s. absurd (true≢false (sym s ∙ lowered-other ys (e .text) a (plain e t))))
 
-    searched : cond (ltb widestWord (length xs)) Nothing (foundIn wordCount (tableOf words) (map lowered xs)) ≡ kindIn words (map lowered xs)
+    none-empty : length xs ≡ 0 → kindIn words (map lowered xs) ≡ Nothing
+    none-empty z = word-found (map lowered xs) (λ k. k ≡ Nothing) refl (λ e t s. absurd (omega (arith, some e t, ap length (same-is-equal (map lowered xs) (e .text) .0 s), length-map xs lowered)))
+
+    none-long : widestWord < length xs → kindIn words (map lowered xs) ≡ Nothing
+    none-long l = word-found (map lowered xs) (λ k. k ≡ Nothing) refl (λ e t s. absurd (omega (arith, short e t, ap length (same-is-equal (map lowered xs) (e .text) .0 s), length-map xs lowered)))
+
+    searched : cond (isOutOfTable wordTable xs) Nothing (foundAt (numberIn wordTable (map lowered xs)) wordTable (map lowered xs)) ≡ kindIn words (map lowered xs)
     searched =
-        either (λ k. k ≡ kindIn words (map lowered xs)) (ltb widestWord (length xs))
-        (λ l. word-found (map lowered xs) (λ k. Nothing ≡ k) refl (λ e t s. absurd (omega (arith, short e t, ap length (same-is-equal (map lowered xs) (e .text) .0 s), ltb-true widestWord (length xs) l, length-map xs lowered))))
-        (λ l. rw (← counted) (found-is words (map lowered xs) entries))
+        either (λ k. k ≡ kindIn words (map lowered xs)) (isOutOfTable wordTable xs)
+        (λ o. sym (go (tests-or (tests-eq (length xs) 0) (tests-or (tests-lt widestWord (length xs)) (tests-lt (length wordTable) tableSize)) .0 o)))
+        (λ o. at-slot (map lowered xs))
+      where
+        go : (length xs ≡ 0) ⊎ ((widestWord < length xs) ⊎ (length wordTable < tableSize)) → kindIn words (map lowered xs) ≡ Nothing
+        go (inl z) = none-empty z
+        go (inr (inl l)) = none-long l
+        go (inr (inr l)) = absurd (omega (arith, table-length))

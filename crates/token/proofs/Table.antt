@@ -1,5 +1,6 @@
--- The table of words, by one test that the check computes: there are 35 entries, each text is short and ASCII, each kind has 16 bits, and
--- each text is unlike each that follows. So at most one entry has a word for its text, and the first that a search finds is the only one.
+-- The table of words, by one test that the check computes: there are 35 entries, each text is some bytes, short and ASCII, each kind has 16 bits,
+-- each text is unlike each that follows, and the slot of each leads to it. So at most one entry has a word for its text, the first that a search finds is
+-- the only one, and a word that has an entry finds it by its slot.
 use Prim.Native.Nat.{ℕ, _^_, _≤_, _<_}
 use native.Mathlib.Omega.{arith}
 use mathlib.Core.Bool.{Bool, true, _&&_, not, true≢false}
@@ -10,27 +11,34 @@ use lib.ListN.{length}
 use borrow.Author.Tests.{leb-true, ltb-true, eqb-true, not-true}
 use Rattle.scan.specs.Text.{sameText}
 use Rattle.scan.proofs.Same.{same-is-equal}
+use Rattle.proving.proofs.Below.{allBelow, below}
 use Rattle.proving.proofs.Choice.{and-left, and-right}
 use Rattle.utf8.specs.laws.Ascii.{isAscii}
 use Rattle.token.specs.declared.Keyword.{Keyword}
 use Rattle.token.specs.declared.Keyword.the-variants.{Kind, Nothing}
 use Rattle.token.specs.Words.{KindText, _names_, words, kindIn}
-use Rattle.token.specs.steps.WordRows.{wordCount, widestWord}
-use Rattle.token.specs.laws.Words.{OneEntry, EntryFound, NoneFound}
+use Rattle.token.specs.steps.WordRows.{wordCount, widestWord, slotOf, rowFor}
+use Rattle.token.specs.laws.Words.{wordAt, OneEntry, EntryFound, NoneFound}
 use Rattle.token.proofs.Every.{every, distinct, Search, each-found, none-hit, one-hit, hit-found}
 
 abbrev pub isEntry : KindText → Bool
-isEntry e = leb (length (e .text)) widestWord && (isAscii (e .text) && ltb (e .kind) (2 ^ 16))
+isEntry e = (ltb 0 (length (e .text)) && leb (length (e .text)) widestWord) && (isAscii (e .text) && ltb (e .kind) (2 ^ 16))
 
 module _ (e : KindText) (t : isEntry e ≡ true) where
+  abbrev sized : Bool
+  sized = ltb 0 (length (e .text)) && leb (length (e .text)) widestWord
+
+  pub some : 0 < length (e .text)
+  some = ltb-true _ _ (and-left _ _ (and-left sized _ t))
+
   pub short : length (e .text) ≤ widestWord
-  short = leb-true _ _ (and-left _ _ t)
+  short = leb-true _ _ (and-right (ltb 0 (length (e .text))) _ (and-left sized _ t))
 
   pub plain : isAscii (e .text) ≡ true
-  plain = and-left _ _ (and-right (leb (length (e .text)) widestWord) _ t)
+  plain = and-left _ _ (and-right sized _ t)
 
   pub small : e .kind < 2 ^ 16
-  small = ltb-true _ _ (and-right (isAscii (e .text)) _ (and-right (leb (length (e .text)) widestWord) _ t))
+  small = ltb-true _ _ (and-right (isAscii (e .text)) _ (and-right sized _ t))
 
 -- the search for a word, which is not both of unlike texts
 abbrev unlike : KindText → KindText → Bool
@@ -47,8 +55,12 @@ searched w =
       apart = λ e f u p q. true≢false (sym (rw (same-is-equal w (e .text) .0 p) at q) ∙ not-true (sameText (e .text) (f .text)) u);
     }
 
-tested : eqb (length words) wordCount && (every isEntry words && distinct unlike words) ≡ true
-unfolding words sameText
+-- the slot of an entry leads to it
+abbrev isLed : ℕ → Bool
+isLed i = eqb (rowFor (slotOf (wordAt i .text)) 0 words) i
+
+tested : eqb (length words) wordCount && (every isEntry words && (distinct unlike words && allBelow isLed wordCount)) ≡ true
+unfolding words sameText rowFor slotOf
 tested = refl
 
 pub counted : length words ≡ wordCount
@@ -57,8 +69,14 @@ counted = eqb-true _ _ (and-left _ _ tested)
 pub entries : every isEntry words ≡ true
 entries = and-left _ _ (and-right (eqb (length words) wordCount) _ tested)
 
+slots-tested : distinct unlike words && allBelow isLed wordCount ≡ true
+slots-tested = and-right (every isEntry words) _ (and-right (eqb (length words) wordCount) _ tested)
+
 apart : distinct unlike words ≡ true
-apart = and-right (every isEntry words) _ (and-right (eqb (length words) wordCount) _ tested)
+apart = and-left _ _ slots-tested
+
+pub slot-leads : (i : ℕ) → i < wordCount → rowFor (slotOf (wordAt i .text)) 0 words ≡ i
+slot-leads i h = eqb-true _ _ (below isLed wordCount (and-right (distinct unlike words) _ slots-tested) i h)
 
 -- what holds of each entry that a word may be, and of none, holds of the word
 pub word-found : (w : List ℕ) (P : Keyword → Type 0) → P Nothing → ((e : KindText) → isEntry e ≡ true → sameText w (e .text) ≡ true → P (Kind (e .kind))) → P (kindIn words w)

@@ -1,10 +1,11 @@
 -- The answer and the content of the buffer that each promise leaves at a telling input: a program that does otherwise there, as the
 -- theorem's name says, cannot be proved. Where a theorem unfolds `FUNCTION-at` it computes with all that this lemma unfolds.
-use Prim.Native.Nat.{ℕ, _*_}
+use Prim.Native.Nat.{ℕ, _-_, _*_}
 use mathlib.Core.Bool.{Bool, true, false}
 use mathlib.Core.List.{List, [], _∷_, _++_}
 use mathlib.Core.Path.{_≡_, ap, ap₂, _∙_}
-use lib.ListN.{length, take, drop}
+use Prim.Native.String.{String}
+use lib.ListN.{length, take, drop, replicate}
 use denote.Ref.{now}
 use Rattle.scan.specs.Ascii.{ascii}
 use Rattle.scan.specs.Byte.{isWithin, isAlpha, isAlphaNumeric, lowered}
@@ -23,7 +24,7 @@ use Rattle.token.specs.Classes.{isOperator, isComparisonOperator, isSetO
 use Rattle.token.specs.Display.{signs, ownKinds, displays, textIn, displayOf, displayed}
 use Rattle.token.specs.Words.{words, kindIn, keywordOf}
 use Rattle.token.specs.steps.Padded.{padded}
-use Rattle.token.specs.steps.WordRows.{wordRow, tableOf, wordTable, isRow, foundIn, keywordIn}
+use Rattle.token.specs.steps.WordRows.{wordRow, tableSize, tableOf, slotOf, rowFor, slotsOf, wordTable, isRow, foundAt, keywordIn}
 use Rattle.token.specs.Label.{isLabel}
 use Rattle.token.proofs.is_operator.Kinds as is-operator
 use Rattle.token.proofs.is_operator.Reads as is-operator-reads
@@ -167,7 +168,7 @@ abbrev words-shows : ℕ → List ℕ → Type 0
 words-shows i v = Shows words.ps words.r words-reads.Post (λ κs a. Unit {0}) (λ κs x. take wordRow (drop (i * wordRow) x)) v
 
 words-at : (i : ℕ) → words-shows i (take wordRow (drop (i * wordRow) wordTable))
-unfolding wordTable tableOf padded words
+unfolding wordTable tableOf slotsOf rowFor slotOf padded words
 words-at i κs a x e p h = ap (λ (t : List ℕ). take wordRow (drop (i * wordRow) t)) p
 
 pub first-row-is-that-of-and : words-shows 0 (ascii "and         " ++ (3 ∷ 35 ∷ []))
@@ -182,29 +183,53 @@ pub last-row-is-that-of-nan : words-shows 34 (ascii "nan         " ++ (3 ∷ 4 �
 unfolding words-at
 last-row-is-that-of-nan = words-at 34
 
-pub nothing-stands-behind-the-last-row : words-shows 35 []
+pub slots-stand-behind-the-last-row : words-shows 35 (35 ∷ 35 ∷ 35 ∷ 19 ∷ 35 ∷ 6 ∷ 35 ∷ 35 ∷ 28 ∷ 35 ∷ 35 ∷ 14 ∷ 35 ∷ 33 ∷ [])
 unfolding words-at
-nothing-stands-behind-the-last-row = words-at 35
+slots-stand-behind-the-last-row = words-at 35
+
+pub nothing-stands-behind-the-slots : words-shows 45 []
+unfolding words-at
+nothing-stands-behind-the-slots = words-at 45
 
 -- of a table and a word
 abbrev keyword-in-gives : List ℕ → List ℕ → Keyword → Type 0
 keyword-in-gives t w v = Answers keyword-in.ps keyword-in.r keyword-in-reads.Post (λ κs a. (now (a .0) ≡ t) × (now (a .1 .0) ≡ w)) (λ κs. v)
 
 keyword-in-at : (t w : List ℕ) → keyword-in-gives t w (keywordIn t w)
-unfolding keywordIn foundIn isRow sameText lowered isWithin
+unfolding keywordIn foundAt isRow slotOf sameText lowered isWithin
 keyword-in-at t w κs a x e p h = p ∙ ap₂ keywordIn (h .0) (h .1)
 
-pub kind-stands-behind-the-length : keyword-in-gives (ascii "or          " ++ (2 ∷ 36 ∷ [])) (ascii "or") (Kind 36)
+-- a table whose first row is a word of a kind, padded, and all of whose slots name one row
+abbrev rowAndSlots : String → ℕ → ℕ → ℕ → List ℕ
+rowAndSlots padded size kind row = ascii padded ++ (size ∷ kind ∷ replicate (tableSize - wordRow) row)
+
+pub kind-stands-behind-the-length : keyword-in-gives (rowAndSlots "or          " 2 36 0) (ascii "or") (Kind 36)
 unfolding keyword-in-at
 kind-stands-behind-the-length = keyword-in-at _ _
 
-pub word-of-twelve-letters-is-looked-for : keyword-in-gives (ascii "count_values" ++ (12 ∷ 50 ∷ [])) (ascii "count_values") (Kind 50)
+pub capitals-are-looked-for : keyword-in-gives (rowAndSlots "or          " 2 36 0) (ascii "OR") (Kind 36)
+unfolding keyword-in-at
+capitals-are-looked-for = keyword-in-at _ _
+
+pub word-of-twelve-letters-is-looked-for : keyword-in-gives (rowAndSlots "count_values" 12 50 0) (ascii "count_values") (Kind 50)
 unfolding keyword-in-at
 word-of-twelve-letters-is-looked-for = keyword-in-at _ _
 
-pub beginning-of-a-word-is-not-the-word : keyword-in-gives (ascii "or          " ++ (2 ∷ 36 ∷ [])) (ascii "o") Nothing
+pub beginning-of-a-word-is-not-the-word : keyword-in-gives (rowAndSlots "or          " 2 36 0) (ascii "o") Nothing
 unfolding keyword-in-at
 beginning-of-a-word-is-not-the-word = keyword-in-at _ _
+
+pub row-is-that-of-the-slot : keyword-in-gives (rowAndSlots "or          " 2 36 1) (ascii "or") Nothing
+unfolding keyword-in-at
+row-is-that-of-the-slot = keyword-in-at _ _
+
+pub slot-without-a-row-has-no-word : keyword-in-gives (rowAndSlots "or          " 2 36 35) (ascii "or") Nothing
+unfolding keyword-in-at
+slot-without-a-row-has-no-word = keyword-in-at _ _
+
+pub table-without-slots-has-no-word : keyword-in-gives (ascii "or          " ++ (2 ∷ 36 ∷ [])) (ascii "or") Nothing
+unfolding keyword-in-at
+table-without-slots-has-no-word = keyword-in-at _ _
 
 abbrev get-keyword-token-gives : List ℕ → Keyword → Type 0
 get-keyword-token-gives w v = Answers get-keyword-token.ps get-keyword-token.r get-keyword-token-reads.Post (λ κs a. now (a .0) ≡ w) (λ κs. v)

@@ -7,16 +7,15 @@ use scan::byte::Class;
 use utf8::Writing;
 ghost use mathlib.Core.Path.{_≡_};
 ghost use mathlib.Core.List.{map};
-ghost use Prim.Native.Nat.{_≤_};
+ghost use Prim.Native.Nat.{_≤_, _<_};
 ghost use lib.ListN.{length};
-ghost use lib.Seq.{sets};
 ghost use Rattle.scan.specs.Byte.{isWithin, lowered};
 ghost use Rattle.utf8.specs.Writing.{fitted, leftBy};
 ghost use Rattle.token.specs.Classes.{isOperator, isComparisonOperator, isSetOperator, isAggregator, isAggregatorWithParam};
 ghost use Rattle.token.specs.Display.{displayOf, displayed};
 ghost use Rattle.token.specs.steps.DisplayRows.{pastKinds, table};
 ghost use Rattle.token.specs.Words.{keywordOf};
-ghost use Rattle.token.specs.steps.WordRows.{wordCount, widestWord, wordRow, wordTable, isRow, foundIn, keywordIn};
+ghost use Rattle.token.specs.steps.WordRows.{widestWord, wordRow, slotOf, wordTable, isRow, keywordIn};
 ghost use Rattle.token.specs.Label.{isLabel};
 
 const PAST_KINDS: usize = kinds::T_END as usize + 1;
@@ -205,9 +204,19 @@ const WIDEST_WORD: usize = 12;
 
 const WORD_ROW: usize = WIDEST_WORD + 2;
 
-const WORD_TABLE: usize = WORD_COUNT * WORD_ROW;
+const KIND_AT: usize = WORD_ROW - 1;
 
-// The words in the order of the Rust's KEYWORDS: each padded to WIDEST_WORD bytes, then its length and its kind.
+// Behind the rows stand so many slots; what the first letter counts for in the slot of a word.
+const SLOTS_FROM: usize = WORD_COUNT * WORD_ROW;
+
+const SLOT_COUNT: usize = 128;
+
+const FIRST_WEIGHT: usize = 4;
+
+const WORD_TABLE: usize = SLOTS_FROM + SLOT_COUNT;
+
+// The words in the order of the Rust's KEYWORDS: each padded to WIDEST_WORD bytes, then its length and its kind. Behind them, in the slot of each word
+// the number of its row, and in all other slots WORD_COUNT, which no row has.
 const WORDS: [u8; WORD_TABLE] = *b"\
     and         \x03\x23\
     or          \x02\x24\
@@ -243,7 +252,15 @@ const WORDS: [u8; WORD_TABLE] = *b"\
     start       \x05\x50\
     end         \x03\x51\
     inf         \x03\x04\
-    nan         \x03\x04";
+    nan         \x03\x04\
+    \x23\x23\x23\x13\x23\x06\x23\x23\x1c\x23\x23\x0e\x23\x21\x23\x23\
+    \x23\x09\x23\x16\x23\x1d\x1e\x23\x23\x23\x17\x18\x23\x23\x23\x23\
+    \x23\x10\x23\x23\x23\x07\x23\x23\x23\x22\x11\x23\x15\x23\x23\x08\
+    \x01\x0f\x23\x23\x23\x23\x12\x23\x1a\x23\x23\x03\x04\x23\x23\x0c\
+    \x23\x23\x23\x23\x0b\x1f\x23\x23\x0a\x23\x23\x23\x23\x02\x23\x23\
+    \x23\x23\x23\x23\x23\x23\x23\x14\x23\x23\x23\x23\x23\x23\x23\x23\
+    \x23\x23\x23\x23\x23\x23\x23\x23\x23\x23\x23\x00\x23\x23\x05\x23\
+    \x1b\x23\x23\x23\x23\x23\x23\x23\x19\x23\x0d\x20\x23\x23\x23\x23";
 
 // The kind that a word has of its own, if any.
 pub enum Keyword {
@@ -258,59 +275,62 @@ pub fn words() -> [u8; WORD_TABLE]
     WORDS
 }
 
-// Writes a word in lower case to the front of a buffer that it fits.
-fn lower_into(word: &[u8], buf: &mut [u8; WIDEST_WORD])
-    requires { ⌜ length (now word) ≤ widestWord ⌝ }
-    ensures { λ _. ⌜ now (buf .exit) ≡ sets (now (buf .entry)) 0 (map lowered (now (word .entry))) ⌝ }
-{
-    let mut i = 0;
-    while i < word.len() {
-        buf[i] = byte::lowered(word[i] as usize) as u8;
-        i += 1;
-    }
-}
-
-// Whether a row of the table holds a word.
-fn is_row(row: &[u8], word: &[u8]) -> bool
-    requires { ⌜ (length (now row) ≡ wordRow) × (length (now word) ≤ widestWord) ⌝ }
-    ensures { λ r. ⌜ r ≡ isRow (now (row .entry)) (now (word .entry)) ⌝ }
+// The slot of a word, in any case of its letters: by the first, the last and how many there are.
+fn slot_of(word: &[u8]) -> usize
+    requires { ⌜ (0 < length (now word)) × (length (now word) ≤ widestWord) ⌝ }
+    ensures { λ r. ⌜ r ≡ slotOf (map lowered (now (word .entry))) ⌝ }
 {
     let n = word.len();
-    row[WIDEST_WORD] as usize == n && scan::is_text(word, &row[..n])
+    let first = byte::lowered(word[0] as usize);
+    let last = byte::lowered(word[n - 1] as usize);
+    (first * FIRST_WEIGHT + last + n) % SLOT_COUNT
 }
 
-// The kind of the first row of a table that holds a word.
-fn find(table: &[u8], word: &[u8]) -> Keyword
-    requires { ⌜ length (now word) ≤ widestWord ⌝ }
-    ensures { λ r. ⌜ r ≡ foundIn wordCount (now (table .entry)) (now (word .entry)) ⌝ }
+// Whether a row of the table holds a word, in any case of its letters, which are compared where they stand.
+fn is_row(row: &[u8], word: &[u8]) -> bool
+    requires { ⌜ (length (now row) ≡ wordRow) × (length (now word) ≤ widestWord) ⌝ }
+    ensures { λ r. ⌜ r ≡ isRow (now (row .entry)) (map lowered (now (word .entry))) ⌝ }
 {
+    let n = word.len();
+    if row[WIDEST_WORD] as usize != n {
+        return false;
+    }
     let mut i = 0;
-    while i < WORD_COUNT {
-        let at = i * WORD_ROW;
-        let end = at + WORD_ROW;
-        if table.len() < end {
-            break;
-        }
-        let row = &table[at..end];
-        if is_row(row, word) {
-            return Keyword::Kind(row[WIDEST_WORD + 1] as u16);
+    while i < n {
+        if byte::lowered(word[i] as usize) != row[i] as usize {
+            return false;
         }
         i += 1;
     }
-    Keyword::Nothing
+    true
 }
 
-// The kind of a word, in any case of its letters, by a table.
+// The kind of a word, in any case of its letters, by a table: that of the one row that the word's slot names, if it holds the word.
 pub fn keyword_in(table: &[u8], word: &[u8]) -> Keyword
     ensures { λ r. ⌜ r ≡ keywordIn (now (table .entry)) (now (word .entry)) ⌝ }
 {
     let n = word.len();
+    if n == 0 {
+        return Keyword::Nothing;
+    }
     if WIDEST_WORD < n {
         return Keyword::Nothing;
     }
-    let mut buf = [0u8; WIDEST_WORD];
-    lower_into(word, &mut buf);
-    find(table, &buf[..n])
+    if table.len() < WORD_TABLE {
+        return Keyword::Nothing;
+    }
+    let slot = SLOTS_FROM + slot_of(word);
+    let number = table[slot] as usize;
+    if WORD_COUNT <= number {
+        return Keyword::Nothing;
+    }
+    let from = number * WORD_ROW;
+    let to = from + WORD_ROW;
+    let row = &table[from..to];
+    if is_row(row, word) {
+        return Keyword::Kind(row[KIND_AT] as u16);
+    }
+    Keyword::Nothing
 }
 
 // The kind of a word, in any case of its letters.

@@ -1,70 +1,154 @@
--- `token::keyword_in` meets its contract: the front of the buffer is the word in lower case, for which `find` looks.
+-- `token::keyword_in` meets its contract: it makes the tests of the definition, in its order, and looks at the row that the word's slot names.
+use Prim.Native.Nat.{ℕ, suc, _+_, _*_, _-_, _≤_, _<_}
+use native.Mathlib.Nat.{mod-lt}
 use native.Mathlib.Omega.{arith}
-use Prim.Native.Nat.{ℕ}
+use mathlib.Core.Bool.{cond}
 use mathlib.Core.List.{List, map}
 use mathlib.Core.Path.{_≡_, sym, ap, _∙_}
 use borrow.Author.Needs.{needs}
-use borrow.Author.Tests.{lt-ltb, le-ltb}
+use borrow.Author.Tests.{eq-eqb, ne-eqb, lt-ltb, le-ltb}
 use denote.Ref.{now}
-use lib.ListN.{length, take, replicate, length-map}
-use lib.Seq.{sets, length-sets, length-take-le}
+use lib.ListN.{length, getD, take, drop, length-drop}
+use lib.Seq.{length-take-le}
 use Rattle.scan.specs.Byte.{lowered}
-use Rattle.token.specs.steps.WordRows.{widestWord, keywordIn}
-use Rattle.proving.proofs.Stores.{written-front}
+use Rattle.token.specs.declared.Keyword.the-variants.{Kind, Nothing}
+use Rattle.token.specs.steps.WordRows.{wordCount, widestWord, wordRow, slotsFrom, slotCount, tableSize, slotOf, isRow, rowIn, numberIn, foundAt, keywordIn}
 use Rattle.token.proofs.keyword_in.Statement.{statement}
 use Rattle.token.proofs.keyword_in.Tie as tie
 
+slot-few : (w : List ℕ) → slotOf w < slotCount
+unfolding slotOf
+slot-few w = mod-lt _ (omega arith)
+
+-- a word that may be in a table is looked for in it
+looked-for : (t xs : List ℕ) → (length xs ≡ 0 → ⊥) → length xs ≤ widestWord → tableSize ≤ length t → let w = map lowered xs in keywordIn t xs ≡ foundAt (numberIn t w) t w
+unfolding keywordIn
+looked-for t xs n l s = rw (ne-eqb (length xs) 0 n, le-ltb widestWord (length xs) l, le-ltb (length t) tableSize s)
+
 returns : tie.Need-returns
 unfolding keywordIn
-returns c = simp (lt-ltb widestWord (length (now (c .before .before .before .args .word))) (c .if1 .taken))
-
-lower-into-requires : tie.Need-lower-into-requires
-lower-into-requires c κs = search needs
-
-module _ (c : tie.After-lower-into) where
-  abbrev word : List ℕ
-  word = now (c .before .before .before .before .before .args .word)
-
-  abbrev buffer : List ℕ
-  buffer = c .lower-into .last .1 .0
-
-  buffer-is : buffer ≡ sets (replicate widestWord 0) 0 (map lowered word)
-  buffer-is = c .lower-into .ensures
-
-  buffer-length : length buffer ≡ widestWord
-  buffer-length = ap length buffer-is ∙ length-sets (replicate widestWord 0) 0 (map lowered word)
-
-  front : take (length word) buffer ≡ map lowered word
-  front =
-      let e : length word ≡ length (map lowered word) = sym (length-map word lowered) in
-      rw (e, buffer-is) (written-front (replicate widestWord 0) (map lowered word) (omega (arith, e)))
-
-array-share-prefix-buf : tie.Need-array-share-prefix-buf
-array-share-prefix-buf c = omega (arith, buffer-length c)
-
-slice-aggregate-find : tie.Need-slice-aggregate-find
-slice-aggregate-find c =
-    let d = c .before in
-    sym (length-take-le (length (word d)) (buffer d) (omega (arith, buffer-length d)))
-
-find-requires : tie.Need-find-requires
-find-requires c κs =
-    let d = c .before in
-    omega (arith, length-take-le (length (word d)) (buffer d) (omega (arith, buffer-length d)))
+returns c = simp (eq-eqb (length (now (c .before .before .before .args .word))) 0 (c .if1 .taken))
 
 returns-2 : tie.Need-returns-2
 unfolding keywordIn
 returns-2 c =
-    let d = c .before .before in
-    rw (le-ltb widestWord (length (word d)) (c .before .before .before .before .if1 .left), ← front d) (c .find .ensures)
+    let n = length (now (c .before .before .before .before .args .word)) in
+    simp (ne-eqb n 0 (c .before .if1 .left), lt-ltb widestWord n (c .if2 .taken))
+
+returns-3 : tie.Need-returns-3
+unfolding keywordIn
+returns-3 c =
+    let a = c .before .before .before .before .before .args in
+    let n = length (now (a .word)) in
+    simp (ne-eqb n 0 (c .before .before .if1 .left), le-ltb widestWord n (c .before .if2 .left), lt-ltb (length (now (a .table))) tableSize (c .if3 .taken))
+
+slot-of-requires : tie.Need-slot-of-requires
+slot-of-requires c κs = (omega arith, omega arith)
+
+module _ (c : tie.After-slot-of) where
+  abbrev table : List ℕ
+  table = now (c .before .before .before .before .before .before .args .table)
+
+  abbrev word : List ℕ
+  word = now (c .before .before .before .before .before .before .args .word)
+
+  slot-within : c .slot-of .result < slotCount
+  slot-within = rw (c .slot-of .ensures) (slot-few (map lowered word))
+
+  -- the number that is read, and what the row of it says
+  abbrev number : ℕ
+  number = getD table (slotsFrom + c .slot-of .result) 0
+
+  found : keywordIn table word ≡ foundAt number table (map lowered word)
+  found =
+      looked-for table word (c .before .before .before .if1 .left) (c .before .before .if2 .left) (c .before .if3 .left)
+      ∙ ap (λ (s : ℕ). foundAt (getD table (slotsFrom + s) 0) table (map lowered word)) (sym (c .slot-of .ensures))
+
+add-slot : tie.Need-add-slot
+add-slot c = omega (arith, slot-within c)
+
+shared-slice-read-number : tie.Need-shared-slice-read-number
+shared-slice-read-number c = omega (arith, slot-within (c .before))
+
+cast-number : tie.Need-cast-number
+cast-number c = omega (arith, c .shared-slice-known3 .given (slotsFrom + c .before .slot-of .result))
+
+returns-4 : tie.Need-returns-4
+unfolding foundAt
+returns-4 c = sym (found (c .before .before) ∙ simp (le-ltb (number (c .before .before)) wordCount (c .if4 .taken)))
+
+mul-from : tie.Need-mul-from
+mul-from c = search needs
+
+add-to : tie.Need-add-to
+add-to c = search needs
+
+sub-row : tie.Need-sub-row
+sub-row c = search needs
+
+part-row-start : tie.Need-part-row-start
+part-row-start c = search needs
+
+part-row-end : tie.Need-part-row-end
+part-row-end c = omega arith
+
+-- the part of the table that is the row of the number
+module _ (c : tie.After-row) where
+  abbrev at : tie.After-slot-of
+  at = c .before .before .before
+
+  abbrev from : ℕ
+  from = number at * wordRow
+
+  abbrev part : List ℕ
+  part = take (from + wordRow - from) (drop from (table at))
+
+  part-is : part ≡ rowIn (table at) (number at)
+  part-is = let e : from + wordRow - from ≡ wordRow = omega arith in rw e
+
+  part-length : length part ≡ wordRow
+  part-length = ap length part-is ∙ length-take-le wordRow (drop from (table at)) (omega (arith, length-drop from (table at)))
+
+  row-says : keywordIn (table at) (word at) ≡ cond (isRow part (map lowered (word at))) (Kind (getD part (suc widestWord) 0)) Nothing
+  unfolding foundAt
+  row-says =
+      found at
+      ∙ rw (lt-ltb (number at) wordCount (c .before .if4 .left)) (ap (λ (r : List ℕ). cond (isRow r (map lowered (word at))) (Kind (getD r (suc widestWord) 0)) Nothing) (sym part-is))
+
+is-row-requires : tie.Need-is-row-requires
+is-row-requires c κs = (part-length c, omega arith)
+
+shared-slice-read-t17 : tie.Need-shared-slice-read-t17
+shared-slice-read-t17 c = omega (arith, part-length (c .before .before .before))
+
+cast-t18 : tie.Need-cast-t18
+cast-t18 c = omega (arith, c .shared-slice-known4 .given (suc widestWord))
+
+returns-5 : tie.Need-returns-5
+returns-5 c = sym (row-says (c .before .before .before) ∙ rw (← c .before .before .is-row .ensures, c .before .if5 .taken))
+
+returns-6 : tie.Need-returns-6
+returns-6 c = sym (row-says (c .before .before) ∙ rw (← c .before .is-row .ensures, c .if5 .left))
 
 pub keyword-in-spec : {M : Type 1} → statement M
 keyword-in-spec =
     tie.close
     (tie.spec
     returns
-    lower-into-requires
-    array-share-prefix-buf
-    slice-aggregate-find
-    find-requires
-    returns-2)
+    returns-2
+    returns-3
+    slot-of-requires
+    add-slot
+    shared-slice-read-number
+    cast-number
+    returns-4
+    mul-from
+    add-to
+    sub-row
+    part-row-start
+    part-row-end
+    is-row-requires
+    shared-slice-read-t17
+    cast-t18
+    returns-5
+    returns-6)
