@@ -45,7 +45,8 @@ denominator xs = 10 ^ (length (fractionOf xs) + cond (isNegativeExponent xs) (va
 abbrev pub plain : Float → Number
 plain x = record { value = x; notation = notation.Decimal }
 
--- the f64 nearest to the fraction, with the text's sign: `round` is the kit's, and no f64 is nearer (`NearestF64` of `laws/Rounding`)
+-- the fraction as an f64, with the text's sign, by the kit's `round`. Of what is accepted that is "one rounded multiplication or division of two exact
+-- values" (`OneRounding` of `laws/Rounding`), and no f64 is nearer (`NearestF64`)
 abbrev pub nearestOf : List ℕ → Number
 nearestOf xs = plain (round binary64 (isMinus xs 0) (numerator xs) (denominator xs))
 

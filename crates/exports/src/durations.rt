@@ -1,4 +1,4 @@
-// The C functions over `duration` and `display`: each answers with one number, and writes what else it gives to what is lent.
+// The C functions over `duration`: each answers with one number, and writes what else it gives to what is lent.
 // A refusal is answered as `packing` makes it one number.
 use crate::packing;
 use duration::Timing;

@@ -1,9 +1,9 @@
 // The C functions, in one archive for C or Rust to link: a module for each family, and one that makes a refusal one number.
 // Each function answers with one number, and no struct is passed by value.
 pub mod packing; // a refusal as one number
-pub mod text; // over `utf8` and `encode`
+pub mod text; // over `utf8`
 pub mod tokens; // over `token`
-pub mod strings; // over `escape` and `string`
+pub mod strings; // over `string`
 pub mod numbers; // over `number`
-pub mod durations; // over `duration` and `display`
+pub mod durations; // over `duration`
 pub mod queries; // over `lex`

@@ -1,4 +1,4 @@
-// The C functions over `escape` and `string`: each answers with one number, and writes its text to the buffer that is lent.
+// The C functions over `string`: each answers with one number, and writes its text to the buffer that is lent.
 // A refusal is answered as `packing` makes it one number.
 use crate::packing;
 use string::Unquoting;

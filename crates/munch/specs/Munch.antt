@@ -53,7 +53,7 @@ abbrev pub white : Mode → List ℕ → Step
 white m = always (Space m)
 
 abbrev pub refuse : ℕ → List ℕ → Step
-refuse number = always (Refused number 0)
+refuse r = always (Refused r 0)
 
 -- one step where a byte, or the end, follows the first, else another
 abbrev pub ifNext : List ℕ → ℕ → Step → Step → Step
@@ -107,7 +107,7 @@ compareStep equal alone m xs = ifNext xs (code "=") (Lexeme equal 2 m) (Lexeme a
 unfoldable pub rightParenStep : ℕ → Step
 rightParenStep d = cond (eqb d 0) (Refused 16 0) (Lexeme rightParen 1 (mode (d - 1) Nothing))
 
--- 10 "end with `(` open, no other refusal there": what is open inside, a string and a `!` have refusals of their own
+-- 10 "end with `(` open, no other refusal there": what is open inside, a string, a number, a `.` and a `!` have refusals of their own
 unfoldable pub endStep : ℕ → Step
 endStep d = cond (eqb d 0) Finished (Refused 10 0)
 
@@ -141,8 +141,8 @@ isEnd c = eqb c end
 
 -- the step of the first row that is for the byte; where none is, it is refused with a number
 abbrev pub stepFor : List Opening → ℕ → ℕ → List ℕ → Step
-stepFor [] number c = refuse number
-stepFor (o ∷ t) number c = cond (o .takes c) (o .step) (stepFor t number c)
+stepFor [] r c = refuse r
+stepFor (o ∷ t) r c = cond (o .takes c) (o .step) (stepFor t r c)
 
 -- outside braces and brackets; 17, 18 "unmatched .. `}`, `]`"
 unfoldable pub outsideTable : ℕ → List Opening

@@ -1,5 +1,5 @@
 -- What stands at a place of a list of bytes, and the classes of bytes that document 01's "Lexing rules" speak of.
--- Past the last byte stands `end`, which is no byte and in no class, so that no rule needs a case for it.
+-- Past the last byte stands `end`, which is no byte and in no class, so that reading past the last byte needs no case of its own.
 use Prim.Native.Nat.{ℕ, _+_, _-_}
 use Prim.Native.Char.{code}
 use mathlib.Core.Bool.{Bool, cond, _&&_, _||_, not}

@@ -10,7 +10,7 @@ use lib.ListN.{length}
 use borrow.Author.Tests.{leb-true, ltb-true, eq-eqb, eqb-true, eqb-false, not-true}
 use Rattle.proving.proofs.Choice.{and-left, and-right}
 use Rattle.token.specs.Words.{KindText, _names_, words}
-use Rattle.token.specs.Display.{signs, ownKinds, displays, textIn, displayOf, unknown}
+use Rattle.token.specs.Display.{wordless, ownKinds, displays, textIn, displayOf, unknown}
 use Rattle.token.specs.laws.Display.{shownAt, KindsDistinct, KindShown, OtherUnknown, DisplayShort}
 use Rattle.token.specs.steps.DisplayRows.{pastKinds, textSize}
 use Rattle.token.proofs.Every.{every, distinct, Search, each-found, none-hit, one-hit, hit-found}
@@ -34,7 +34,7 @@ searched k =
     }
 
 tested : every isShown displays && distinct differs displays ≡ true
-unfolding displays signs ownKinds words
+unfolding displays wordless ownKinds words
 tested = refl
 
 entries : every isShown displays ≡ true

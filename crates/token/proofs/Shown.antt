@@ -7,7 +7,7 @@ use borrow.Author.Tests.{eqb-true}
 use Rattle.scan.specs.Text.{sameText}
 use Rattle.proving.proofs.Below.{below}
 use Rattle.scan.proofs.Same.{same-is-equal}
-use Rattle.token.specs.Display.{signs, ownKinds, displays, textIn, displayOf}
+use Rattle.token.specs.Display.{wordless, ownKinds, displays, textIn, displayOf}
 use Rattle.token.specs.Words.{words}
 use Rattle.token.specs.steps.WordRows.{wordCount}
 use Rattle.token.specs.Kinds.{number}
@@ -18,7 +18,7 @@ abbrev isShown : ℕ → Bool
 isShown i = eqb (wordAt i .kind) number || sameText (displayOf (wordAt i .kind)) (wordAt i .text)
 
 all-shown : (i : ℕ) → i < wordCount → isShown i ≡ true
-unfolding words signs ownKinds displays textIn sameText
+unfolding words wordless ownKinds displays textIn sameText
 all-shown i h = below isShown wordCount refl i h
 
 pub word-shown : WordShown

@@ -21,7 +21,7 @@ use Rattle.utf8.specs.Writing.{leftBy}
 use Rattle.token.specs.declared.Keyword.{Keyword}
 use Rattle.token.specs.declared.Keyword.the-variants.{Kind, Nothing}
 use Rattle.token.specs.Classes.{isOperator, isComparisonOperator, isSetOperator, isAggregator, isAggregatorWithParam}
-use Rattle.token.specs.Display.{signs, ownKinds, displays, textIn, displayOf, displayed}
+use Rattle.token.specs.Display.{wordless, ownKinds, displays, textIn, displayOf, displayed}
 use Rattle.token.specs.Words.{words, kindIn, keywordOf}
 use Rattle.token.specs.steps.Padded.{padded}
 use Rattle.token.specs.steps.WordRows.{wordRow, tableSize, tableOf, slotOf, rowFor, slotsOf, wordTable, isRow, foundAt, keywordIn}
@@ -123,7 +123,7 @@ token-display-gives k room v =
     Answers token-display.ps token-display.r token-display-reads.Post (λ κs a. (a .0 ≡ k) × (length (now (a .1 .0)) ≡ room)) (λ κs. v)
 
 token-display-at : (k room : ℕ) → token-display-gives k room (displayed room k)
-unfolding textIn displays signs ownKinds words
+unfolding textIn displays wordless ownKinds words
 token-display-at k room κs a x e p h = p .0 ∙ ap₂ displayed (h .1) (h .0)
 
 pub display-that-has-room-is-counted : token-display-gives 6 3 (Written 1)

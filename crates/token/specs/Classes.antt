@@ -1,4 +1,4 @@
--- The classes of kinds: document 01's "Kinds", "operators are 20 to 38, aggregators 40 to 53", and the tests of 001's `TokenType`
+-- The classes of kinds: document 01's "Kinds", "operators are 20 to 38, aggregators 40 to 53", and the tests of token.rs's `TokenType`
 -- within them. A number that is no kind is in none.
 use Prim.Native.Nat.{ℕ}
 use mathlib.Core.Bool.{Bool}

@@ -1,4 +1,4 @@
--- The text that a kind is shown as: document 01's "Kinds", with the texts of 001's `token_display`.
+-- The text that a kind is shown as: document 01's "Kinds", with the texts of token.rs's `token_display`.
 use Prim.Native.Nat.{ℕ}
 use mathlib.Core.Bool.{cond}
 use mathlib.Core.List.{List, [], _∷_, _++_}
@@ -9,9 +9,9 @@ use Rattle.utf8.specs.Writing.{fitted}
 use Rattle.token.specs.Kinds.{eofKind, identifier, metricIdentifier, string, number, duration, leftParen, rightParen, leftBrace, rightBrace, leftBracket, rightBracket, comma, colon, eql, add, sub, mul, div, modulo, pow, eqlc, neq, lte, lss, gte, gtr, eqlRegex, neqRegex, atSign}
 use Rattle.token.specs.Words.{KindText, _names_, words}
 
--- the kinds that are no word's, and how each is shown
-unfoldable pub signs : List KindText
-signs =
+-- the kinds that no word has for its own, and how each is shown
+unfoldable pub wordless : List KindText
+wordless =
     "<eof>" names eofKind
     ∷ "{ID}" names identifier
     ∷ "{Metric_ID}" names metricIdentifier
@@ -51,7 +51,7 @@ ownKinds (e ∷ es) = cond (eqb (e .kind) number) (ownKinds es) (e ∷ ownKinds 
 
 -- every kind, in the order of their numbers: a word's is shown as the word
 unfoldable pub displays : List KindText
-displays = signs ++ ownKinds words
+displays = wordless ++ ownKinds words
 
 -- "Other numbers .. show `unknown token`."
 abbrev pub unknown : List ℕ

@@ -1,4 +1,5 @@
--- The kinds of lexemes, each once: document 01, "Kinds", in its order, under the Rust's names.
+-- The kinds of lexemes, each once: document 01, "Kinds", in its order, under the Rust's names without their `T_`; where such a name is taken here, or
+-- says nothing by itself, it is longer: `eofKind`, `modulo`, `atSign`, `countKind`, `endKind`.
 use Prim.Native.Nat.{ℕ}
 
 -- "EOF 0, IDENTIFIER 1, METRIC_IDENTIFIER 2, STRING 3, NUMBER 4, DURATION 5, .."

@@ -1,4 +1,4 @@
--- The 35 words that have a kind of their own: document 01, "Kinds", in the order of the Rust's KEYWORDS.
+-- The 35 words and their kinds: document 01, "Kinds", in the order of the Rust's KEYWORDS.
 use Prim.Native.Nat.{ℕ}
 use Prim.Native.String.{String}
 use mathlib.Core.Bool.{cond}

@@ -1,4 +1,4 @@
--- `scale::power` meets its contract: the table's rule.
+-- `decimal::power` meets its contract: the table's rule.
 use borrow.Author.Needs.{needs}
 use native.Mathlib.Omega.{arith}
 use Rattle.decimal.proofs.Powers.{power-at}

@@ -1,5 +1,5 @@
 -- What the code goes by in place of the definition: a place in the text, and the seconds and milliseconds of the parts before it. Nothing
--- that is promised outside rests on it; `proofs/Steps` shows that seven steps say what the definition says.
+-- that is promised outside rests on it; `proofs/units/Steps` shows that seven steps say what the definition says.
 use Prim.Native.Nat.{ℕ, _+_, _*_, _/_, _%_}
 use mathlib.Core.Bool.{cond}
 use mathlib.Core.List.{List}

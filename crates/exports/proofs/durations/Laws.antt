@@ -1,5 +1,5 @@
--- The laws of durations in `specs/laws`: an accepted answer is 0, or no more than the buffer's bytes; a refusal's number is at most 54
--- and its place within the text, by the bounds of `duration`'s answers and what those of `display` tell.
+-- The laws of durations in `specs/laws/Codes`: an accepted answer is 0, or no more than the buffer's bytes; a refusal's number is at most 54
+-- and its place within the text, by the bounds of `duration`'s answers.
 use native.Mathlib.Omega.{arith}
 use mathlib.Core.Logic.{inl, inr}
 use mathlib.Core.Path.{_≡_, refl, subst}

@@ -1,4 +1,4 @@
--- The laws of numbers in `specs/Laws`: an accepted answer is a notation's number, well below bit 63; a refusal's number is at most 61
+-- The laws of numbers in `specs/laws/Codes`: an accepted answer is a notation's number, well below bit 63; a refusal's number is at most 61
 -- and its place within the text, by the bounds of `number`'s answers.
 use native.Mathlib.Omega.{arith}
 use mathlib.Core.Bool.{false}

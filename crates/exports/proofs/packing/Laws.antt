@@ -1,4 +1,4 @@
--- The laws of packing in `specs/Laws`: the parts of a packed refusal are the digits of one number in base 2^16, below bit 63. With them
+-- The laws of packing in `specs/laws/Codes`: the parts of a packed refusal are the digits of one number in base 2^16, below bit 63. With them
 -- what the other modules use to show theirs.
 use Prim.Native.Nat.{ℕ, _*_, _≤_}
 use native.Mathlib.Omega.{arith}

@@ -1,4 +1,4 @@
--- The laws of queries in `specs/Laws`: an accepted answer is at most one more than a query's bytes, well below bit 63; a refusal's
+-- The laws of queries in `specs/laws/Codes`: an accepted answer is at most one more than a query's bytes, well below bit 63; a refusal's
 -- number is at most 32 and its place within the query, by the bounds of `lex`'s answers.
 use native.Mathlib.Omega.{arith}
 use mathlib.Core.Path.{_≡_, subst}

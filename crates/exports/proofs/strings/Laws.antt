@@ -1,6 +1,6 @@
--- The laws of strings in `specs/laws`: an accepted answer is at most twice a text's bytes, well below bit 63, and one for a text in the
--- buffer below bit 32; a refusal is that of a text which is not taken up (`validate-kept`), or 40 or 3, by what the answers of `escape`
--- and `string` tell.
+-- The laws of strings in `specs/laws/Codes`: an accepted answer is at most twice a text's bytes, well below bit 63, and one for a text in the
+-- buffer below bit 32; a refusal is that of a text which is not taken up (`validate-kept`), or 40 or 3, by what the answers of `string`
+-- tell.
 use Prim.Native.Nat.{_≤_}
 use native.Mathlib.Omega.{arith}
 use mathlib.Core.Bool.{_&&_, not}

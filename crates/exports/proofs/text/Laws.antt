@@ -1,5 +1,5 @@
 -- The laws of texts in `specs/laws/Codes`: an accepted answer is at most a text's bytes, well below bit 63, and a refusal's place lies within
--- the text, by the bounds of the answers of `utf8` and `encode`.
+-- the text, by the bounds of `utf8`'s answers.
 use Prim.Native.Nat.{_<_}
 use native.Mathlib.Omega.{arith}
 use mathlib.Core.Bool.{Bool, true, false, cond, _||_}

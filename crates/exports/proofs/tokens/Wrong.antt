@@ -15,7 +15,7 @@ use Rattle.utf8.specs.Text.{charsPast, sizeOf}
 use Rattle.utf8.specs.Writing.{leftBy}
 use Rattle.token.specs.Kinds.{leftParen, eqlc, lor, topk, fill}
 use Rattle.token.specs.Words.{words, kindIn, keywordOf}
-use Rattle.token.specs.Display.{signs, ownKinds, displays, textIn, displayOf, displayed}
+use Rattle.token.specs.Display.{wordless, ownKinds, displays, textIn, displayOf, displayed}
 use Rattle.token.specs.Label.{isLabel}
 use Rattle.exports.specs.Packed.{packedAs}
 use Rattle.exports.specs.Token.{keywordCode, flag, classesCode}
@@ -52,11 +52,11 @@ simmerpath-token-display-at : (kind room : ℕ) → simmerpath-token-display-giv
 simmerpath-token-display-at kind room κs a x e p h = cc (p .0, h .0, h .1)
 
 pub kind-fits-just-its-length : simmerpath-token-display-gives leftParen 1 1
-unfolding textIn displays signs ownKinds words
+unfolding textIn displays wordless ownKinds words
 kind-fits-just-its-length = simmerpath-token-display-at _ _
 
 pub no-room-is-refused : simmerpath-token-display-gives leftParen 0 (packedAs 3 0 0)
-unfolding textIn displays signs ownKinds words
+unfolding textIn displays wordless ownKinds words
 no-room-is-refused = simmerpath-token-display-at _ _
 
 abbrev simmerpath-token-display-leaves-out : ℕ → List ℕ → List ℕ → Type 0
@@ -67,11 +67,11 @@ simmerpath-token-display-left-out : (kind : ℕ) (out : List ℕ) → simmerpath
 simmerpath-token-display-left-out kind out κs a x e p h = cc (p .1, h .0, h .1)
 
 pub paren-is-not-shown-as-the-end : simmerpath-token-display-leaves-out leftParen (ascii "......") (ascii "(.....")
-unfolding textIn displays signs ownKinds words
+unfolding textIn displays wordless ownKinds words
 paren-is-not-shown-as-the-end = simmerpath-token-display-left-out _ _
 
 pub kind-without-room-leaves-the-buffer : simmerpath-token-display-leaves-out fill (ascii "...") (ascii "...")
-unfolding textIn displays signs ownKinds words
+unfolding textIn displays wordless ownKinds words
 kind-without-room-leaves-the-buffer = simmerpath-token-display-left-out _ _
 
 abbrev simmerpath-token-classes-gives : ℕ → ℕ → Type 0

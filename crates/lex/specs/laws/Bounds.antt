@@ -17,7 +17,7 @@ use Rattle.lex.specs.Lex.{entriesOf, lexed}
 abbrev pub lastRow : ℕ
 lastRow = 32
 
--- at most one lexeme more than a text has bytes is counted, and a refusal has the number of a row and a place within the limit
+-- at most one lexeme more than a text has bytes is counted, and a refusal has a number of at most the last row's and a place within the limit
 abbrev pub LexingWithin : Lexing → Type 0
 LexingWithin (Count n) = n ≤ textLimit + 1
 LexingWithin (Refused r) = (r .number ≤ lastRow) × (r .place .byte .0 ≤ textLimit) × (r .place .character .0 ≤ textLimit)

@@ -53,7 +53,7 @@ LexingGiven =
     × (x ≡ Refused noRoom ↔ Taken textLimit q × Ends q × (room < length (entriesOf q)))
     × ((n : ℕ) → x ≡ Count n ↔ Taken textLimit q × Ends q × (n ≡ length (entriesOf q)) × (n ≤ room))
 
--- and measured without regard to room
+-- and it is accepted without regard to room
 abbrev pub MeasuredGiven : Type 0
 MeasuredGiven = (q : List ℕ) (n : ℕ) → measured q ≡ Count n ↔ Taken textLimit q × Ends q × (n ≡ length (entriesOf q))
 

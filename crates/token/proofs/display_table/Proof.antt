@@ -2,13 +2,13 @@
 use mathlib.Core.Path.{refl}
 use Rattle.token.specs.steps.Padded.{padded}
 use Rattle.token.specs.Words.{words}
-use Rattle.token.specs.Display.{signs, ownKinds, displays, textIn}
+use Rattle.token.specs.Display.{wordless, ownKinds, displays, textIn}
 use Rattle.token.specs.steps.DisplayRows.{shownRow, rowsFrom, table}
 use Rattle.token.proofs.display_table.Statement.{statement}
 use Rattle.token.proofs.display_table.Tie as tie
 
 returns : tie.Need-returns
-unfolding words signs ownKinds displays textIn padded shownRow rowsFrom table
+unfolding words wordless ownKinds displays textIn padded shownRow rowsFrom table
 returns c = refl
 
 pub display-table-spec : {M : Type 1} → statement M

@@ -1,4 +1,4 @@
--- `duration::span::dyadic_of` meets its contract: the laws of `proofs/Fields.antt`.
+-- `duration::span::dyadic_of` meets its contract: the laws of `proofs/span/Fields`.
 use mathlib.Core.Path.{sym, subst}
 use native.Mathlib.Nat.{mod-lt}
 use native.Mathlib.Omega.{arith}
