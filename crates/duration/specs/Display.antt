@@ -6,10 +6,10 @@ use lib.Dec.{leb, ltb, eqb}
 use Rattle.scan.specs.Ascii.{ascii}
 use Rattle.utf8.specs.declared.Writing.{Writing}
 use Rattle.utf8.specs.declared.Writing.the-variants.{Refused}
-use Rattle.utf8.specs.Answers.{atStart}
 use Rattle.utf8.specs.Writing.{fitted}
 use Rattle.writing.specs.Decimal.{decimalText}
 use Rattle.duration.specs.declared.span.Duration.{Duration}
+use Rattle.duration.specs.Duration.{outOfRange}
 use Rattle.duration.specs.Unit.{Unit, units, second, day, nanosAMilli, nanosASecond}
 use Rattle.duration.specs.Spans.{isZero}
 
@@ -41,8 +41,5 @@ unfoldable pub durationText : Duration → List ℕ
 durationText d = cond (isZero d) (ascii "0s") (written units (millisOf d))
 
 -- "Writing refuses nanoseconds of 1,000,000,000 and over with 54, then only 3."
-abbrev pub overRange : ℕ
-overRange = 54
-
 unfoldable pub displayingOf : ℕ → Duration → Writing
-displayingOf room d = cond (leb nanosASecond (d .nanos)) (Refused (atStart overRange)) (fitted room (durationText d))
+displayingOf room d = cond (leb nanosASecond (d .nanos)) (Refused outOfRange) (fitted room (durationText d))

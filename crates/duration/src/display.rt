@@ -1,4 +1,5 @@
 // A duration is written in its units: its text is measured first, so that a refused call writes nothing.
+use crate::OUT_OF_RANGE;
 use crate::span;
 use crate::span::Duration;
 use utf8::Writing;
@@ -11,9 +12,6 @@ ghost use Rattle.writing.specs.Decimal.{decimalText};
 ghost use Rattle.duration.specs.Unit.{units, day, nanosASecond};
 ghost use Rattle.duration.specs.Display.{countText, written, millisOf, durationText, displayingOf};
 ghost use Rattle.duration.specs.steps.Display.{Stored, wholeOf, longestUnit, longestPart, chained, sizes, textsOf};
-
-// Document 01's refusal of nanoseconds that are a second or more.
-pub const OVER_RANGE: usize = 54;
 
 const NANOS_A_MILLI: u32 = 1_000_000;
 
@@ -143,7 +141,7 @@ pub fn display_duration(duration: Duration, out: &mut [u8]) -> Writing
     ensures { λ r. ⌜ now (out .exit) ≡ leftBy r (durationText duration) (now (out .entry)) ⌝ }
 {
     if duration.nanos >= NANOS_A_SECOND {
-        return Writing::Refused(utf8::at_start(OVER_RANGE));
+        return Writing::Refused(utf8::at_start(OUT_OF_RANGE));
     }
     let zero = span::is_zero(duration);
     let counts = counts_of(duration);

@@ -115,11 +115,11 @@ module _ (w : List ℕ) where
   at-slot = go (decLt number wordCount)
     where
       go : Dec (number < wordCount) → cond (ltb number wordCount && isRow (rowIn wordTable number) w) (Kind (getD (rowIn wordTable number) (suc widestWord) 0)) Nothing ≡ kindIn words w
-      go (no l) = rw (le-ltb number wordCount (omega arith)) (sym (none-found w (λ i h s. l (omega (arith, led i h s)))))
+      go (no l) = rw (le-ltb number wordCount (omega arith)) (sym (none-found w (λ i h s. let k : i < wordCount = omega (arith, counted) in l (omega (arith, led i k s)))))
       go (yes l) =
           let short-one = short (wordAt number) (every-at isEntry words entries ("" names 0) number (omega (arith, counted))) in
           rw (lt-ltb number wordCount l, row-is-word l, row-is (wordAt number) short-one w, kind-of (wordAt number) short-one)
-          (either (λ k. k ≡ kindIn words w) (sameText w (wordAt number .text)) (λ s. sym (entry-found w number l s)) (λ s. sym (none-found w (λ i h t. true≢false (sym t ∙ rw (← led i h t) s)))))
+          (either (λ k. k ≡ kindIn words w) (sameText w (wordAt number .text)) (λ s. sym (entry-found w number (omega (arith, counted)) s)) (λ s. sym (none-found w (λ i h t. let k : i < wordCount = omega (arith, counted) in true≢false (sym t ∙ rw (← led i k t) s)))))
 
 pub table-finds : TableFinds
 unfolding keywordIn keywordOf

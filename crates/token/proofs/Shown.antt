@@ -1,5 +1,6 @@
 -- A word is shown as itself: one test over all words, which the check computes of the two tables.
 use Prim.Native.Nat.{ℕ, _<_}
+use native.Mathlib.Omega.{arith}
 use mathlib.Core.Bool.{Bool, true, false, _||_}
 use mathlib.Core.Path.{_≡_, refl}
 use lib.Dec.{eqb}
@@ -13,6 +14,7 @@ use Rattle.token.specs.steps.WordRows.{wordCount}
 use Rattle.token.specs.Kinds.{number}
 use Rattle.token.specs.laws.Words.{wordAt}
 use Rattle.token.specs.laws.Display.{WordShown}
+use Rattle.token.proofs.Table.{counted}
 
 abbrev isShown : ℕ → Bool
 isShown i = eqb (wordAt i .kind) number || sameText (displayOf (wordAt i .kind)) (wordAt i .text)
@@ -22,7 +24,7 @@ unfolding words wordless ownKinds displays textIn sameText
 all-shown i h = below isShown wordCount refl i h
 
 pub word-shown : WordShown
-word-shown i h n = go (eqb (wordAt i .kind) number) refl (all-shown i h)
+word-shown i h n = go (eqb (wordAt i .kind) number) refl (all-shown i (omega (arith, counted)))
   where
     go : (t : Bool) → eqb (wordAt i .kind) number ≡ t → t || sameText (displayOf (wordAt i .kind)) (wordAt i .text) ≡ true → displayOf (wordAt i .kind) ≡ wordAt i .text
     go true e s = absurd (n (eqb-true (wordAt i .kind) number e))

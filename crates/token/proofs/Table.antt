@@ -84,11 +84,11 @@ unfolding kindIn
 word-found w P n v = each-found (searched w) isEntry P n v words entries
 
 pub one-entry : OneEntry
-one-entry w i j h l = one-hit (searched w) ("" names 0) words apart i j (omega (arith, counted)) (omega (arith, counted))
+one-entry w i j h l = one-hit (searched w) ("" names 0) words apart i j h l
 
 pub entry-found : EntryFound
-entry-found w i h = hit-found (searched w) ("" names 0) words apart i (omega (arith, counted))
+entry-found w i h = hit-found (searched w) ("" names 0) words apart i h
 
 pub none-found : NoneFound
 unfolding kindIn
-none-found w n = none-hit (searched w) ("" names 0) words (λ i h. n i (omega (arith, counted)))
+none-found w n = none-hit (searched w) ("" names 0) words n

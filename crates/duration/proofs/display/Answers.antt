@@ -10,15 +10,16 @@ use lib.ListN.{length, drop}
 use lib.Seq.{sets, sets-eq}
 use borrow.Author.Tests.{le-leb, lt-leb, leb-true}
 use Rattle.proving.proofs.Choice.{either}
-use Rattle.utf8.specs.Answers.{atStart, noRoom}
+use Rattle.utf8.specs.Answers.{noRoom}
 use Rattle.duration.specs.declared.span.Duration.{Duration}
 use Rattle.utf8.specs.declared.Writing.{Writing}
 use Rattle.utf8.specs.declared.Writing.the-variants.{Written, Refused}
 use Rattle.duration.specs.Unit.{nanosASecond}
-use Rattle.duration.specs.Display.{overRange, durationText, displayingOf}
+use Rattle.duration.specs.Duration.{outOfRange}
+use Rattle.duration.specs.Display.{durationText, displayingOf}
 use Rattle.duration.specs.laws.Display.{DisplayTells, DisplayAnswers}
 
-pub over-range : (room : ℕ) (d : Duration) → nanosASecond ≤ d .nanos → displayingOf room d ≡ Refused (atStart overRange)
+pub over-range : (room : ℕ) (d : Duration) → nanosASecond ≤ d .nanos → displayingOf room d ≡ Refused outOfRange
 unfolding displayingOf
 over-range room d h = rw (le-leb nanosASecond (d .nanos) h)
 

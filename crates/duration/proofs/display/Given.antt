@@ -8,13 +8,14 @@ use mathlib.Core.Path.{_≡_, refl}
 use lib.Dec.{eqb}
 use lib.ListN.{length}
 use Rattle.proving.proofs.Choice.{exactly}
-use Rattle.utf8.specs.Answers.{atStart, noRoom}
+use Rattle.utf8.specs.Answers.{noRoom}
 use Rattle.utf8.specs.laws.Refusals.{NoRoom}
 use Rattle.duration.specs.declared.span.Duration.{Duration}
 use Rattle.utf8.specs.declared.Writing.{Writing}
 use Rattle.utf8.specs.declared.Writing.the-variants.{Written, Refused}
 use Rattle.duration.specs.Unit.{nanosASecond}
-use Rattle.duration.specs.Display.{overRange, durationText, displayingOf}
+use Rattle.duration.specs.Duration.{outOfRange}
+use Rattle.duration.specs.Display.{durationText, displayingOf}
 use Rattle.duration.specs.laws.Display.{OverRange, DisplayingGiven}
 use Rattle.duration.proofs.display.Answers as answers
 
@@ -25,7 +26,7 @@ data Row : Type 0 where
 
 abbrev rowOf : Writing → Row
 rowOf (Written n) = written
-rowOf (Refused r) = cond (eqb (r .number) overRange) over short
+rowOf (Refused r) = cond (eqb (r .number) (outOfRange .number)) over short
 
 module _ (room : ℕ) (d : Duration) where
   abbrev Holds : Row → Type 0
@@ -34,7 +35,7 @@ module _ (room : ℕ) (d : Duration) where
   Holds written = (OverRange d → ⊥) × (NoRoom room (durationText d) → ⊥)
 
   abbrev given : Row → Writing
-  given over = Refused (atStart overRange)
+  given over = Refused outOfRange
   given short = Refused noRoom
   given written = Written (length (durationText d))
 

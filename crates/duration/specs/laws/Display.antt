@@ -7,12 +7,13 @@ use mathlib.Core.Path.{_≡_}
 use lib.ListN.{length}
 use Rattle.utf8.specs.declared.Writing.{Writing}
 use Rattle.utf8.specs.declared.Writing.the-variants.{Written, Refused}
-use Rattle.utf8.specs.Answers.{atStart, noRoom}
+use Rattle.utf8.specs.Answers.{noRoom}
 use Rattle.utf8.specs.laws.Refusals.{NoRoom}
 use Rattle.duration.specs.declared.span.Duration.{Duration}
 use Rattle.duration.specs.Unit.{units, nanosAMilli, nanosASecond}
 use Rattle.duration.specs.Units.{behind, sumBy, lasting}
-use Rattle.duration.specs.Display.{overRange, millisOf, durationText, displayingOf}
+use Rattle.duration.specs.Duration.{outOfRange}
+use Rattle.duration.specs.Display.{millisOf, durationText, displayingOf}
 
 -- 54 "nanoseconds over range in writing"
 abbrev pub OverRange : Duration → Type 0
@@ -21,14 +22,14 @@ OverRange d = nanosASecond ≤ d .nanos
 abbrev pub DisplayingGiven : Type 0
 DisplayingGiven =
     (room : ℕ) (d : Duration) →
-    (displayingOf room d ≡ Refused (atStart overRange) ↔ OverRange d)
+    (displayingOf room d ≡ Refused outOfRange ↔ OverRange d)
     × (displayingOf room d ≡ Refused noRoom ↔ (¬ (OverRange d)) × NoRoom room (durationText d))
     × (displayingOf room d ≡ Written (length (durationText d)) ↔ (¬ (OverRange d)) × (¬ (NoRoom room (durationText d))))
 
 -- what each answer tells: the text was written, no more bytes than there was room for; or it is refused with 54 or 3
 abbrev pub DisplayTells : ℕ → Duration → Writing → Type 0
 DisplayTells room d (Written n) = (n ≡ length (durationText d)) × (n ≤ room)
-DisplayTells room d (Refused r) = (r ≡ atStart overRange) ⊎ (r ≡ noRoom)
+DisplayTells room d (Refused r) = (r ≡ outOfRange) ⊎ (r ≡ noRoom)
 
 abbrev pub DisplayAnswers : Type 0
 DisplayAnswers = (room : ℕ) (d : Duration) → DisplayTells room d (displayingOf room d)

@@ -3,11 +3,10 @@ use Prim.Native.Nat.{ℕ, _<_, _≤_}
 use mathlib.Core.Path.{_≡_}
 use lib.ListN.{length, getD}
 use Rattle.token.specs.Kinds.{number}
-use Rattle.token.specs.Words.{KindText, _names_}
+use Rattle.token.specs.Words.{KindText, _names_, words}
 use Rattle.token.specs.Display.{displays, displayOf, unknown}
 use Rattle.token.specs.laws.Words.{wordAt}
 use Rattle.token.specs.steps.DisplayRows.{textSize}
-use Rattle.token.specs.steps.WordRows.{wordCount}
 
 -- a row of the texts, and none past the last
 abbrev pub shownAt : ℕ → KindText
@@ -27,7 +26,7 @@ OtherUnknown = (k : ℕ) → ((i : ℕ) → i < length displays → shownAt i .k
 
 -- a word is shown as itself, but for inf and nan, which are NUMBER
 abbrev pub WordShown : Type 0
-WordShown = (i : ℕ) → i < wordCount → (wordAt i .kind ≡ number → ⊥) → displayOf (wordAt i .kind) ≡ wordAt i .text
+WordShown = (i : ℕ) → i < length words → (wordAt i .kind ≡ number → ⊥) → displayOf (wordAt i .kind) ≡ wordAt i .text
 
 -- and no text is longer than `unknown token`
 abbrev pub DisplayShort : Type 0

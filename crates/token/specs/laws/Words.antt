@@ -3,12 +3,12 @@ use Prim.Native.Nat.{ℕ, _^_, _<_}
 use mathlib.Core.Bool.{true}
 use mathlib.Core.List.{List}
 use mathlib.Core.Path.{_≡_}
-use lib.ListN.{getD}
+use lib.ListN.{length, getD}
 use Rattle.scan.specs.Text.{sameText}
 use Rattle.token.specs.declared.Keyword.{Keyword}
 use Rattle.token.specs.declared.Keyword.the-variants.{Kind, Nothing}
 use Rattle.token.specs.Words.{KindText, _names_, words, kindIn, keywordOf}
-use Rattle.token.specs.steps.WordRows.{wordCount, wordTable, keywordIn}
+use Rattle.token.specs.steps.WordRows.{wordTable, keywordIn}
 
 -- by the table of `words`, a search finds what the definition says
 abbrev pub TableFinds : Type 0
@@ -29,12 +29,12 @@ wordAt i = getD words i ("" names 0)
 -- at most one row has a word for its text
 abbrev pub OneEntry : Type 0
 OneEntry =
-    (w : List ℕ) (i j : ℕ) → i < wordCount → j < wordCount → sameText w (wordAt i .text) ≡ true → sameText w (wordAt j .text) ≡ true → i ≡ j
+    (w : List ℕ) (i j : ℕ) → i < length words → j < length words → sameText w (wordAt i .text) ≡ true → sameText w (wordAt j .text) ≡ true → i ≡ j
 
 -- and its kind is the word's
 abbrev pub EntryFound : Type 0
-EntryFound = (w : List ℕ) (i : ℕ) → i < wordCount → sameText w (wordAt i .text) ≡ true → kindIn words w ≡ Kind (wordAt i .kind)
+EntryFound = (w : List ℕ) (i : ℕ) → i < length words → sameText w (wordAt i .text) ≡ true → kindIn words w ≡ Kind (wordAt i .kind)
 
 -- a word that is no row's text has none
 abbrev pub NoneFound : Type 0
-NoneFound = (w : List ℕ) → ((i : ℕ) → i < wordCount → sameText w (wordAt i .text) ≡ true → ⊥) → kindIn words w ≡ Nothing
+NoneFound = (w : List ℕ) → ((i : ℕ) → i < length words → sameText w (wordAt i .text) ≡ true → ⊥) → kindIn words w ≡ Nothing
