@@ -14,17 +14,18 @@ use Rattle.scan.specs.Text.{has, sameText}
 use Rattle.utf8.specs.Table.{fits, sizeIn, charLength}
 use Rattle.utf8.specs.Code.{codeOf}
 use Rattle.utf8.specs.Text.{charsPast, sizeOf}
-use Rattle.token.specs.Kinds.{identifier, string, rightParen, leftBracket, comma, lor}
+use Rattle.token.specs.Kinds.{identifier, metricIdentifier, string, number, rightParen, leftBracket, comma, atSign, lor}
 use Rattle.token.specs.Words.{_names_, words, kindIn, keywordOf}
 use Rattle.token.specs.steps.Padded.{padded}
 use Rattle.token.specs.steps.WordRows.{wordRow, tableSize, rowOfWord, slotOf, isRow, foundAt, keywordIn}
+use Rattle.numeral.specs.Numeral.{isHex, fractionEnd, exponentEnd, numberEnd, numeralOf}
 use Rattle.quoted.specs.Quoted.{quotedFrom, commentEnd}
 use Rattle.munch.specs.Word.{isWordStart, isFill, ruleBy, isOr, braceRule, kindBy}
 use Rattle.munch.specs.declared.Inside.the-variants.{Nothing, Braces, Brackets}
 use Rattle.munch.specs.declared.Mode.{Mode}
 use Rattle.munch.specs.declared.Step.{Step}
 use Rattle.munch.specs.declared.Step.the-variants.{Lexeme, Comment, Refused, Finished}
-use Rattle.munch.specs.Munch.{mode, outside, quotedStep, commentStep, wordStep, bangStep, rightParenStep, endStep, braceWord, colonStep, outsideTable, braceTable, bracketTable, stepIn, munched}
+use Rattle.munch.specs.Munch.{mode, outside, quotedStep, commentStep, wordStep, bangStep, rightParenStep, endStep, braceWord, numberStep, colonStep, outsideTable, braceTable, bracketTable, stepIn, munched}
 use Rattle.munch.specs.steps.Lent.{wordStepBy, munchedBy}
 use Rattle.munch.proofs.munch_in.Kinds as munch-in
 use Rattle.munch.proofs.munch_in.Reads as munch-in-reads
@@ -33,7 +34,7 @@ use Rattle.munch.proofs.munch.Reads as munch-reads
 
 -- what computes at the bytes that are left
 munching : Unit {0}
-unfolding munched munchedBy stepIn outsideTable braceTable bracketTable quotedStep commentStep wordStep wordStepBy braceWord bangStep rightParenStep endStep colonStep isWordStart isQuote isFill ruleBy isOr braceRule kindBy keywordIn foundAt isRow slotOf padded keywordOf words kindIn quotedFrom commentEnd charsPast sizeOf charLength sizeIn fits codeOf isWithin isIn isSpace isAlpha isAlphaNumeric isWord isLine lowered runLength sameText has
+unfolding munched munchedBy stepIn outsideTable braceTable bracketTable quotedStep commentStep wordStep wordStepBy braceWord numberStep bangStep rightParenStep endStep colonStep isWordStart isQuote isFill ruleBy isOr braceRule kindBy keywordIn foundAt isRow slotOf padded keywordOf words kindIn quotedFrom commentEnd numeralOf numberEnd exponentEnd fractionEnd isHex charsPast sizeOf charLength sizeIn fits codeOf isWithin isIn isSpace isAlpha isAlphaNumeric isWord isLine lowered runLength sameText has
 munching = tt
 
 abbrev munch-in-gives : List ℕ → List ℕ → Mode → Step → Type 0
@@ -100,3 +101,39 @@ word-in-braces-has-no-kind-of-its-own = munch-at _ _
 pub end-outside-is-finished : munch-gives [] outside Finished
 unfolding munching
 end-outside-is-finished = munch-at _ _
+
+pub at-is-a-sign : munch-gives (ascii "@") outside (Lexeme atSign 1 outside)
+unfolding munching
+at-is-a-sign = munch-at _ _
+
+pub digit-begins-no-word : munch-gives (ascii "0") outside (Lexeme number 1 outside)
+unfolding munching
+digit-begins-no-word = munch-at _ _
+
+pub colon-begins-a-word : munch-gives (ascii ":") outside (Lexeme metricIdentifier 1 outside)
+unfolding munching
+colon-begins-a-word = munch-at _ _
+
+pub colon-begins-nothing-in-braces : munch-gives (ascii ":") (mode 0 Braces) (Refused 26 0)
+unfolding munching
+colon-begins-nothing-in-braces = munch-at _ _
+
+pub brace-in-braces-is-told-apart : munch-gives (ascii "{") (mode 0 Braces) (Refused 25 0)
+unfolding munching
+brace-in-braces-is-told-apart = munch-at _ _
+
+pub comment-begins-in-braces : munch-gives (ascii "#") (mode 0 Braces) (Comment 1)
+unfolding munching
+comment-begins-in-braces = munch-at _ _
+
+pub no-comment-begins-in-brackets : munch-gives (ascii "#") (mode 0 (Brackets false false)) (Refused 31 0)
+unfolding munching
+no-comment-begins-in-brackets = munch-at _ _
+
+pub point-begins-no-number-in-brackets : munch-gives (ascii ".5") (mode 0 (Brackets false false)) (Refused 31 0)
+unfolding munching
+point-begins-no-number-in-brackets = munch-at _ _
+
+pub bracket-in-brackets-is-told-apart : munch-gives (ascii "[") (mode 0 (Brackets false false)) (Refused 30 0)
+unfolding munching
+bracket-in-brackets-is-told-apart = munch-at _ _
