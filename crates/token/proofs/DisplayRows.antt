@@ -9,13 +9,13 @@ use lib.Dec.{lit<}
 use lib.ListN.{length, getD, take, drop, length-append}
 use lib.Seq.{take-at, take-append-le, take-take, drop-append-add, getD-at, getD-drop, getD-take}
 use Rattle.token.specs.Display.{displayOf}
-use Rattle.token.specs.steps.DisplayRows.{pastKinds, textSize, rowSize, shownRow, rowsFrom, table}
+use Rattle.token.specs.steps.DisplayRows.{pastKinds, textSize, spaces, rowSize, shownRow, rowsFrom, table}
 use Rattle.token.specs.steps.Padded.{padded}
 use Rattle.token.proofs.Padding.{padded-length, padded-take}
 use Rattle.token.proofs.Displays.{short}
 
-text-length : (k : ℕ) → length (padded textSize (displayOf k)) ≡ textSize
-text-length k = padded-length textSize (displayOf k) (short k)
+text-length : (k : ℕ) → length (padded spaces (displayOf k)) ≡ textSize
+text-length k = padded-length spaces (displayOf k) (short k)
 
 row-length : (k : ℕ) → length (shownRow k) ≡ rowSize
 unfolding shownRow
@@ -23,13 +23,13 @@ row-length k = simp length-append (omega (arith, text-length k))
 
 row-size : (k : ℕ) → getD (shownRow k) textSize 0 ≡ length (displayOf k)
 unfolding shownRow
-row-size k = getD-at (padded textSize (displayOf k)) (length (displayOf k)) [] 0 textSize (text-length k)
+row-size k = getD-at (padded spaces (displayOf k)) (length (displayOf k)) [] 0 textSize (text-length k)
 
 row-text : (k : ℕ) → take (length (displayOf k)) (shownRow k) ≡ displayOf k
 unfolding shownRow
 row-text k =
-    take-append-le (length (displayOf k)) (padded textSize (displayOf k)) (length (displayOf k) ∷ []) (omega (arith, text-length k, short k))
-    ∙ padded-take textSize (displayOf k)
+    take-append-le (length (displayOf k)) (padded spaces (displayOf k)) (length (displayOf k) ∷ []) (omega (arith, text-length k, short k))
+    ∙ padded-take spaces (displayOf k)
 
 row-in : (n k m : ℕ) → m < n → take rowSize (drop (m * rowSize) (rowsFrom n k)) ≡ shownRow (k + m)
 unfolding rowsFrom

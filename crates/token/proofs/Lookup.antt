@@ -26,20 +26,20 @@ use Rattle.token.specs.steps.Padded.{padded}
 use Rattle.token.proofs.Padding.{padded-length, padded-take}
 use Rattle.token.specs.Words.{KindText, _names_, words, kindIn, keywordOf}
 use Rattle.token.specs.laws.Words.{wordAt, TableFinds}
-use Rattle.token.specs.steps.WordRows.{wordCount, widestWord, wordRow, slotsFrom, slotCount, tableSize, rowOfWord, tableOf, firstWeight, slotOf, rowFor, slotsOf, wordTable, isRow, rowIn, numberIn, foundAt, isOutOfTable, keywordIn}
+use Rattle.token.specs.steps.WordRows.{wordCount, widestWord, wordRow, slotsFrom, slotCount, tableSize, wordFiller, rowOfWord, tableOf, firstWeight, slotOf, rowFor, slotsOf, wordTable, isRow, rowIn, numberIn, foundAt, isOutOfTable, keywordIn}
 use Rattle.token.proofs.Every.{every, every-at}
 use Rattle.token.proofs.Table.{isEntry, some, short, plain, counted, entries, slot-leads, word-found, entry-found, none-found}
 
 module _ (e : KindText) (h : length (e .text) ≤ widestWord) where
-  text-length : length (padded widestWord (e .text)) ≡ widestWord
-  text-length = padded-length widestWord (e .text) h
+  text-length : length (padded wordFiller (e .text)) ≡ widestWord
+  text-length = padded-length wordFiller (e .text) h
 
   row-length : length (rowOfWord e) ≡ wordRow
-  row-length = length-append (padded widestWord (e .text)) (length (e .text) ∷ e .kind ∷ []) ∙ omega (arith, text-length)
+  row-length = length-append (padded wordFiller (e .text)) (length (e .text) ∷ e .kind ∷ []) ∙ omega (arith, text-length)
 
   kind-of : getD (rowOfWord e) (suc widestWord) 0 ≡ e .kind
   kind-of =
-      let p = padded widestWord (e .text) in
+      let p = padded wordFiller (e .text) in
       let k : suc widestWord ≡ length p + 1 = omega (arith, text-length) in
       ap (λ (n : ℕ). getD (rowOfWord e) n 0) k ∙ getD-append-add p (length (e .text) ∷ e .kind ∷ []) 1 0
 
@@ -47,11 +47,11 @@ module _ (e : KindText) (h : length (e .text) ≤ widestWord) where
   row-is : (w : List ℕ) → isRow (rowOfWord e) w ≡ sameText w (e .text)
   unfolding isRow
   row-is w =
-      rw (getD-at (padded widestWord (e .text)) (length (e .text)) (e .kind ∷ []) 0 widestWord text-length) (go (ℕ-discrete (length (e .text)) (length w)))
+      rw (getD-at (padded wordFiller (e .text)) (length (e .text)) (e .kind ∷ []) 0 widestWord text-length) (go (ℕ-discrete (length (e .text)) (length w)))
     where
       go : Dec (length (e .text) ≡ length w) → eqb (length (e .text)) (length w) && sameText w (take (length w) (rowOfWord e)) ≡ sameText w (e .text)
       go (yes k) =
-          rw (eq-eqb (length (e .text)) (length w) k, ← k, take-append-le (length (e .text)) (padded widestWord (e .text)) (length (e .text) ∷ e .kind ∷ []) (omega (arith, text-length)), padded-take widestWord (e .text))
+          rw (eq-eqb (length (e .text)) (length w) k, ← k, take-append-le (length (e .text)) (padded wordFiller (e .text)) (length (e .text) ∷ e .kind ∷ []) (omega (arith, text-length)), padded-take wordFiller (e .text))
       go (no k) = rw (ne-eqb (length (e .text)) (length w) k, same-not w (e .text) (λ z. k (sym z)))
 
 -- row i of the table is that of entry i, whatever stands behind the rows

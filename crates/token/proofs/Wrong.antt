@@ -171,19 +171,19 @@ words-at : (i : ℕ) → words-shows i (take wordRow (drop (i * wordRow) wordTab
 unfolding wordTable tableOf slotsOf rowFor slotOf padded words
 words-at i κs a x e p h = ap (λ (t : List ℕ). take wordRow (drop (i * wordRow) t)) p
 
-pub first-row-is-that-of-and : words-shows 0 (ascii "and         " ++ (3 ∷ 35 ∷ []))
+pub first-row-is-that-of-and : words-shows 0 (ascii "and3456789ab" ++ (3 ∷ 35 ∷ []))
 unfolding words-at
 first-row-is-that-of-and = words-at 0
 
-pub row-of-sum-has-its-letters-its-length-and-its-kind : words-shows 4 (ascii "sum         " ++ (3 ∷ 40 ∷ []))
+pub row-of-sum-has-its-letters-its-length-and-its-kind : words-shows 4 (ascii "sum3456789ab" ++ (3 ∷ 40 ∷ []))
 unfolding words-at
 row-of-sum-has-its-letters-its-length-and-its-kind = words-at 4
 
-pub last-row-is-that-of-nan : words-shows 34 (ascii "nan         " ++ (3 ∷ 4 ∷ []))
+pub last-row-is-that-of-nan : words-shows 34 (ascii "nan3456789ab" ++ (3 ∷ 4 ∷ []))
 unfolding words-at
 last-row-is-that-of-nan = words-at 34
 
-pub slots-stand-behind-the-last-row : words-shows 35 (35 ∷ 35 ∷ 35 ∷ 19 ∷ 35 ∷ 6 ∷ 35 ∷ 35 ∷ 28 ∷ 35 ∷ 35 ∷ 14 ∷ 35 ∷ 33 ∷ [])
+pub slots-stand-behind-the-last-row : words-shows 35 (0 ∷ 1 ∷ 2 ∷ 19 ∷ 4 ∷ 6 ∷ 6 ∷ 7 ∷ 28 ∷ 9 ∷ 10 ∷ 14 ∷ 12 ∷ 33 ∷ [])
 unfolding words-at
 slots-stand-behind-the-last-row = words-at 35
 

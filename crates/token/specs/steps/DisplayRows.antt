@@ -1,7 +1,8 @@
 -- How the code keeps the texts that kinds are shown as: one flat table of rows of one size. No promise of a public function rests on it.
 use Prim.Native.Nat.{ℕ, zero, suc}
+use Prim.Native.Char.{code}
 use mathlib.Core.List.{List, [], _∷_, _++_}
-use lib.ListN.{length}
+use lib.ListN.{length, replicate}
 use Rattle.token.specs.steps.Padded.{padded}
 use Rattle.token.specs.Display.{displayOf}
 
@@ -13,12 +14,15 @@ pastKinds = 82
 abbrev pub textSize : ℕ
 textSize = 13
 
+abbrev pub spaces : List ℕ
+spaces = replicate textSize (code " ")
+
 abbrev pub rowSize : ℕ
 rowSize = suc textSize
 
 -- a row: a text, padded, and its length
 unfoldable pub shownRow : ℕ → List ℕ
-shownRow k = padded textSize (displayOf k) ++ (length (displayOf k) ∷ [])
+shownRow k = padded spaces (displayOf k) ++ (length (displayOf k) ∷ [])
 
 -- the rows of n numbers from k on
 unfoldable pub rowsFrom : ℕ → ℕ → List ℕ

@@ -1,8 +1,7 @@
--- A text of a table, padded with spaces so that all rows have one size.
-use Prim.Native.Nat.{ℕ, _-_}
-use Prim.Native.Char.{code}
+-- A text of a table, padded with the end of a filler so that all rows have one size.
+use Prim.Native.Nat.{ℕ}
 use mathlib.Core.List.{List, _++_}
-use lib.ListN.{length, replicate}
+use lib.ListN.{length, drop}
 
-unfoldable pub padded : ℕ → List ℕ → List ℕ
-padded n xs = xs ++ replicate (n - length xs) (code " ")
+unfoldable pub padded : List ℕ → List ℕ → List ℕ
+padded filler xs = xs ++ drop (length xs) filler

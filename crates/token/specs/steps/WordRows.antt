@@ -6,6 +6,7 @@ use mathlib.Core.Bool.{Bool, cond, _&&_, _||_}
 use mathlib.Core.List.{List, [], _∷_, _++_, map}
 use lib.Dec.{eqb, ltb}
 use lib.ListN.{length, getD, take, drop}
+use Rattle.scan.specs.Ascii.{ascii}
 use Rattle.scan.specs.Byte.{lowered}
 use Rattle.scan.specs.Text.{sameText}
 use Rattle.token.specs.declared.Keyword.{Keyword}
@@ -33,8 +34,12 @@ slotCount = 128
 abbrev pub tableSize : ℕ
 tableSize = slotsFrom + slotCount
 
+-- no two of its neighbours are alike
+abbrev pub wordFiller : List ℕ
+wordFiller = ascii "0123456789ab"
+
 abbrev pub rowOfWord : KindText → List ℕ
-rowOfWord e = padded widestWord (e .text) ++ (length (e .text) ∷ e .kind ∷ [])
+rowOfWord e = padded wordFiller (e .text) ++ (length (e .text) ∷ e .kind ∷ [])
 
 unfoldable pub tableOf : List KindText → List ℕ
 tableOf [] = []
@@ -47,9 +52,9 @@ firstWeight = 4
 unfoldable pub slotOf : List ℕ → ℕ
 slotOf w = (getD w 0 0 * firstWeight + getD w (length w - 1) 0 + length w) % slotCount
 
--- the number of the row whose word has a slot, the first being k; one past the last where none has
+-- the number of the row whose word has a slot, the first being k; any row's where none has, since no word of the slot is in it
 unfoldable pub rowFor : ℕ → ℕ → List KindText → ℕ
-rowFor s k [] = k
+rowFor s k [] = s % wordCount
 rowFor s k (e ∷ es) = cond (eqb (slotOf (e .text)) s) k (rowFor s (suc k) es)
 
 -- what n slots hold, the first being s
