@@ -2,6 +2,7 @@ pub mod Openings
 pub mod Starts
 pub mod Table
 pub mod Goes
+pub mod Modes
 pub mod Fits
 pub mod Seam
 pub mod Given

@@ -249,7 +249,7 @@ fn is_word_start(c: usize) -> bool
 }
 
 // A step outside braces and brackets.
-fn outside_step(words: &[u8], s: &[u8], depth: usize) -> Step
+pub fn outside_step(words: &[u8], s: &[u8], depth: usize) -> Step
     ensures { λ r. ⌜ r ≡ lentStep (now (words .entry)) depth Inside.Nothing (now (s .entry)) ⌝ }
 {
     let here = in_mode(depth, Inside::Nothing);
@@ -270,7 +270,7 @@ fn outside_step(words: &[u8], s: &[u8], depth: usize) -> Step
 }
 
 // A step in braces.
-fn brace_step(s: &[u8], depth: usize) -> Step
+pub fn brace_step(s: &[u8], depth: usize) -> Step
     ensures { λ r. ⌜ r ≡ munched (mode depth Inside.Braces) (now (s .entry)) ⌝ }
 {
     let here = in_mode(depth, Inside::Braces);
@@ -314,7 +314,7 @@ fn colon_step(depth: usize, seen: bool, fresh: bool) -> Step
 }
 
 // A step in brackets.
-fn bracket_step(s: &[u8], depth: usize, seen: bool, fresh: bool) -> Step
+pub fn bracket_step(s: &[u8], depth: usize, seen: bool, fresh: bool) -> Step
     ensures { λ r. ⌜ r ≡ munched (mode depth (Inside.Brackets seen fresh)) (now (s .entry)) ⌝ }
 {
     let inside = Inside::Brackets { seen, fresh: false };

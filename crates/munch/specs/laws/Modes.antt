@@ -1,0 +1,34 @@
+-- Where a step leads, as a statement; `proofs/Modes` has the proof. In braces it stays there or leads outside, and so in brackets, where their opening is
+-- past behind it; the parentheses that are open stay so. Outside, white space changes nothing.
+use Prim.Native.Nat.{ℕ}
+use mathlib.Core.Bool.{Bool, false}
+use mathlib.Core.List.{List}
+use mathlib.Core.Logic.{_⊎_}
+use mathlib.Core.Path.{_≡_}
+use Rattle.munch.specs.declared.Inside.{Inside}
+use Rattle.munch.specs.declared.Inside.the-variants.{Nothing, Braces, Brackets}
+use Rattle.munch.specs.declared.Mode.{Mode}
+use Rattle.munch.specs.declared.Step.{Step}
+use Rattle.munch.specs.declared.Step.the-variants.{Lexeme, Space, Comment, Refused, Finished}
+use Rattle.munch.specs.Munch.{mode, munched}
+
+-- behind a lexeme, and behind white space
+abbrev pub Behind : ℕ → Inside → Mode → Type 0
+Behind d Nothing m = Unit {0}
+Behind d Braces m = (m ≡ mode d Nothing) ⊎ (m ≡ mode d Braces)
+Behind d (Brackets seen fresh) m = (m ≡ mode d Nothing) ⊎ ((now : Bool) × (m ≡ mode d (Brackets now false)))
+
+abbrev pub past : Inside → Inside
+past Nothing = Nothing
+past Braces = Braces
+past (Brackets seen fresh) = Brackets seen false
+
+abbrev pub LeadsTo : ℕ → Inside → Step → Type 0
+LeadsTo d i (Lexeme k n m) = Behind d i m
+LeadsTo d i (Space m) = m ≡ mode d (past i)
+LeadsTo d i (Comment n) = Unit {0}
+LeadsTo d i (Refused r o) = Unit {0}
+LeadsTo d i Finished = i ≡ Nothing
+
+abbrev pub StepLeads : Type 0
+StepLeads = (d : ℕ) (i : Inside) (xs : List ℕ) → LeadsTo d i (munched (mode d i) xs)
