@@ -1,53 +1,108 @@
--- A lent list into which the numbers of lexemes are written one after the other: with those that are left written from i on, it is as with all of
--- them written from its front.
-use Prim.Native.Nat.{ℕ, _+_, _≤_}
+-- Lists into which a pass writes lexemes one after the other. A store past the end of a list changes nothing, so a list with all that is still to come
+-- written to it (`ending`) is the same before a step and behind it, with room or without. `Leads` says so of the three lists and of the answer: it is what
+-- a loop keeps, and what a function that does a part of a pass promises.
+use Prim.Native.Nat.{ℕ, zero, suc, _+_, _<_, _≤_}
 use native.Mathlib.Nat.{zero-add}
-use native.Mathlib.Numerals.{add-one}
 use native.Mathlib.Omega.{arith}
-use mathlib.Core.List.{List, [], _∷_, _++_, map}
-use mathlib.Core.Path.{_≡_, refl, sym, _∙_}
-use lib.ListN.{length, drop, set, length-set, length-map}
-use lib.Seq.{sets, sets-eq}
-use Rattle.lex.specs.Outcome.{Entry}
-use Rattle.lex.specs.Lex.{entriesOf, listed, kindOf, startsAt, lengthOf}
+use native.Mathlib.Numerals.{add-one}
+use mathlib.Core.List.{List, [], _∷_, _++_, map, append-nil}
+use mathlib.Core.Path.{_≡_, refl, sym, ap, _∙_}
+use lib.ListN.{length, take, drop, set, getD, drop-of-length-le, length-set, length-map}
+use lib.Seq.{sets, take-nil, take-all, take-at, length-take-le, paste-suc}
+use Rattle.token.specs.Kinds.{eofKind}
+use Rattle.lex.specs.declared.Tally.the-variants as tallying
+use Rattle.lex.specs.Outcome.{Entry, Outcome, reads, ends, refuses, outcomeOf}
+use Rattle.lex.specs.Lex.{entries, entriesOf, listed, kindOf, startsAt, lengthOf}
+use Rattle.lex.specs.steps.Tally.{tallied, tallyOf}
+use Rattle.lex.specs.steps.Pass.{filled, Alike, State, state, ending, Kept, Leads}
 
-pub record Kept (f : Entry → ℕ) (all : List Entry) (d₀ d : List ℕ) (i : ℕ) (rest : List Entry) : Type 0 where
+-- stores behind the head, and in no list
+sets-behind : (x : ℕ) (l : List ℕ) (i : ℕ) (vs : List ℕ) → sets (x ∷ l) (suc i) vs ≡ x ∷ sets l i vs
+sets-behind x l i [] = refl
+sets-behind x l i (v ∷ vs) = sets-behind x (set l i v) (suc i) vs
+
+sets-none : (i : ℕ) (vs : List ℕ) → sets [] i vs ≡ []
+sets-none i [] = refl
+sets-none i (v ∷ vs) = sets-none (suc i) vs
+
+-- stores from the front on, as many as have room
+sets-fit : (vs l : List ℕ) → sets l 0 vs ≡ take (length l) vs ++ drop (length vs) l
+sets-fit [] l = rw take-nil
+sets-fit (v ∷ vs) [] = sets-none 1 vs
+sets-fit (v ∷ vs) (x ∷ l) = sets-behind v l 0 vs ∙ ap (λ (r : List ℕ). v ∷ r) (sets-fit vs l)
+
+-- for each list
+kept-start : (f : Entry → ℕ) (d : List ℕ) (a : State) → Kept f d a d a
+kept-start f d a = record { same = refl; goes = refl }
+
+kept-on : {f : Entry → ℕ} {c d e : List ℕ} {a b z : State} → Kept f c a d b → Kept f d b e z → Kept f c a e z
+kept-on h k = record { same = k .same ∙ h .same; goes = h .goes ∙ k .goes }
+
+pub leads-start : (a : State) → Leads a a
+leads-start a = record { tally = refl; kinds = kept-start kindOf _ a; starts = kept-start startsAt _ a; lengths = kept-start lengthOf _ a }
+
+pub leads-on : {a b c : State} → Leads a b → Leads b c → Leads a c
+leads-on h k =
+    record { tally = h .tally ∙ k .tally; kinds = kept-on (h .kinds) (k .kinds); starts = kept-on (h .starts) (k .starts); lengths = kept-on (h .lengths) (k .lengths) }
+
+-- the lists stay equally long
+pub leads-alike : {a b : State} → Leads a b → Alike (a .kinds) (a .starts) (a .lengths) → Alike (b .kinds) (b .starts) (b .lengths)
+leads-alike w h = (w .starts .same ∙ h .0 ∙ sym (w .kinds .same), w .lengths .same ∙ h .1 ∙ sym (w .kinds .same))
+
+-- a lexeme is written to each
+abbrev pub Puts : List ℕ → List ℕ → List ℕ → ℕ → Entry → List ℕ → List ℕ → List ℕ → Type 0
+Puts ks ss ls i e ks′ ss′ ls′ = (ks′ ≡ set ks i (kindOf e)) × ((ss′ ≡ set ss i (startsAt e)) × (ls′ ≡ set ls i (lengthOf e)))
+
+module _ {ks ss ls ks′ ss′ ls′ : List ℕ} {i : ℕ} {e : Entry} {r : Outcome} where
+  kept-put : (f : Entry → ℕ) {d d′ : List ℕ} → d′ ≡ set d i (f e) → Kept f d (state ks ss ls i (reads e r)) d′ (state ks′ ss′ ls′ (i + 1) r)
+  kept-put f {d} p = record { same = rw p (length-set d i (f e)); goes = rw (p, add-one) }
+
+  pub leads-put : Puts ks ss ls i e ks′ ss′ ls′ → Leads (state ks ss ls i (reads e r)) (state ks′ ss′ ls′ (i + 1) r)
+  unfolding tallied
+  leads-put p = record { tally = refl; kinds = kept-put kindOf (p .0); starts = kept-put startsAt (p .1 .0); lengths = kept-put lengthOf (p .1 .1) }
+
+-- what a pass over a query has left in its lists
+abbrev pub Filled : List ℕ → List ℕ → List ℕ → List ℕ → List ℕ → List ℕ → List ℕ → Type 0
+Filled q ks₀ ss₀ ls₀ ks ss ls = (ks ≡ filled kindOf q ks₀) × ((ss ≡ filled startsAt q ss₀) × (ls ≡ filled lengthOf q ls₀))
+
+fill : (f : Entry → ℕ) (q d₀ : List ℕ) {d : List ℕ} → sets d₀ 0 (map f (entriesOf q)) ≡ d → d ≡ filled f q d₀
+fill f q d₀ h = sym h ∙ sets-fit (map f (entriesOf q)) d₀ ∙ rw length-map
+
+module _ (q : List ℕ) {ks₀ ss₀ ls₀ ks ss ls : List ℕ} {i : ℕ} where
+  -- where it refuses
+  pub leads-refused : {n o : ℕ} → Leads (state ks₀ ss₀ ls₀ 0 (outcomeOf q)) (state ks ss ls i (refuses n o))
+      → (tallying.Refused n (record { 0 = o }) ≡ tallyOf q) × Filled q ks₀ ss₀ ls₀ ks ss ls
+  unfolding tallied
+  leads-refused w = (sym (w .tally), (fill kindOf q ks₀ (w .kinds .goes), (fill startsAt q ss₀ (w .starts .goes), fill lengthOf q ls₀ (w .lengths .goes))))
+
+  -- where it ends, behind the writing of the end's lexeme
+  pub leads-end : {o : ℕ} {ks′ ss′ ls′ : List ℕ} → Leads (state ks₀ ss₀ ls₀ 0 (outcomeOf q)) (state ks ss ls i (ends o))
+      → (ks′ ≡ set ks i eofKind) × ((ss′ ≡ set ss i o) × (ls′ ≡ set ls i 0)) → (tallying.Count (i + 1) ≡ tallyOf q) × Filled q ks₀ ss₀ ls₀ ks′ ss′ ls′
+  unfolding tallied
+  leads-end w p = (sym (w .tally), (fill kindOf q ks₀ (w .kinds .goes ∙ sym (p .0)), (fill startsAt q ss₀ (w .starts .goes ∙ sym (p .1 .0)), fill lengthOf q ls₀ (w .lengths .goes ∙ sym (p .1 .1)))))
+
+-- a list to whose front the first i of another are copied
+pub record Copied (s d₀ d : List ℕ) (i : ℕ) : Type 0 where
   pub same : length d ≡ length d₀
-  pub fits : length all ≤ length d₀
-  pub room : i + length rest ≤ length d
-  pub goes : sets d₀ 0 (map f all) ≡ sets d i (map f rest)
+  pub is : d ≡ take i s ++ drop i d₀
 
-pub kept-start : (f : Entry → ℕ) (all : List Entry) (d : List ℕ) → length all ≤ length d → Kept f all d d 0 all
-kept-start f all d h = record { same = refl; fits = h; room = omega arith; goes = refl }
+pub copied-start : (s d : List ℕ) → Copied s d d 0
+copied-start s d = record { same = refl; is = refl }
 
-pub kept-more : {f : Entry → ℕ} {all : List Entry} {d₀ d : List ℕ} {i : ℕ} {e : Entry} {rest : List Entry}
-    → Kept f all d₀ d i (e ∷ rest) → Kept f all d₀ (set d i (f e)) (i + 1) rest
-kept-more {f} {d = d} {i} {e} h =
-    record { same = length-set d i (f e) ∙ h .same; fits = h .fits; room = omega (arith, h .room, length-set d i (f e)); goes = rw add-one (h .goes) }
+pub copied-more : {s d₀ d : List ℕ} {i : ℕ} → Copied s d₀ d i → i < length s → i < length d₀ → Copied s d₀ (set d i (getD s i 0)) (i + 1)
+copied-more {s} {d₀} {d} {i} h a b =
+    record { same = length-set d i (getD s i 0) ∙ h .same; is = rw (h .is, add-one) (rw (zero-add, zero-add) at (paste-suc d₀ 0 s i 0 (rw zero-add b) a)) }
 
-pub kept-end : {f : Entry → ℕ} {all : List Entry} {d₀ d : List ℕ} {i : ℕ} → Kept f all d₀ d i [] → d ≡ map f all ++ drop (length all) d₀
-kept-end {f} {all} {d₀} h =
-    sym (h .goes) ∙ sets-eq (map f all) d₀ 0 (rw (zero-add, length-map) (h .fits)) ∙ rw (zero-add, length-map)
+-- a list with room for the n lexemes of a query: what a pass has left in another with that room is copied to it, or a pass goes over just its front
+module _ (f : Entry → ℕ) (q d : List ℕ) (n : ℕ) (e : n ≡ length (entriesOf q)) where
+  all : length (map f (entriesOf q)) ≡ n
+  all = length-map (entriesOf q) f ∙ sym e
 
--- the three lists that a query is lexed to
-pub record Written (q ks₀ ss₀ ls₀ ks ss ls : List ℕ) (i : ℕ) (rest : List Entry) : Type 0 where
-  pub kinds : Kept kindOf (entriesOf q) ks₀ ks i rest
-  pub starts : Kept startsAt (entriesOf q) ss₀ ss i rest
-  pub lengths : Kept lengthOf (entriesOf q) ls₀ ls i rest
+  pub copied-all : (k₀ : List ℕ) {k x : List ℕ} → n ≤ length k₀ → k ≡ filled f q k₀ → x ≡ take n k ++ drop n d → x ≡ listed f q d
+  copied-all k₀ h g p =
+      p ∙ rw (g, take-all (length k₀) (map f (entriesOf q)) (omega (arith, all)), take-at (map f (entriesOf q)) (drop (length (entriesOf q)) k₀) n all, e)
 
-module _ {q ks₀ ss₀ ls₀ : List ℕ} where
-  pub written-start : (length (entriesOf q) ≤ length ks₀) × (length (entriesOf q) ≤ length ss₀) × (length (entriesOf q) ≤ length ls₀)
-      → Written q ks₀ ss₀ ls₀ ks₀ ss₀ ls₀ 0 (entriesOf q)
-  written-start h =
-      let all = entriesOf q in
-      record { kinds = kept-start kindOf all ks₀ (h .0); starts = kept-start startsAt all ss₀ (h .1); lengths = kept-start lengthOf all ls₀ (h .2) }
-
-  module _ {ks ss ls : List ℕ} {i : ℕ} where
-    pub written-more : {ks′ ss′ ls′ : List ℕ} {e : Entry} {rest : List Entry} → Written q ks₀ ss₀ ls₀ ks ss ls i (e ∷ rest)
-        → (ks′ ≡ set ks i (kindOf e)) × ((ss′ ≡ set ss i (startsAt e)) × (ls′ ≡ set ls i (lengthOf e)))
-        → Written q ks₀ ss₀ ls₀ ks′ ss′ ls′ (i + 1) rest
-    written-more w p =
-        record { kinds = rw (p .0) (kept-more (w .kinds)); starts = rw (p .1 .0) (kept-more (w .starts)); lengths = rw (p .1 .1) (kept-more (w .lengths)) }
-
-    pub written-end : Written q ks₀ ss₀ ls₀ ks ss ls i [] → (ks ≡ listed kindOf q ks₀) × ((ss ≡ listed startsAt q ss₀) × (ls ≡ listed lengthOf q ls₀))
-    written-end w = (kept-end (w .kinds), (kept-end (w .starts), kept-end (w .lengths)))
+  pub again-all : {k x : List ℕ} → n ≤ length d → k ≡ filled f q (take n d) → x ≡ k ++ drop n d → x ≡ listed f q d
+  again-all h g p =
+      let t : length (take n d) ≡ n = length-take-le n d h in
+      p ∙ rw (g, t, take-all n (map f (entriesOf q)) (omega (arith, all)), drop-of-length-le (take n d) {i = length (entriesOf q)} (omega arith), append-nil, e)

@@ -1,4 +1,5 @@
-// Lexing a query: a pass that measures it, and one that writes its lexemes to three lent lists. A refused query writes nothing.
+// Lexing a query to three lent lists. A pass reads it into lists of the lexer's own, so that nothing lent is written before the query is measured; where all
+// lexemes had room there they are copied, and otherwise a second pass writes them. A refused query writes nothing.
 use munch::Inside;
 use munch::Mode;
 use munch::Step;
@@ -8,12 +9,18 @@ use utf8::ByteOffset;
 use utf8::Place;
 use utf8::Refusal;
 ghost use mathlib.Core.Path.{_≡_};
-ghost use Prim.Native.Nat.{_<_, _≤_};
-ghost use lib.ListN.{length, set};
+ghost use mathlib.Core.List.{_++_};
+ghost use Prim.Native.Nat.{_≤_};
+ghost use lib.ListN.{length, set, take, drop};
 ghost use Rattle.utf8.specs.Answers.{textLimit};
 ghost use Rattle.token.specs.steps.WordRows.{wordTable};
-ghost use Rattle.lex.specs.Lex.{entriesOf, refusedAt, measured, notLexed, lexed, listed, leftAfter, kindOf, startsAt, lengthOf, shortest};
-ghost use Rattle.lex.specs.steps.Tally.{tallyOf, refusedIn};
+ghost use mathlib.Core.Bool.{true, false};
+ghost use Rattle.munch.specs.declared.Inside.the-variants.{Braces, Brackets};
+ghost use Rattle.munch.specs.Munch.{mode};
+ghost use Rattle.munch.specs.laws.Modes.{Opens};
+ghost use Rattle.lex.specs.Lex.{entriesOf, refusedAt, measured, notLexed, roomed, lexed, listed, leftAfter, kindOf, startsAt, lengthOf, shortest};
+ghost use Rattle.lex.specs.steps.Tally.{tallyOf, refusedIn, answerIn};
+ghost use Rattle.lex.specs.steps.Pass.{filled, outcomeAt, state, stateBehind, Leads, Alike, Reached};
 
 // How many lexemes a query has, or why it has none.
 pub enum Lexing {
@@ -27,38 +34,218 @@ enum Tally {
     Refused { number: usize, at: ByteOffset },
 }
 
+// How far braces or brackets were read: to a place behind them, with so many lexemes before it; or why they are refused, and where.
+enum Run {
+    To { at: usize, count: usize },
+    Refused { number: usize, at: ByteOffset },
+}
+
 // Where a lexeme stands: its first byte, and how many it has.
 struct Span {
     start: ByteOffset,
     length: usize,
 }
 
-// Counts the lexemes of a text, step by step.
-fn count_lexemes(words: &[u8], query: &[u8]) -> Tally
-    requires { ⌜ now words ≡ wordTable ⌝ ∗ ⌜ length (now query) ≤ textLimit ⌝ }
-    ensures { λ r. ⌜ r ≡ tallyOf (now (query .entry)) ⌝ }
+// Writes a lexeme at place i of three equally long lists, where they have it.
+fn put(kinds: &mut [u16], starts: &mut [u32], lengths: &mut [u32], i: usize, kind: u16, span: Span)
+    requires { ⌜ Alike (now kinds) (now starts) (now lengths) ⌝ }
+    requires { ⌜ (span .start .0 ≤ textLimit) × (span .length ≤ textLimit) ⌝ }
+    ensures { λ _. ⌜ now (kinds .exit) ≡ set (now (kinds .entry)) i kind ⌝ }
+    ensures { λ _. ⌜ now (starts .exit) ≡ set (now (starts .entry)) i (span .start .0) ⌝ }
+    ensures { λ _. ⌜ now (lengths .exit) ≡ set (now (lengths .entry)) i (span .length) ⌝ }
 {
-    let mut at = 0;
-    let mut count = 0;
-    let mut mode = Mode {
-        depth: 0,
-        inside: Inside::Nothing,
-    };
+    if i < kinds.len() {
+        let start = span.start;
+        kinds[i] = kind;
+        starts[i] = start.0 as u32;
+        lengths[i] = span.length as u32;
+    }
+}
+
+// Reads on in braces from a place, through the brace that closes them, and writes the lexemes that have room, the first of them at place `first`.
+fn braces(
+    query: &[u8],
+    kinds: &mut [u16],
+    starts: &mut [u32],
+    lengths: &mut [u32],
+    depth: usize,
+    from: usize,
+    first: usize,
+) -> Run
+    requires { ⌜ length (now query) ≤ textLimit ⌝ ∗ ⌜ Alike (now kinds) (now starts) (now lengths) ⌝ }
+    requires { ⌜ (from ≤ length (now query)) × (first ≤ from) ⌝ }
+    ensures { λ r. ⌜ Reached (now (query .entry)) from r ⌝ }
+    ensures { λ r. ⌜ Leads (state (now (kinds .entry)) (now (starts .entry)) (now (lengths .entry)) first (outcomeAt (now (query .entry)) from (mode depth Braces))) (stateBehind (now (query .entry)) (now (kinds .exit)) (now (starts .exit)) (now (lengths .exit)) depth r) ⌝ }
+{
+    let mut at = from;
+    let mut i = first;
     loop {
-        let s = munch::munch_in(words, &query[at..], mode);
+        let s = munch::brace_step(&query[at..], depth);
+        let start = ByteOffset(at);
         match s {
             Step::Lexeme {
-                kind: _,
+                kind,
                 length,
                 mode: next,
             } => {
+                put(kinds, starts, lengths, i, kind, Span { start, length });
                 at += length;
-                count += 1;
-                mode = next;
+                i += 1;
+                let inside = next.inside;
+                if let Inside::Nothing = inside {
+                    return Run::To { at, count: i };
+                }
             }
-            Step::Space { mode: next } => {
+            Step::Space { mode: _ } => {
                 at += 1;
-                mode = next;
+            }
+            Step::Comment { length } => {
+                at += length;
+            }
+            Step::Refused { number, at: offset } => {
+                let place = at + offset;
+                return Run::Refused {
+                    number,
+                    at: ByteOffset(place),
+                };
+            }
+            Step::Finished => {
+                return Run::To { at, count: i };
+            }
+        }
+    }
+}
+
+// The same in brackets.
+fn brackets(
+    query: &[u8],
+    kinds: &mut [u16],
+    starts: &mut [u32],
+    lengths: &mut [u32],
+    depth: usize,
+    from: usize,
+    first: usize,
+) -> Run
+    requires { ⌜ length (now query) ≤ textLimit ⌝ ∗ ⌜ Alike (now kinds) (now starts) (now lengths) ⌝ }
+    requires { ⌜ (from ≤ length (now query)) × (first ≤ from) ⌝ }
+    ensures { λ r. ⌜ Reached (now (query .entry)) from r ⌝ }
+    ensures { λ r. ⌜ Leads (state (now (kinds .entry)) (now (starts .entry)) (now (lengths .entry)) first (outcomeAt (now (query .entry)) from (mode depth (Brackets false true)))) (stateBehind (now (query .entry)) (now (kinds .exit)) (now (starts .exit)) (now (lengths .exit)) depth r) ⌝ }
+{
+    let mut at = from;
+    let mut i = first;
+    let mut seen = false;
+    let mut fresh = true;
+    loop {
+        let s = munch::bracket_step(&query[at..], depth, seen, fresh);
+        let start = ByteOffset(at);
+        match s {
+            Step::Lexeme {
+                kind,
+                length,
+                mode: next,
+            } => {
+                put(kinds, starts, lengths, i, kind, Span { start, length });
+                at += length;
+                i += 1;
+                let inside = next.inside;
+                let Inside::Brackets {
+                    seen: colon,
+                    fresh: _,
+                } = inside
+                else {
+                    return Run::To { at, count: i };
+                };
+                seen = colon;
+                fresh = false;
+            }
+            Step::Space { mode: _ } => {
+                at += 1;
+                fresh = false;
+            }
+            Step::Comment { length } => {
+                at += length;
+            }
+            Step::Refused { number, at: offset } => {
+                let place = at + offset;
+                return Run::Refused {
+                    number,
+                    at: ByteOffset(place),
+                };
+            }
+            Step::Finished => {
+                return Run::To { at, count: i };
+            }
+        }
+    }
+}
+
+// What a lexeme outside has opened, through its end.
+fn opened(
+    query: &[u8],
+    kinds: &mut [u16],
+    starts: &mut [u32],
+    lengths: &mut [u32],
+    next: Mode,
+    at: usize,
+    count: usize,
+) -> Run
+    requires { ⌜ length (now query) ≤ textLimit ⌝ ∗ ⌜ Alike (now kinds) (now starts) (now lengths) ⌝ }
+    requires { ⌜ Opens (next .inside) ⌝ ∗ ⌜ (at ≤ length (now query)) × (count ≤ at) ⌝ }
+    ensures { λ r. ⌜ Reached (now (query .entry)) at r ⌝ }
+    ensures { λ r. ⌜ Leads (state (now (kinds .entry)) (now (starts .entry)) (now (lengths .entry)) count (outcomeAt (now (query .entry)) at next)) (stateBehind (now (query .entry)) (now (kinds .exit)) (now (starts .exit)) (now (lengths .exit)) (next .depth) r) ⌝ }
+{
+    let depth = next.depth;
+    let inside = next.inside;
+    match inside {
+        Inside::Nothing => Run::To { at, count },
+        Inside::Braces => braces(query, kinds, starts, lengths, depth, at, count),
+        Inside::Brackets { seen: _, fresh: _ } => {
+            brackets(query, kinds, starts, lengths, depth, at, count)
+        }
+    }
+}
+
+// Reads a text and writes the lexemes that have room, lexeme i at place i; those before a refusal too.
+fn pass(
+    words: &[u8],
+    query: &[u8],
+    kinds: &mut [u16],
+    starts: &mut [u32],
+    lengths: &mut [u32],
+) -> Tally
+    requires { ⌜ now words ≡ wordTable ⌝ ∗ ⌜ length (now query) ≤ textLimit ⌝ ∗ ⌜ Alike (now kinds) (now starts) (now lengths) ⌝ }
+    ensures { λ r. ⌜ r ≡ tallyOf (now (query .entry)) ⌝ }
+    ensures { λ _. ⌜ now (kinds .exit) ≡ filled kindOf (now (query .entry)) (now (kinds .entry)) ⌝ }
+    ensures { λ _. ⌜ now (starts .exit) ≡ filled startsAt (now (query .entry)) (now (starts .entry)) ⌝ }
+    ensures { λ _. ⌜ now (lengths .exit) ≡ filled lengthOf (now (query .entry)) (now (lengths .entry)) ⌝ }
+{
+    let mut at = 0;
+    let mut i = 0;
+    let mut depth = 0;
+    loop {
+        let s = munch::outside_step(words, &query[at..], depth);
+        let start = ByteOffset(at);
+        match s {
+            Step::Lexeme {
+                kind,
+                length,
+                mode: next,
+            } => {
+                put(kinds, starts, lengths, i, kind, Span { start, length });
+                depth = next.depth;
+                let r = opened(query, kinds, starts, lengths, next, at + length, i + 1);
+                match r {
+                    Run::To { at: end, count } => {
+                        at = end;
+                        i = count;
+                    }
+                    Run::Refused { number, at: place } => {
+                        return Tally::Refused { number, at: place };
+                    }
+                }
+            }
+            Step::Space { mode: _ } => {
+                at += 1;
             }
             Step::Comment { length } => {
                 at += length;
@@ -71,7 +258,9 @@ fn count_lexemes(words: &[u8], query: &[u8]) -> Tally
                 };
             }
             Step::Finished => {
-                return Tally::Count(count + 1);
+                let end = Span { start, length: 0 };
+                put(kinds, starts, lengths, i, kinds::T_EOF, end);
+                return Tally::Count(i + 1);
             }
         }
     }
@@ -96,7 +285,7 @@ fn refused_in(query: &[u8], t: Tally) -> Refusal
     refused_at(query, number, at)
 }
 
-// How many lexemes a query has, its end included, or why it is refused.
+// How many lexemes a query has, its end included, or why it is refused: a pass that has no room.
 pub fn measure(query: &[u8]) -> Lexing
     ensures { λ r. ⌜ r ≡ measured (now (query .entry)) ⌝ }
 {
@@ -105,7 +294,10 @@ pub fn measure(query: &[u8]) -> Lexing
         return Lexing::Refused(utf8::not_admitted(a));
     };
     let words = token::words();
-    let t = count_lexemes(&words, query);
+    let mut kinds = [0u16; 0];
+    let mut starts = [0u32; 0];
+    let mut lengths = [0u32; 0];
+    let t = pass(&words, query, &mut kinds, &mut starts, &mut lengths);
     let Tally::Count(n) = t else {
         return Lexing::Refused(refused_in(query, t));
     };
@@ -122,75 +314,6 @@ pub fn not_lexed(answer: Lexing) -> Refusal
     r
 }
 
-// Writes a lexeme at place i of the three lists.
-fn put(kinds: &mut [u16], starts: &mut [u32], lengths: &mut [u32], i: usize, kind: u16, span: Span)
-    requires { ⌜ (i < length (now kinds)) × (i < length (now starts)) × (i < length (now lengths)) ⌝ }
-    requires { ⌜ (span .start .0 ≤ textLimit) × (span .length ≤ textLimit) ⌝ }
-    ensures { λ _. ⌜ now (kinds .exit) ≡ set (now (kinds .entry)) i kind ⌝ }
-    ensures { λ _. ⌜ now (starts .exit) ≡ set (now (starts .entry)) i (span .start .0) ⌝ }
-    ensures { λ _. ⌜ now (lengths .exit) ≡ set (now (lengths .entry)) i (span .length) ⌝ }
-{
-    let start = span.start;
-    kinds[i] = kind;
-    starts[i] = start.0 as u32;
-    lengths[i] = span.length as u32;
-}
-
-// Writes the lexemes of a text that is not refused to lists that have room for them, step by step.
-fn write_lexemes(
-    words: &[u8],
-    query: &[u8],
-    kinds: &mut [u16],
-    starts: &mut [u32],
-    lengths: &mut [u32],
-)
-    requires { ⌜ now words ≡ wordTable ⌝ ∗ ⌜ length (now query) ≤ textLimit ⌝ }
-    requires { ⌜ length (entriesOf (now query)) ≤ length (now kinds) ⌝ }
-    requires { ⌜ length (entriesOf (now query)) ≤ length (now starts) ⌝ }
-    requires { ⌜ length (entriesOf (now query)) ≤ length (now lengths) ⌝ }
-    ensures { λ _. ⌜ now (kinds .exit) ≡ listed kindOf (now (query .entry)) (now (kinds .entry)) ⌝ }
-    ensures { λ _. ⌜ now (starts .exit) ≡ listed startsAt (now (query .entry)) (now (starts .entry)) ⌝ }
-    ensures { λ _. ⌜ now (lengths .exit) ≡ listed lengthOf (now (query .entry)) (now (lengths .entry)) ⌝ }
-{
-    let mut at = 0;
-    let mut i = 0;
-    let mut mode = Mode {
-        depth: 0,
-        inside: Inside::Nothing,
-    };
-    loop {
-        let s = munch::munch_in(words, &query[at..], mode);
-        let start = ByteOffset(at);
-        match s {
-            Step::Lexeme {
-                kind,
-                length,
-                mode: next,
-            } => {
-                put(kinds, starts, lengths, i, kind, Span { start, length });
-                at += length;
-                i += 1;
-                mode = next;
-            }
-            Step::Space { mode: next } => {
-                at += 1;
-                mode = next;
-            }
-            Step::Comment { length } => {
-                at += length;
-            }
-            Step::Refused { number: _, at: _ } => {
-                return;
-            }
-            Step::Finished => {
-                let end = Span { start, length: 0 };
-                put(kinds, starts, lengths, i, kinds::T_EOF, end);
-                return;
-            }
-        }
-    }
-}
-
 // The least of three numbers.
 fn shortest(a: usize, b: usize, c: usize) -> usize
     ensures { λ r. ⌜ r ≡ shortest a b c ⌝ }
@@ -202,6 +325,94 @@ fn shortest(a: usize, b: usize, c: usize) -> usize
     }
 }
 
+// Copies the first n of three lists.
+fn copy(
+    n: usize,
+    ks: &[u16],
+    ss: &[u32],
+    ls: &[u32],
+    kinds: &mut [u16],
+    starts: &mut [u32],
+    lengths: &mut [u32],
+)
+    requires { ⌜ (n ≤ length (now ks)) × (n ≤ length (now ss)) × (n ≤ length (now ls)) ⌝ }
+    requires { ⌜ (n ≤ length (now kinds)) × (n ≤ length (now starts)) × (n ≤ length (now lengths)) ⌝ }
+    ensures { λ _. ⌜ now (kinds .exit) ≡ take n (now (ks .entry)) ++ drop n (now (kinds .entry)) ⌝ }
+    ensures { λ _. ⌜ now (starts .exit) ≡ take n (now (ss .entry)) ++ drop n (now (starts .entry)) ⌝ }
+    ensures { λ _. ⌜ now (lengths .exit) ≡ take n (now (ls .entry)) ++ drop n (now (lengths .entry)) ⌝ }
+{
+    let mut i = 0;
+    while i < n {
+        kinds[i] = ks[i];
+        starts[i] = ss[i];
+        lengths[i] = ls[i];
+        i += 1;
+    }
+}
+
+// Writes the n lexemes of a text to the fronts of lists that have room for them.
+fn write(
+    words: &[u8],
+    query: &[u8],
+    n: usize,
+    kinds: &mut [u16],
+    starts: &mut [u32],
+    lengths: &mut [u32],
+)
+    requires { ⌜ now words ≡ wordTable ⌝ ∗ ⌜ length (now query) ≤ textLimit ⌝ ∗ ⌜ n ≡ length (entriesOf (now query)) ⌝ }
+    requires { ⌜ (n ≤ length (now kinds)) × (n ≤ length (now starts)) × (n ≤ length (now lengths)) ⌝ }
+    ensures { λ _. ⌜ now (kinds .exit) ≡ listed kindOf (now (query .entry)) (now (kinds .entry)) ⌝ }
+    ensures { λ _. ⌜ now (starts .exit) ≡ listed startsAt (now (query .entry)) (now (starts .entry)) ⌝ }
+    ensures { λ _. ⌜ now (lengths .exit) ≡ listed lengthOf (now (query .entry)) (now (lengths .entry)) ⌝ }
+{
+    pass(
+        words,
+        query,
+        &mut kinds[..n],
+        &mut starts[..n],
+        &mut lengths[..n],
+    );
+}
+
+// Lexes a text to three lent lists, by a pass that writes to three others first.
+fn lex_text(
+    words: &[u8],
+    query: &[u8],
+    ks: &mut [u16],
+    ss: &mut [u32],
+    ls: &mut [u32],
+    kinds: &mut [u16],
+    starts: &mut [u32],
+    lengths: &mut [u32],
+) -> Lexing
+    requires { ⌜ now words ≡ wordTable ⌝ ∗ ⌜ length (now query) ≤ textLimit ⌝ ∗ ⌜ Alike (now ks) (now ss) (now ls) ⌝ }
+    ensures { λ r. ⌜ r ≡ roomed (shortest (length (now (kinds .entry))) (length (now (starts .entry))) (length (now (lengths .entry)))) (answerIn (now (query .entry)) (tallyOf (now (query .entry)))) ⌝ }
+    ensures { λ r. ⌜ now (kinds .exit) ≡ leftAfter r (listed kindOf (now (query .entry)) (now (kinds .entry))) (now (kinds .entry)) ⌝ }
+    ensures { λ r. ⌜ now (starts .exit) ≡ leftAfter r (listed startsAt (now (query .entry)) (now (starts .entry))) (now (starts .entry)) ⌝ }
+    ensures { λ r. ⌜ now (lengths .exit) ≡ leftAfter r (listed lengthOf (now (query .entry)) (now (lengths .entry))) (now (lengths .entry)) ⌝ }
+{
+    let t = pass(words, query, ks, ss, ls);
+    let Tally::Count(n) = t else {
+        return Lexing::Refused(refused_in(query, t));
+    };
+    if shortest(kinds.len(), starts.len(), lengths.len()) < n {
+        return Lexing::Refused(utf8::at_start(utf8::NO_ROOM));
+    }
+    if n <= ks.len() {
+        copy(n, ks, ss, ls, kinds, starts, lengths);
+    } else {
+        write(words, query, n, kinds, starts, lengths);
+    }
+    Lexing::Count(n)
+}
+
+// A query of at most so many bytes is short; how many lexemes of it the lexer has lists for, and how many of a longer one.
+const SHORT: usize = 256;
+
+const FEW: usize = 32;
+
+const MANY: usize = 1024;
+
 // Lexes a query to three lent lists, which it leaves as they were where it refuses.
 pub fn lexer(query: &[u8], kinds: &mut [u16], starts: &mut [u32], lengths: &mut [u32]) -> Lexing
     ensures { λ r. ⌜ r ≡ lexed (shortest (length (now (kinds .entry))) (length (now (starts .entry))) (length (now (lengths .entry)))) (now (query .entry)) ⌝ }
@@ -209,14 +420,37 @@ pub fn lexer(query: &[u8], kinds: &mut [u16], starts: &mut [u32], lengths: &mut 
     ensures { λ r. ⌜ now (starts .exit) ≡ leftAfter r (listed startsAt (now (query .entry)) (now (starts .entry))) (now (starts .entry)) ⌝ }
     ensures { λ r. ⌜ now (lengths .exit) ≡ leftAfter r (listed lengthOf (now (query .entry)) (now (lengths .entry))) (now (lengths .entry)) ⌝ }
 {
-    let m = measure(query);
-    let Lexing::Count(n) = m else {
-        return m;
-    };
-    if shortest(kinds.len(), starts.len(), lengths.len()) < n {
-        return Lexing::Refused(utf8::at_start(utf8::NO_ROOM));
-    }
     let words = token::words();
-    write_lexemes(&words, query, kinds, starts, lengths);
-    m
+    let a = utf8::admit(query, utf8::TEXT_LIMIT);
+    let Admission::Admitted(_) = a else {
+        return Lexing::Refused(utf8::not_admitted(a));
+    };
+    if query.len() <= SHORT {
+        let mut ks = [0u16; FEW];
+        let mut ss = [0u32; FEW];
+        let mut ls = [0u32; FEW];
+        return lex_text(
+            &words,
+            query,
+            &mut ks,
+            &mut ss,
+            &mut ls,
+            kinds,
+            starts,
+            lengths,
+        );
+    }
+    let mut ks = [0u16; MANY];
+    let mut ss = [0u32; MANY];
+    let mut ls = [0u32; MANY];
+    lex_text(
+        &words,
+        query,
+        &mut ks,
+        &mut ss,
+        &mut ls,
+        kinds,
+        starts,
+        lengths,
+    )
 }

@@ -65,7 +65,7 @@ module _ (d : ℕ) (xs : List ℕ) where
       (λ h. either (LeadsTo d Nothing) (eqb d 0) (λ e. tt) (λ e. tt))
       (λ h. tt)
       (λ h. tt)
-      (λ h. tt)
+      (λ h. (refl, refl))
       (λ h. tt)
       (λ h. tt)
       (λ h. next (code "=") _ _ tt (next (code "~") _ _ tt tt))

@@ -1,15 +1,15 @@
--- What is refused first is refused; then the reading decides, of a text within the limit.
+-- What is refused first is refused; then the reading decides, of a text within the limit. A pass with no room counts alone.
 use native.Mathlib.Omega.{arith}
-use mathlib.Core.Path.{_≡_, sym, ap, _∙_}
+use mathlib.Core.Path.{_≡_, refl, sym, ap, _∙_}
 use denote.Ref.{now}
+use borrow.Author.Needs.{needs}
 use Rattle.utf8.specs.Answers.{textLimit, notAdmitted}
 use Rattle.utf8.proofs.Given.{admitted-text}
 use Rattle.lex.specs.declared.Tally.{Tally}
 use Rattle.lex.specs.declared.Lexing.the-variants.{Refused}
 use Rattle.lex.specs.Lex.{measured}
 use Rattle.lex.specs.steps.Tally.{refusedIn, answerIn}
-use Rattle.lex.proofs.Tallies.{tally-answer}
-use borrow.Author.Needs.{needs}
+use Rattle.lex.proofs.Tallies.{tally-measured}
 use Rattle.lex.proofs.measure.Statement.{statement}
 use Rattle.lex.proofs.measure.Tie as tie
 
@@ -34,13 +34,28 @@ returns c =
 words-requires : tie.Need-words-requires
 words-requires c κs = search needs
 
-slice-aggregate-count-lexemes : tie.Need-slice-aggregate-count-lexemes
-slice-aggregate-count-lexemes c = search needs
+slice-aggregate-pass : tie.Need-slice-aggregate-pass
+slice-aggregate-pass c = search needs
 
-count-lexemes-requires : tie.Need-count-lexemes-requires
-count-lexemes-requires c κs =
-    let taken = admitted-text textLimit (now (c .before .before .before .before .before .before .args .query)) _ (sym (c .before .before .before .before .admit .ensures) ∙ c .before .before .enum-told .given .1) in
-    (c .before .words .ensures, omega (arith, taken .0))
+slice-aggregate-pass-2 : tie.Need-slice-aggregate-pass-2
+slice-aggregate-pass-2 c = search needs
+
+slice-aggregate-pass-3 : tie.Need-slice-aggregate-pass-3
+slice-aggregate-pass-3 c = search needs
+
+slice-aggregate-pass-4 : tie.Need-slice-aggregate-pass-4
+slice-aggregate-pass-4 c = search needs
+
+pass-requires : tie.Need-pass-requires
+pass-requires c κs =
+    let taken = admitted-text textLimit (now (c .before .before .before .before .before .before .before .before .before .args .query)) _ (sym (c .before .before .before .before .before .before .before .admit .ensures) ∙ c .before .before .before .before .before .enum-told .given .1) in
+    (c .before .before .before .before .words .ensures, (omega (arith, taken .0), (refl, refl)))
+
+-- what the pass counts is the measure
+counts : (c : tie.After-pass) (t : Tally) → c .pass .result ≡ t → let q = now (c .before .before .before .before .before .before .before .before .before .before .args .query) in answerIn q t ≡ measured q
+counts c t e =
+    let q = now (c .before .before .before .before .before .before .before .before .before .before .args .query) in
+    ap (answerIn q) (sym e ∙ c .pass .ensures .0) ∙ tally-measured q (sym (c .before .before .before .before .before .before .before .before .admit .ensures) ∙ c .before .before .before .before .before .before .enum-told .given .1)
 
 enum-known-t : tie.Need-enum-known-t
 enum-known-t c = search needs
@@ -51,19 +66,13 @@ enum-told-3 c = search needs
 refused-in-requires : tie.Need-refused-in-requires
 refused-in-requires c κs = search needs
 
--- a text that is admitted is measured by its count
-counts : (c : tie.After-count-lexemes) (t : Tally) → c .count-lexemes .result ≡ t → let q = now (c .before .before .before .before .before .before .before .args .query) in answerIn q t ≡ measured q
-unfolding measured
-counts c t e = let q = now (c .before .before .before .before .before .before .before .args .query) in rw (← c .before .before .before .before .before .admit .ensures, c .before .before .before .enum-told .given .1, ← e, c .count-lexemes .ensures) (tally-answer q)
-
 returns-2 : tie.Need-returns-2
 returns-2 c =
     let e = c .before .enum-told3 .given .1 in
-    let d = c .before .before .before in
-    ap Refused (c .refused-in .ensures ∙ ap (refusedIn (now (d .before .before .before .before .before .before .before .args .query))) e) ∙ counts d _ e
+    ap Refused (c .refused-in .ensures ∙ ap (refusedIn (now (c .before .before .before .before .before .before .before .before .before .before .before .before .before .before .before .before .args .query))) e) ∙ counts (c .before .before .before .before .before .before) _ e
 
 returns-3 : tie.Need-returns-3
-returns-3 c = counts (c .before .before .before) _ (c .before .t .given .1)
+returns-3 c = counts (c .before .before .before .before .before .before) _ (c .before .t .given .1)
 
 pub measure-spec : {M : Type 1} → statement M
 measure-spec =
@@ -75,8 +84,11 @@ measure-spec =
     not-admitted-requires
     returns
     words-requires
-    slice-aggregate-count-lexemes
-    count-lexemes-requires
+    slice-aggregate-pass
+    slice-aggregate-pass-2
+    slice-aggregate-pass-3
+    slice-aggregate-pass-4
+    pass-requires
     enum-known-t
     enum-told-3
     refused-in-requires

@@ -1,7 +1,7 @@
 -- Where a step leads, as a statement; `proofs/Modes` has the proof. In braces it stays there or leads outside, and so in brackets, where their opening is
--- past behind it; the parentheses that are open stay so. Outside, white space changes nothing.
+-- past behind it; the parentheses that are open stay so. Outside, white space changes nothing, and a lexeme opens what it opens anew.
 use Prim.Native.Nat.{ℕ}
-use mathlib.Core.Bool.{Bool, false}
+use mathlib.Core.Bool.{Bool, true, false}
 use mathlib.Core.List.{List}
 use mathlib.Core.Logic.{_⊎_}
 use mathlib.Core.Path.{_≡_}
@@ -12,9 +12,15 @@ use Rattle.munch.specs.declared.Step.{Step}
 use Rattle.munch.specs.declared.Step.the-variants.{Lexeme, Space, Comment, Refused, Finished}
 use Rattle.munch.specs.Munch.{mode, munched}
 
+-- what a lexeme outside opens: brackets are without their colon, and just opened
+abbrev pub Opens : Inside → Type 0
+Opens Nothing = Unit {0}
+Opens Braces = Unit {0}
+Opens (Brackets seen fresh) = (seen ≡ false) × (fresh ≡ true)
+
 -- behind a lexeme, and behind white space
 abbrev pub Behind : ℕ → Inside → Mode → Type 0
-Behind d Nothing m = Unit {0}
+Behind d Nothing m = Opens (m .inside)
 Behind d Braces m = (m ≡ mode d Nothing) ⊎ (m ≡ mode d Braces)
 Behind d (Brackets seen fresh) m = (m ≡ mode d Nothing) ⊎ ((now : Bool) × (m ≡ mode d (Brackets now false)))
 

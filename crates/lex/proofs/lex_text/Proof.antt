@@ -1,0 +1,185 @@
+-- What the pass refuses is refused, and what has no room, both before a lent list is touched. Else the lists hold the lexemes: by a copy of the lists that the
+-- pass has filled, where they had room for all, or by a pass over fronts that have just that room.
+use Prim.Native.Nat.{ℕ, _≤_}
+use native.Mathlib.Omega.{arith}
+use mathlib.Core.List.{List}
+use mathlib.Core.Path.{_≡_, refl, sym, ap, _∙_}
+use lib.ListN.{length}
+use denote.Ref.{now}
+use borrow.Author.Needs.{needs}
+use Rattle.lex.specs.declared.Tally.the-variants.{Count}
+use Rattle.lex.specs.declared.Lexing.the-variants as lexing
+use Rattle.lex.specs.Lex.{entriesOf, kindOf, startsAt, lengthOf}
+use Rattle.lex.specs.steps.Tally.{tallyOf, refusedIn, answerIn}
+use Rattle.lex.proofs.Lists.{copied-all}
+use Rattle.lex.proofs.Tallies.{tally-counts}
+use Rattle.lex.proofs.Room.{fits, fits-not}
+use Rattle.lex.proofs.lex_text.Statement.{statement}
+use Rattle.lex.proofs.lex_text.Tie as tie
+
+-- behind the test for room: what the pass has counted
+module _ (c : tie.After-shortest) where
+  abbrev start : tie.Start
+  start = c .before .before .before .before .before .before .before .before .before .before .before .before .before .before .before .before .before .before .before .before .before .before
+
+  abbrev bytes : List ℕ
+  bytes = now (start .args .query)
+
+  abbrev number : ℕ
+  number = c .before .before .t .given .0 .0
+
+  tallied : tallyOf bytes ≡ Count number
+  tallied = sym (c .before .before .before .before .before .before .before .before .before .before .pass .ensures .0) ∙ c .before .before .t .given .1
+
+  all : number ≡ length (entriesOf bytes)
+  all = tally-counts bytes number tallied
+
+pass-requires : tie.Need-pass-requires
+pass-requires c κs = search needs
+
+enum-known-t : tie.Need-enum-known-t
+enum-known-t c = search needs
+
+enum-told : tie.Need-enum-told
+enum-told c = search needs
+
+refused-in-requires : tie.Need-refused-in-requires
+refused-in-requires c κs = search needs
+
+same-length : tie.Need-same-length
+same-length c = search needs
+
+same-length-2 : tie.Need-same-length-2
+same-length-2 c = search needs
+
+same-length-3 : tie.Need-same-length-3
+same-length-3 c = search needs
+
+returns : tie.Need-returns
+returns c =
+    let e = c .before .enum-told .given .1 in
+    rw (← c .before .before .before .before .before .before .before .before .before .pass .ensures .0, e) (ap lexing.Refused (c .refused-in .ensures ∙ ap (refusedIn _) e), (refl, (refl, refl)))
+
+shortest-requires : tie.Need-shortest-requires
+shortest-requires c κs = search needs
+
+at-start-requires : tie.Need-at-start-requires
+at-start-requires c κs = search needs
+
+same-length-4 : tie.Need-same-length-4
+same-length-4 c = search needs
+
+same-length-5 : tie.Need-same-length-5
+same-length-5 c = search needs
+
+same-length-6 : tie.Need-same-length-6
+same-length-6 c = search needs
+
+returns-2 : tie.Need-returns-2
+returns-2 c =
+    let p = c .before .before in
+    (ap lexing.Refused (c .at-start .ensures) ∙ sym (fits-not (ap (answerIn (bytes p)) (tallied p)) (omega (arith, p .shortest .ensures))), (refl, (refl, refl)))
+
+copy-requires : tie.Need-copy-requires
+copy-requires c κs = search needs
+
+write-requires : tie.Need-write-requires
+write-requires c κs =
+    let p = c .before .before .before .before .before in
+    let h = p .shortest .ensures in
+    (start p .pre .0, (start p .pre .1 .0, (all p, (omega arith, omega arith, omega arith))))
+
+same-length-7 : tie.Need-same-length-7
+same-length-7 c = search needs
+
+same-length-8 : tie.Need-same-length-8
+same-length-8 c = search needs
+
+same-length-9 : tie.Need-same-length-9
+same-length-9 c = search needs
+
+same-length-10 : tie.Need-same-length-10
+same-length-10 c = search needs
+
+same-length-11 : tie.Need-same-length-11
+same-length-11 c = search needs
+
+same-length-12 : tie.Need-same-length-12
+same-length-12 c = search needs
+
+returns-3 : tie.Need-returns-3
+returns-3 c =
+    let p = c .before .before .before .before .before .before .before .before .before .before .before .before .before .before .before in
+    let a = start p .args in
+    let w = c .before .before .before .before .before .before .copy .ensures in
+    let o = c .before .before .before .before .before .before .before .before .before .before .before .before .before .before .before .before .before .before .before .before .before .before .before .before .before .pass in
+    let h : number p ≤ length (o .last .1 .1 .0) = c .before .before .before .before .before .before .before .before .before .before .before .before .before .if2 .taken in
+    let l = start p .pre .1 .1 in
+    let m : length (o .last .1 .1 .0) ≡ length (now (a .ks)) = o .kept .1 .1 .0 in (
+      sym (fits (ap (answerIn (bytes p)) (tallied p)) (omega (arith, p .shortest .ensures, c .before .before .before .before .before .before .before .before .before .before .before .before .before .before .if1 .left))),
+      (
+        copied-all kindOf (bytes p) (now (a .kinds)) (number p) (all p) (now (a .ks)) (omega arith) (o .ensures .1 .0) (w .0),
+        (
+          copied-all startsAt (bytes p) (now (a .starts)) (number p) (all p) (now (a .ss)) (omega arith) (o .ensures .1 .1 .0) (w .1 .0),
+          copied-all lengthOf (bytes p) (now (a .lengths)) (number p) (all p) (now (a .ls)) (omega arith) (o .ensures .1 .1 .1) (w .1 .1),
+        ),
+      ),
+    )
+
+same-length-13 : tie.Need-same-length-13
+same-length-13 c = search needs
+
+same-length-14 : tie.Need-same-length-14
+same-length-14 c = search needs
+
+same-length-15 : tie.Need-same-length-15
+same-length-15 c = search needs
+
+same-length-16 : tie.Need-same-length-16
+same-length-16 c = search needs
+
+same-length-17 : tie.Need-same-length-17
+same-length-17 c = search needs
+
+same-length-18 : tie.Need-same-length-18
+same-length-18 c = search needs
+
+returns-4 : tie.Need-returns-4
+returns-4 c =
+    let p = c .before .before .before .before .before .before .before .before .before .before .before .before in
+    (sym (fits (ap (answerIn (bytes p)) (tallied p)) (omega (arith, p .shortest .ensures))), c .before .before .before .before .before .before .write .ensures)
+
+pub lex-text-spec : {M : Type 1} → statement M
+lex-text-spec =
+    tie.close
+    (tie.spec
+    pass-requires
+    enum-known-t
+    enum-told
+    refused-in-requires
+    same-length
+    same-length-2
+    same-length-3
+    returns
+    shortest-requires
+    at-start-requires
+    same-length-4
+    same-length-5
+    same-length-6
+    returns-2
+    copy-requires
+    write-requires
+    same-length-7
+    same-length-8
+    same-length-9
+    same-length-10
+    same-length-11
+    same-length-12
+    returns-3
+    same-length-13
+    same-length-14
+    same-length-15
+    same-length-16
+    same-length-17
+    same-length-18
+    returns-4)

@@ -1,0 +1,302 @@
+-- A turn has its step's share of what is still to come (`Turns`), and so has what a lexeme opens (`opened`). A refusal, or the end, says what all has come to.
+use Prim.Native.Nat.{ℕ, _+_, _-_, _≤_}
+use native.Mathlib.Omega.{arith}
+use mathlib.Core.List.{List}
+use mathlib.Core.Path.{_≡_, refl, sym, ap, ap₂, _∙_, subst}
+use lib.ListN.{length, drop}
+use denote.Ref.{now}
+use borrow.Author.Needs.{needs}
+use Rattle.proving.proofs.Lists.{rest-of}
+use Rattle.munch.specs.declared.Inside.the-variants.{Nothing}
+use Rattle.munch.specs.declared.Mode.{Mode}
+use Rattle.munch.specs.declared.Step.{Step}
+use Rattle.munch.specs.Munch.{mode, munched}
+use Rattle.munch.specs.laws.Modes.{LeadsTo}
+use Rattle.munch.specs.steps.Lent.{lentStep, munchedBy}
+use Rattle.munch.proofs.Modes.{step-leads}
+use Rattle.munch.proofs.Table.{by-table}
+use Rattle.lex.specs.declared.Run.{Run}
+use Rattle.lex.specs.Outcome.{outcomeOf}
+use Rattle.lex.specs.steps.Pass.{outcomeAt, state, stateBehind, Alike, Leads, Reached}
+use Rattle.lex.proofs.Lists.{leads-start, leads-on, leads-alike, leads-refused, leads-end}
+use Rattle.lex.proofs.Turns.{lexeme-further, space-further, comment-further, refused-within, turn-lexeme, turn-space, turn-comment, turn-refused, turn-finished, in-mode}
+use Rattle.lex.proofs.pass.Statement.{statement}
+use Rattle.lex.proofs.pass.Tie as tie
+
+abbrev Inv-loop : tie.InvT-loop
+Inv-loop words query kinds₀ starts₀ lengths₀ at₀ i₀ depth₀ kinds starts lengths at i depth =
+    (at ≤ length query) × (i ≤ at) × Leads (state kinds₀ starts₀ lengths₀ 0 (outcomeOf query)) (state kinds starts lengths i (outcomeAt query at (mode depth Nothing)))
+
+abbrev μ-loop : tie.MeasureT-loop
+μ-loop words query kinds₀ starts₀ lengths₀ at₀ i₀ depth₀ kinds starts lengths at i depth = length query - at
+
+-- once a step is known: where the loop stood
+abbrev Place : Type 0
+Place = tie.After-outside-step Inv-loop μ-loop
+
+abbrev start : Place → tie.Start Inv-loop μ-loop
+start c = c .before .before .before .before .before .before .before .before
+
+abbrev bytes : Place → List ℕ
+bytes c = now (start c .args .query)
+
+abbrev at : Place → ℕ
+at c = c .before .before .loop .at
+
+abbrev depth : Place → ℕ
+depth c = c .before .before .loop .depth
+
+abbrev here : Place → Mode
+here c = mode (depth c) Nothing
+
+module _ (c : Place) {s : Step} (e : c .outside-step .result ≡ s) where
+  told : munched (here c) (drop (at c) (bytes c)) ≡ s
+  told =
+      sym (c .outside-step .ensures ∙ ap₂ (λ (w t : List ℕ). lentStep w (depth c) Nothing t) (start c .pre .0) (rest-of (bytes c) (at c)) ∙ (unfold munchedBy in by-table (here c) (drop (at c) (bytes c))))
+      ∙ e
+
+  leads-to : LeadsTo (depth c) Nothing s
+  leads-to = rw told at (step-leads (depth c) Nothing (drop (at c) (bytes c)))
+
+module _ (c : Place) where
+  inside-query : at c ≤ length (bytes c)
+  inside-query = c .before .before .loop .inv .0
+
+  alike : let l = c .before .before .loop in Alike (l .kinds) (l .starts) (l .lengths)
+  alike = leads-alike (c .before .before .loop .inv .2) (start c .pre .1 .1)
+
+loop-holds : tie.Need-loop-holds Inv-loop μ-loop
+loop-holds c = (omega arith, omega arith, leads-start _)
+
+sub-outside-step : tie.Need-sub-outside-step Inv-loop μ-loop
+sub-outside-step c = search needs
+
+part-outside-step-start : tie.Need-part-outside-step-start Inv-loop μ-loop
+part-outside-step-start c = search needs
+
+part-outside-step-end : tie.Need-part-outside-step-end Inv-loop μ-loop
+part-outside-step-end c = search needs
+
+outside-step-requires : tie.Need-outside-step-requires Inv-loop μ-loop
+outside-step-requires c κs = search needs
+
+enum-known-s : tie.Need-enum-known-s Inv-loop μ-loop
+enum-known-s c = search needs
+
+put-requires : tie.Need-put-requires Inv-loop μ-loop
+put-requires c κs =
+    let t = c .before .before .before .before in
+    let p = t .before .before in
+    let g = lexeme-further (bytes p) (at p) (here p) (inside-query p) (told p (t .s .given .1)) in
+    let q = start p .pre .1 .0 in
+    (alike p, omega arith)
+
+-- before `opened`: where the step was seen to be a lexeme, and how far it goes
+abbrev seen : tie.After-opened-arg3 Inv-loop μ-loop → tie.After-s Inv-loop μ-loop
+seen c = c .before .before .before .before .before .before .before .before .before .before .before .before .before .before
+
+further : (c : tie.After-opened-arg3 Inv-loop μ-loop) → let p = seen c .before .before in let n = seen c .s .given .0 .1 .0 in (1 ≤ n) × (at p + n ≤ length (bytes p))
+further c = let p = seen c .before .before in lexeme-further (bytes p) (at p) (here p) (inside-query p) (told p (seen c .s .given .1))
+
+-- the lexeme is written, and what is behind it is still to come
+behind : (c : tie.After-opened-arg3 Inv-loop μ-loop) →
+    let t = seen c in
+    let p = t .before .before in
+    let a = start p .args in
+    let l = p .before .before .loop in
+    let w = c .before .before .before .before .before .before .before .before .before .put .last in
+    Leads (state (now (a .kinds)) (now (a .starts)) (now (a .lengths)) 0 (outcomeOf (bytes p)))
+    (state (w .0) (w .1 .0) (w .1 .1 .0) (l .i + 1) (outcomeAt (bytes p) (at p + t .s .given .0 .1 .0) (t .s .given .0 .1 .1 .0)))
+behind c =
+    let t = seen c in
+    let p = t .before .before in
+    turn-lexeme (bytes p) (at p) (here p) (inside-query p) (p .before .before .loop .inv .2) (told p (t .s .given .1)) (c .before .before .before .before .before .before .before .before .before .put .ensures)
+
+add-opened : tie.Need-add-opened Inv-loop μ-loop
+add-opened c = let g = further c in omega (arith, start (seen c .before .before) .pre .1 .0)
+
+add-opened-2 : tie.Need-add-opened-2 Inv-loop μ-loop
+add-opened-2 c = let v = seen c .before .before .before .before .loop .inv in omega (arith, start (seen c .before .before) .pre .1 .0)
+
+opened-requires : tie.Need-opened-requires Inv-loop μ-loop
+opened-requires c κs =
+    let t = seen c in
+    let p = t .before .before in
+    let g = further c in
+    let v = p .before .before .loop .inv in
+    let h = start p .pre in
+    (h .1 .0, (leads-alike (behind c) (h .1 .1), (leads-to p (t .s .given .1), (g .1, omega arith))))
+
+enum-known-r : tie.Need-enum-known-r Inv-loop μ-loop
+enum-known-r c = search needs
+
+-- behind `opened`: what the lexeme and what it has opened have led to
+module _ (c : tie.After-opened Inv-loop μ-loop) where
+  abbrev lexed : tie.After-s Inv-loop μ-loop
+  lexed = seen (c .before)
+
+  abbrev query : List ℕ
+  query = bytes (lexed .before .before)
+
+  abbrev Passed : Run → Type 0
+  Passed r =
+      let a = start (lexed .before .before) .args in
+      let l = c .opened .last .1 in
+      Reached query (at (lexed .before .before) + lexed .s .given .0 .1 .0) r
+      × Leads (state (now (a .kinds)) (now (a .starts)) (now (a .lengths)) 0 (outcomeOf query)) (stateBehind query (l .0) (l .1 .0) (l .1 .1 .0) (lexed .s .given .0 .1 .1 .0 .depth) r)
+
+  passed : {r : Run} → c .opened .result ≡ r → Passed r
+  passed e = subst Passed e (c .opened .ensures .0, leads-on (behind (c .before)) (c .opened .ensures .1))
+
+loop-less : tie.Need-loop-less Inv-loop μ-loop
+loop-less c =
+    let p = c .before .before .before .before .before .before .before .before .before in
+    let g = further (p .before) in
+    let b = passed p (c .before .r .given .1) .0 in
+    omega arith
+
+loop-again : tie.Need-loop-again Inv-loop μ-loop
+loop-again c =
+    let w = passed (c .before .before .before .before .before .before .before .before .before) (c .before .r .given .1) in
+    (w .0 .1, w .0 .2, w .1)
+
+enum-known-r-2 : tie.Need-enum-known-r-2 Inv-loop μ-loop
+enum-known-r-2 c = search needs
+
+same-length : tie.Need-same-length Inv-loop μ-loop
+same-length c = passed (c .before .before .before .before .before .before .before .before .before) (c .before .r2 .given .1) .1 .kinds .same
+
+same-length-2 : tie.Need-same-length-2 Inv-loop μ-loop
+same-length-2 c = passed (c .before .before .before .before .before .before .before .before .before) (c .before .r2 .given .1) .1 .starts .same
+
+same-length-3 : tie.Need-same-length-3 Inv-loop μ-loop
+same-length-3 c = passed (c .before .before .before .before .before .before .before .before .before) (c .before .r2 .given .1) .1 .lengths .same
+
+returns : tie.Need-returns Inv-loop μ-loop
+returns c =
+    let o = c .before .before .before .before .before .before .before .before .before in
+    leads-refused (query o) (passed o (c .before .r2 .given .1) .1)
+
+enum-told : tie.Need-enum-told Inv-loop μ-loop
+enum-told c = search needs
+
+add-at : tie.Need-add-at Inv-loop μ-loop
+add-at c = let p = c .before .before in let g = space-further (bytes p) (at p) (here p) (inside-query p) (told p (c .enum-told .given .1)) in omega (arith, start p .pre .1 .0)
+
+loop-less-2 : tie.Need-loop-less-2 Inv-loop μ-loop
+loop-less-2 c = let p = c .before .before in let g = space-further (bytes p) (at p) (here p) (inside-query p) (told p (c .enum-told .given .1)) in omega arith
+
+loop-again-2 : tie.Need-loop-again-2 Inv-loop μ-loop
+loop-again-2 c =
+    let p = c .before .before in
+    let e = c .enum-told .given .1 in
+    let v = p .before .before .loop .inv in
+    (space-further (bytes p) (at p) (here p) (inside-query p) (told p e), omega arith, in-mode _ _ (leads-to p e) (turn-space (bytes p) (at p) (here p) (inside-query p) (v .2) (told p e)))
+
+enum-known-s-2 : tie.Need-enum-known-s-2 Inv-loop μ-loop
+enum-known-s-2 c = search needs
+
+add-at-2 : tie.Need-add-at-2 Inv-loop μ-loop
+add-at-2 c = let p = c .before .before .before in let g = comment-further (bytes p) (at p) (here p) (inside-query p) (told p (c .before .s2 .given .1)) in omega (arith, start p .pre .1 .0)
+
+loop-less-3 : tie.Need-loop-less-3 Inv-loop μ-loop
+loop-less-3 c = let p = c .before .before .before in let g = comment-further (bytes p) (at p) (here p) (inside-query p) (told p (c .before .s2 .given .1)) in omega arith
+
+loop-again-3 : tie.Need-loop-again-3 Inv-loop μ-loop
+loop-again-3 c =
+    let p = c .before .before .before in
+    let e = told p (c .before .s2 .given .1) in
+    let v = p .before .before .loop .inv in
+    let g = comment-further (bytes p) (at p) (here p) (inside-query p) e in
+    (g .1, omega arith, turn-comment (bytes p) (at p) (here p) (inside-query p) (v .2) e)
+
+enum-known-s-3 : tie.Need-enum-known-s-3 Inv-loop μ-loop
+enum-known-s-3 c = search needs
+
+add-place : tie.Need-add-place Inv-loop μ-loop
+add-place c = let p = c .before .before .before in omega (arith, refused-within (bytes p) (at p) (here p) (inside-query p) (told p (c .before .s3 .given .1)), start p .pre .1 .0)
+
+same-length-4 : tie.Need-same-length-4 Inv-loop μ-loop
+same-length-4 c = c .before .before .before .before .before .loop .inv .2 .kinds .same
+
+same-length-5 : tie.Need-same-length-5 Inv-loop μ-loop
+same-length-5 c = c .before .before .before .before .before .loop .inv .2 .starts .same
+
+same-length-6 : tie.Need-same-length-6 Inv-loop μ-loop
+same-length-6 c = c .before .before .before .before .before .loop .inv .2 .lengths .same
+
+returns-2 : tie.Need-returns-2 Inv-loop μ-loop
+returns-2 c = let p = c .before .before .before in leads-refused (bytes p) (turn-refused (bytes p) (at p) (here p) (inside-query p) (p .before .before .loop .inv .2) (told p (c .before .s3 .given .1)))
+
+enum-told-2 : tie.Need-enum-told-2 Inv-loop μ-loop
+enum-told-2 c = search needs
+
+put-requires-2 : tie.Need-put-requires-2 Inv-loop μ-loop
+put-requires-2 c κs =
+    let p = c .before .before .before .before .before in
+    let v = p .before .before .loop .inv in
+    let q = start p .pre .1 .0 in
+    (alike p, omega arith)
+
+add-t52 : tie.Need-add-t52 Inv-loop μ-loop
+add-t52 c = let v = c .before .before .before .before .before .before .before .before .before .before .before .before .before .before .loop .inv in omega (arith, c .before .before .before .before .before .before .before .before .before .before .before .before .before .before .before .before .before .before .before .before .pre .1 .0)
+
+same-length-7 : tie.Need-same-length-7 Inv-loop μ-loop
+same-length-7 c = c .before .before .before .before .before .before .put2 .kept .0 ∙ c .before .before .before .before .before .before .before .before .before .before .before .before .before .before .loop .inv .2 .kinds .same
+
+same-length-8 : tie.Need-same-length-8 Inv-loop μ-loop
+same-length-8 c = c .before .before .before .before .before .before .put2 .kept .1 .0 ∙ c .before .before .before .before .before .before .before .before .before .before .before .before .before .before .loop .inv .2 .starts .same
+
+same-length-9 : tie.Need-same-length-9 Inv-loop μ-loop
+same-length-9 c = c .before .before .before .before .before .before .put2 .kept .1 .1 .0 ∙ c .before .before .before .before .before .before .before .before .before .before .before .before .before .before .loop .inv .2 .lengths .same
+
+returns-3 : tie.Need-returns-3 Inv-loop μ-loop
+returns-3 c =
+    let p = c .before .before .before .before .before .before .before .before .before .before .before .before in
+    leads-end (bytes p) (turn-finished (bytes p) (at p) (here p) (inside-query p) (p .before .before .loop .inv .2) (told p (c .before .before .before .before .before .before .before .before .before .before .enum-told2 .given .1))) (c .before .before .before .before .before .before .put2 .ensures)
+
+pub pass-spec : {M : Type 1} → statement M
+pass-spec =
+    tie.close
+    (tie.spec
+    Inv-loop
+    μ-loop
+    loop-holds
+    sub-outside-step
+    part-outside-step-start
+    part-outside-step-end
+    outside-step-requires
+    enum-known-s
+    put-requires
+    add-opened
+    add-opened-2
+    opened-requires
+    enum-known-r
+    loop-less
+    loop-again
+    enum-known-r-2
+    same-length
+    same-length-2
+    same-length-3
+    returns
+    enum-told
+    add-at
+    loop-less-2
+    loop-again-2
+    enum-known-s-2
+    add-at-2
+    loop-less-3
+    loop-again-3
+    enum-known-s-3
+    add-place
+    same-length-4
+    same-length-5
+    same-length-6
+    returns-2
+    enum-told-2
+    put-requires-2
+    add-t52
+    same-length-7
+    same-length-8
+    same-length-9
+    returns-3)
