@@ -1,6 +1,10 @@
+pub mod Runs
 pub mod Openings
 pub mod Starts
-pub mod Table
+pub mod Classes
+pub mod Labels
+pub mod Tables
+pub mod Ends
 pub mod Goes
 pub mod Modes
 pub mod Fits

@@ -1,14 +1,15 @@
 -- The answer that each promise leaves at a telling input: a program that answers otherwise there, as the theorem's name says, cannot be
 -- proved. `FUNCTION-gives` is what the promise of FUNCTION answers at arguments, which is the definition's value there.
 use Prim.Native.Nat.{ℕ, _-_}
-use mathlib.Core.Bool.{true, false}
+use Prim.Native.Char.{code}
+use mathlib.Core.Bool.{Bool, true, false}
 use mathlib.Core.List.{List, [], _++_}
 use lib.ListN.{replicate}
-use mathlib.Core.Path.{_≡_}
+use mathlib.Core.Path.{_≡_, ap}
 use denote.Ref.{now}
 use Rattle.scan.specs.Ascii.{ascii}
 use Rattle.scan.specs.Byte.{isWithin, isIn, isSpace, isAlpha, isAlphaNumeric, isWord, isLine, isQuote, lowered}
-use Rattle.proving.proofs.One.{Answers}
+use Rattle.proving.proofs.One.{Answers, Shows}
 use Rattle.scan.specs.Run.{runLength}
 use Rattle.scan.specs.Text.{has, sameText}
 use Rattle.utf8.specs.Table.{fits, sizeIn, charLength}
@@ -24,33 +25,100 @@ use Rattle.munch.specs.Word.{isWordStart, isFill, ruleBy, isOr, braceRul
 use Rattle.munch.specs.declared.Inside.the-variants.{Nothing, Braces, Brackets}
 use Rattle.munch.specs.declared.Mode.{Mode}
 use Rattle.munch.specs.declared.Step.{Step}
-use Rattle.munch.specs.declared.Step.the-variants.{Lexeme, Comment, Refused, Finished}
+use Rattle.munch.specs.declared.Step.the-variants.{Lexeme, Space, Comment, Refused, Finished}
 use Rattle.munch.specs.Munch.{mode, outside, quotedStep, commentStep, wordStep, bangStep, rightParenStep, endStep, braceWord, numberStep, colonStep, outsideTable, braceTable, bracketTable, stepIn, munched}
-use Rattle.munch.specs.steps.Lent.{wordStepBy, munchedBy}
-use Rattle.munch.proofs.munch_in.Kinds as munch-in
-use Rattle.munch.proofs.munch_in.Reads as munch-in-reads
+use Rattle.munch.specs.steps.Leads.{otherLead, whiteLead, letterLead, signLead, leadOf, leadsFrom, leadTable, leadIn, isSignLead, startsWord}
+use Rattle.munch.specs.steps.Lent.{wordStepBy, braceWordBy, braceSigns, outsideLed, braceLed, outsideBy, braceBy}
+use Rattle.munch.proofs.outside_step.Kinds as outside-step
+use Rattle.munch.proofs.outside_step.Reads as outside-step-reads
+use Rattle.munch.proofs.brace_step.Kinds as brace-step
+use Rattle.munch.proofs.brace_step.Reads as brace-step-reads
+use Rattle.munch.proofs.bracket_step.Kinds as bracket-step
+use Rattle.munch.proofs.bracket_step.Reads as bracket-step-reads
+use Rattle.munch.proofs.leads.Kinds as leads
+use Rattle.munch.proofs.leads.Reads as leads-reads
 use Rattle.munch.proofs.munch.Kinds as munch
 use Rattle.munch.proofs.munch.Reads as munch-reads
 
 -- what computes at the bytes that are left
 munching : Unit {0}
-unfolding munched munchedBy stepIn outsideTable braceTable bracketTable quotedStep commentStep wordStep wordStepBy braceWord numberStep bangStep rightParenStep endStep colonStep isWordStart isQuote isFill ruleBy isOr braceRule kindBy keywordIn foundAt isRow slotOf padded keywordOf words kindIn quotedFrom commentEnd numeralOf numberEnd exponentEnd fractionEnd isHex charsPast sizeOf charLength sizeIn fits codeOf isWithin isIn isSpace isAlpha isAlphaNumeric isWord isLine lowered runLength sameText has
+unfolding munched outsideBy outsideLed braceBy braceLed leadTable leadsFrom leadOf signLead isSignLead startsWord braceWordBy braceSigns stepIn outsideTable braceTable bracketTable quotedStep commentStep wordStep wordStepBy braceWord numberStep bangStep rightParenStep endStep colonStep isWordStart isQuote isFill ruleBy isOr braceRule kindBy keywordIn foundAt isRow slotOf padded keywordOf words kindIn quotedFrom commentEnd numeralOf numberEnd exponentEnd fractionEnd isHex charsPast sizeOf charLength sizeIn fits codeOf isWithin isIn isSpace isAlpha isAlphaNumeric isWord isLine lowered runLength sameText has
 munching = tt
 
-abbrev munch-in-gives : List ℕ → List ℕ → Mode → Step → Type 0
-munch-in-gives table xs m v =
-    Answers munch-in.ps munch-in.r munch-in-reads.Post (λ κs a. (now (a .0) ≡ table) × (now (a .1 .0) ≡ xs) × (a .1 .1 .0 ≡ m)) (λ κs. v)
+abbrev outside-step-gives : List ℕ → List ℕ → List ℕ → ℕ → Step → Type 0
+outside-step-gives leads table xs d v =
+    Answers outside-step.ps outside-step.r outside-step-reads.Post (λ κs a. (now (a .0) ≡ leads) × (now (a .1 .0) ≡ table) × (now (a .1 .1 .0) ≡ xs) × (a .1 .1 .1 .0 ≡ d)) (λ κs. v)
 
-munch-in-at : (table xs : List ℕ) (m : Mode) → munch-in-gives table xs m (munchedBy table m xs)
-munch-in-at table xs m κs a x e p h = cc (p, h .0, h .1, h .2)
+outside-step-at : (leads table xs : List ℕ) (d : ℕ) → outside-step-gives leads table xs d (outsideBy leads table d xs)
+outside-step-at leads table xs d κs a x e p h = cc (p, h .0, h .1, h .2, h .3)
 
-pub word-has-the-kind-of-the-table : munch-in-gives (rowOfWord ("a" names lor) ++ replicate (tableSize - wordRow) 0) (ascii "a") outside (Lexeme lor 1 outside)
+pub word-has-the-kind-of-the-table : outside-step-gives leadTable (rowOfWord ("a" names lor) ++ replicate (tableSize - wordRow) 0) (ascii "a") 0 (Lexeme lor 1 outside)
 unfolding munching
-word-has-the-kind-of-the-table = munch-in-at _ _ _
+word-has-the-kind-of-the-table = outside-step-at _ _ _ _
 
-pub no-word-is-in-an-empty-table : munch-in-gives [] (ascii "or") outside (Lexeme identifier 2 outside)
+pub no-word-is-in-an-empty-table : outside-step-gives leadTable [] (ascii "or") 0 (Lexeme identifier 2 outside)
 unfolding munching
-no-word-is-in-an-empty-table = munch-in-at _ _ _
+no-word-is-in-an-empty-table = outside-step-at _ _ _ _
+
+pub word-goes-on-behind-its-colon : outside-step-gives leadTable [] (ascii "a:b") 0 (Lexeme metricIdentifier 3 outside)
+unfolding munching
+word-goes-on-behind-its-colon = outside-step-at _ _ _ _
+
+pub letter-is-white-where-its-lead-says-so : outside-step-gives (replicate 256 whiteLead) [] (ascii "a") 0 (Space outside)
+unfolding munching
+letter-is-white-where-its-lead-says-so = outside-step-at _ _ _ _
+
+abbrev brace-step-gives : List ℕ → List ℕ → ℕ → Step → Type 0
+brace-step-gives leads xs d v =
+    Answers brace-step.ps brace-step.r brace-step-reads.Post (λ κs a. (now (a .0) ≡ leads) × (now (a .1 .0) ≡ xs) × (a .1 .1 .0 ≡ d)) (λ κs. v)
+
+brace-step-at : (leads xs : List ℕ) (d : ℕ) → brace-step-gives leads xs d (braceBy leads d xs)
+brace-step-at leads xs d κs a x e p h = cc (p, h .0, h .1, h .2)
+
+pub word-in-braces-ends-before-a-colon : brace-step-gives leadTable (ascii "a1:") 0 (Lexeme identifier 2 (mode 0 Braces))
+unfolding munching
+word-in-braces-ends-before-a-colon = brace-step-at _ _ _
+
+pub digit-begins-nothing-in-braces : brace-step-gives leadTable (ascii "0") 0 (Refused 26 0)
+unfolding munching
+digit-begins-nothing-in-braces = brace-step-at _ _ _
+
+pub end-in-braces-is-told-apart : brace-step-gives leadTable [] 0 (Refused 27 0)
+unfolding munching
+end-in-braces-is-told-apart = brace-step-at _ _ _
+
+abbrev bracket-step-gives : List ℕ → ℕ → Bool → Bool → Step → Type 0
+bracket-step-gives xs d seen fresh v =
+    Answers bracket-step.ps bracket-step.r bracket-step-reads.Post (λ κs a. (now (a .0) ≡ xs) × (a .1 .0 ≡ d) × (a .1 .1 .0 ≡ seen) × (a .1 .1 .1 .0 ≡ fresh)) (λ κs. v)
+
+bracket-step-at : (xs : List ℕ) (d : ℕ) (seen fresh : Bool) → bracket-step-gives xs d seen fresh (munched (mode d (Brackets seen fresh)) xs)
+bracket-step-at xs d seen fresh κs a x e p h = cc (p, h .0, h .1, h .2, h .3)
+
+pub second-colon-is-refused : bracket-step-gives (ascii ":") 0 true false (Refused 28 0)
+unfolding munching
+second-colon-is-refused = bracket-step-at _ _ _ _
+
+pub space-behind-the-bracket-lets-a-colon-follow : bracket-step-gives (ascii " :") 0 false true (Space (mode 0 (Brackets false false)))
+unfolding munching
+space-behind-the-bracket-lets-a-colon-follow = bracket-step-at _ _ _ _
+
+abbrev leads-shows : ℕ → ℕ → Type 0
+leads-shows c v = Shows leads.ps leads.r leads-reads.Post (λ κs a. Unit {0}) (λ κs x. leadIn x c) v
+
+leads-at : (c : ℕ) → leads-shows c (leadIn leadTable c)
+leads-at c κs a x e p h = ap (λ (t : List ℕ). leadIn t c) p
+
+pub underscore-leads-as-a-letter : leads-shows (code "_") letterLead
+unfolding munching
+underscore-leads-as-a-letter = leads-at _
+
+pub at-leads-by-its-kind : leads-shows (code "@") atSign
+unfolding munching
+at-leads-by-its-kind = leads-at _
+
+pub vertical-tab-is-not-white : leads-shows 11 otherLead
+unfolding munching
+vertical-tab-is-not-white = leads-at _
 
 abbrev munch-gives : List ℕ → Mode → Step → Type 0
 munch-gives xs m v = Answers munch.ps munch.r munch-reads.Post (λ κs a. (now (a .0) ≡ xs) × (a .1 .0 ≡ m)) (λ κs. v)

@@ -1,5 +1,6 @@
 // One step of reading a query: what the bytes that are left begin with, by the mode that those before have led to.
 // Document 01's rows that refuse it are numbered in `refusals`.
+mod lead;
 mod refusals;
 mod second;
 mod signs;
@@ -8,18 +9,16 @@ pub mod word;
 use numeral::Numeral;
 use quoted::Quoted;
 use scan::byte;
-use scan::byte::Class;
+use token::Keyword;
 use token::kinds;
 ghost use mathlib.Core.Path.{_≡_};
 ghost use mathlib.Core.Bool.{true, false};
-ghost use Prim.Native.Nat.{ℕ, suc, _^_, _<_};
+ghost use Prim.Native.Nat.{_^_, _<_};
 ghost use lib.ListN.{length};
-ghost use Rattle.scan.specs.Byte.{peekAt, isSpace, isDigit, isQuote};
-ghost use Rattle.numeral.specs.declared.Numeral.the-variants.{Number};
-ghost use Rattle.quoted.specs.declared.Quoted.the-variants as quoting;
-ghost use Rattle.munch.specs.Word.{isWordStart};
-ghost use Rattle.munch.specs.Munch.{mode, deeper, numberBy, numberStep, dotStep, quotedStep, commentStep, rightParenStep, endStep, braceWord, colonStep, stepIn, munched};
-ghost use Rattle.munch.specs.steps.Lent.{wordStepBy, lentStep, munchedBy};
+ghost use Rattle.scan.specs.Byte.{peekAt};
+ghost use Rattle.munch.specs.Munch.{mode, deeper, numberBy, quotedBy, dotStep, commentStep, rightParenStep, endStep, colonStep, stepFor, munched};
+ghost use Rattle.munch.specs.steps.Leads.{leadTable};
+ghost use Rattle.munch.specs.steps.Lent.{quotedEnd, wordStepBy, braceWordBy, signStep, otherTable, braceSigns, outsideBy, braceBy};
 
 // What is open inside a query's parentheses: nothing, braces, or brackets; of these, whether their colon was seen, and whether they were just
 // opened.
@@ -76,49 +75,26 @@ fn deeper(depth: usize) -> usize
     if depth < usize::MAX { depth + 1 } else { depth }
 }
 
-// A duration, or neither that nor a number.
-fn duration_step(n: Numeral, mode: Mode) -> Step
-    requires { ⌜ ((length : ℕ) → n ≡ Number length → ⊥) ⌝ }
+// A number, a duration, or neither.
+fn number_by(n: Numeral, mode: Mode) -> Step
     ensures { λ r. ⌜ r ≡ numberBy mode n ⌝ }
 {
-    let Numeral::Duration(length) = n else {
-        return refused(refusals::NEITHER_NUMBER_NOR_DURATION, numeral::taken(n));
-    };
-    lexeme(kinds::T_DURATION, length, mode)
+    match n {
+        Numeral::Number(length) => lexeme(kinds::T_NUMBER, length, mode),
+        Numeral::Duration(length) => lexeme(kinds::T_DURATION, length, mode),
+        Numeral::Neither(at) => refused(refusals::NEITHER_NUMBER_NOR_DURATION, at),
+    }
 }
 
-// A number or a duration.
-fn number_step(s: &[u8], mode: Mode) -> Step
-    ensures { λ r. ⌜ r ≡ numberStep mode (now (s .entry)) ⌝ }
+// A string, or its refusal, one byte on for the opening sign.
+fn quoted_by(q: Quoted, mode: Mode) -> Step
+    requires { ⌜ quotedEnd q < 2 ^ 64 ⌝ }
+    ensures { λ r. ⌜ r ≡ quotedBy mode q ⌝ }
 {
-    let n = numeral::scan_number(s);
-    let Numeral::Number(length) = n else {
-        return duration_step(n, mode);
-    };
-    lexeme(kinds::T_NUMBER, length, mode)
-}
-
-// The refusal of a string, one byte on for the opening sign.
-fn string_refused(q: Quoted) -> Step
-    requires { ⌜ ((number at : ℕ) → q ≡ quoting.Refused number at → suc at < 2 ^ 64) ⌝ }
-    ensures { λ r. ⌜ ((number at : ℕ) → q ≡ quoting.Refused number at → r ≡ Step.Refused number (suc at)) ⌝ }
-{
-    let Quoted::Refused { number, at } = q else {
-        return refused(utf8::NO_REFUSAL, 0);
-    };
-    refused(number, at + 1)
-}
-
-// A string.
-fn quoted_step(s: &[u8], mode: Mode) -> Step
-    requires { ⌜ isQuote (peekAt (now s) 0) ≡ true ⌝ }
-    ensures { λ r. ⌜ r ≡ quotedStep mode (now (s .entry)) ⌝ }
-{
-    let q = quoted::accept_string(s[0], &s[1..]);
-    let Quoted::Closed(n) = q else {
-        return string_refused(q);
-    };
-    lexeme(kinds::T_STRING, n + 1, mode)
+    match q {
+        Quoted::Closed(n) => lexeme(kinds::T_STRING, n + 1, mode),
+        Quoted::Refused { number, at } => refused(number, at + 1),
+    }
 }
 
 // A comment.
@@ -130,23 +106,27 @@ fn comment_step(s: &[u8]) -> Step
     Step::Comment { length }
 }
 
-// A word outside braces, by a table of words.
-fn word_step(words: &[u8], s: &[u8], mode: Mode) -> Step
-    requires { ⌜ 0 < length (now s) ⌝ }
-    ensures { λ r. ⌜ r ≡ wordStepBy (now (words .entry)) mode (now (s .entry)) ⌝ }
+// A word outside braces, by the tables of leads and words. It has a colon where it goes on behind the letters and digits that it begins with.
+fn word_step(leads: &[u8; lead::BYTES], words: &[u8], s: &[u8], mode: Mode) -> Step
+    ensures { λ r. ⌜ r ≡ wordStepBy (now (leads .entry)) (now (words .entry)) mode (now (s .entry)) ⌝ }
 {
-    let n = scan::run_end(Class::Word, s, 1);
+    let label = lead::run_end(leads, lead::DIGIT, s, 0);
+    let n = lead::run_end(leads, lead::COLON, s, label);
+    if label < n {
+        return lexeme(kinds::T_METRIC_IDENTIFIER, n, mode);
+    }
     let own = token::keyword_in(words, &s[..n]);
-    let kind = word::kind_by(word::rule_by(own, s, n));
-    lexeme(kind, n, mode)
+    let Keyword::Kind(kind) = own else {
+        return lexeme(kinds::T_IDENTIFIER, n, mode);
+    };
+    lexeme(word::kind_by(word::table_rule(kind, s, n)), n, mode)
 }
 
-// A word in braces.
-fn brace_word(s: &[u8], mode: Mode) -> Step
-    requires { ⌜ 0 < length (now s) ⌝ }
-    ensures { λ r. ⌜ r ≡ braceWord mode (now (s .entry)) ⌝ }
+// A word in braces, by the table of leads.
+fn brace_word(leads: &[u8; lead::BYTES], s: &[u8], mode: Mode) -> Step
+    ensures { λ r. ⌜ r ≡ braceWordBy (now (leads .entry)) mode (now (s .entry)) ⌝ }
 {
-    let n = scan::run_end(Class::AlphaNumeric, s, 1);
+    let n = lead::run_end(leads, lead::DIGIT, s, 0);
     let kind = word::kind_by(word::brace_rule(s, n));
     lexeme(kind, n, mode)
 }
@@ -163,7 +143,7 @@ fn dot_step(s: &[u8], mode: Mode) -> Step
     ensures { λ r. ⌜ r ≡ dotStep mode (now (s .entry)) ⌝ }
 {
     if byte::is_digit(byte::peek(s, 1)) {
-        return number_step(s, mode);
+        return number_by(numeral::scan_number(s), mode);
     }
     second::if_next(
         s,
@@ -204,88 +184,71 @@ fn end_step(depth: usize) -> Step
     refused(refusals::UNCLOSED_PAREN, 0)
 }
 
-// A step outside that a sign begins, the end, or another character.
-fn sign_step(s: &[u8], c: usize, depth: usize) -> Step
-    requires { ⌜ c ≡ peekAt (now s) 0 ⌝ }
-    requires { ⌜ (isWordStart c ≡ false) × (isSpace c ≡ false) × (isQuote c ≡ false) × (isDigit c ≡ false) ⌝ }
-    ensures { λ r. ⌜ r ≡ stepIn depth Inside.Nothing c (now (s .entry)) ⌝ }
+// A step outside that a sign begins which is whole with its one byte, by its kind.
+fn sign_step(kind: u16, depth: usize) -> Step
+    ensures { λ r. ⌜ r ≡ signStep kind depth ⌝ }
 {
-    let here = in_mode(depth, Inside::Nothing);
-    match c {
-        byte::END => end_step(depth),
+    match kind {
+        kinds::T_LEFT_PAREN => lexeme(kind, 1, in_mode(deeper(depth), Inside::Nothing)),
+        kinds::T_RIGHT_PAREN => right_paren(depth),
+        kinds::T_LEFT_BRACE => lexeme(kind, 1, in_mode(depth, Inside::Braces)),
+        kinds::T_LEFT_BRACKET => lexeme(kind, 1, just_opened(depth)),
+        _ => lexeme(kind, 1, in_mode(depth, Inside::Nothing)),
+    }
+}
+
+// A step outside that a sign begins which others may go on with, or that is refused.
+fn other_step(s: &[u8], here: Mode) -> Step
+    requires { ⌜ 0 < length (now s) ⌝ }
+    ensures { λ r. ⌜ r ≡ stepFor (otherTable here) 19 (peekAt (now (s .entry)) 0) (now (s .entry)) ⌝ }
+{
+    match s[0] as usize {
         signs::HASH => comment_step(s),
         signs::DOT => dot_step(s, here),
-        signs::LEFT_PAREN => lexeme(
-            kinds::T_LEFT_PAREN,
-            1,
-            in_mode(deeper(depth), Inside::Nothing),
-        ),
-        signs::RIGHT_PAREN => right_paren(depth),
-        signs::LEFT_BRACE => lexeme(kinds::T_LEFT_BRACE, 1, in_mode(depth, Inside::Braces)),
         signs::RIGHT_BRACE => refused(refusals::UNMATCHED_BRACE, 0),
-        signs::LEFT_BRACKET => lexeme(kinds::T_LEFT_BRACKET, 1, just_opened(depth)),
         signs::RIGHT_BRACKET => refused(refusals::UNMATCHED_BRACKET, 0),
-        signs::COMMA => lexeme(kinds::T_COMMA, 1, here),
         signs::EQUALS => second::equals_step(s, here),
-        signs::PLUS => lexeme(kinds::T_ADD, 1, here),
-        signs::MINUS => lexeme(kinds::T_SUB, 1, here),
-        signs::STAR => lexeme(kinds::T_MUL, 1, here),
-        signs::SLASH => lexeme(kinds::T_DIV, 1, here),
-        signs::PERCENT => lexeme(kinds::T_MOD, 1, here),
-        signs::CARET => lexeme(kinds::T_POW, 1, here),
         signs::BANG => second::bang_step(s, here),
         signs::LESS => second::compare_step(s, kinds::T_LTE, kinds::T_LSS, here),
         signs::GREATER => second::compare_step(s, kinds::T_GTE, kinds::T_GTR, here),
-        signs::AT => lexeme(kinds::T_AT, 1, here),
         _ => refused(refusals::OTHER, 0),
     }
 }
 
-// Whether a byte begins a word outside braces.
-fn is_word_start(c: usize) -> bool
-    ensures { λ r. ⌜ r ≡ isWordStart c ⌝ }
-{
-    byte::is_alpha(c) || c == signs::COLON
-}
-
-// A step outside braces and brackets.
-pub fn outside_step(words: &[u8], s: &[u8], depth: usize) -> Step
-    ensures { λ r. ⌜ r ≡ lentStep (now (words .entry)) depth Inside.Nothing (now (s .entry)) ⌝ }
+// A step outside braces and brackets, by the tables of leads and words.
+pub fn outside_step(leads: &[u8; lead::BYTES], words: &[u8], s: &[u8], depth: usize) -> Step
+    ensures { λ r. ⌜ r ≡ outsideBy (now (leads .entry)) (now (words .entry)) depth (now (s .entry)) ⌝ }
 {
     let here = in_mode(depth, Inside::Nothing);
-    let c = byte::peek(s, 0);
-    if is_word_start(c) {
-        return word_step(words, s, here);
+    if s.len() == 0 {
+        return end_step(depth);
     }
-    if byte::is_space(c) {
+    let lead = leads[s[0] as usize];
+    if lead == lead::WHITE {
         return Step::Space { mode: here };
     }
-    if byte::is_quote(c) {
-        return quoted_step(s, here);
+    if lead::is_sign(lead) {
+        return sign_step(lead as u16, depth);
     }
-    if byte::is_digit(c) {
-        return number_step(s, here);
+    if lead::starts_word(lead) {
+        return word_step(leads, words, s, here);
     }
-    sign_step(s, c, depth)
+    if lead == lead::DIGIT {
+        return number_by(numeral::scan_number(s), here);
+    }
+    if lead == lead::QUOTE {
+        return quoted_by(quoted::accept_string(s[0], &s[1..]), here);
+    }
+    other_step(s, here)
 }
 
-// A step in braces.
-pub fn brace_step(s: &[u8], depth: usize) -> Step
-    ensures { λ r. ⌜ r ≡ munched (mode depth Inside.Braces) (now (s .entry)) ⌝ }
+// A step in braces that a sign begins, or that is refused.
+fn brace_sign(s: &[u8], depth: usize) -> Step
+    requires { ⌜ 0 < length (now s) ⌝ }
+    ensures { λ r. ⌜ r ≡ stepFor (braceSigns depth) 26 (peekAt (now (s .entry)) 0) (now (s .entry)) ⌝ }
 {
     let here = in_mode(depth, Inside::Braces);
-    let c = byte::peek(s, 0);
-    if byte::is_alpha(c) {
-        return brace_word(s, here);
-    }
-    if byte::is_space(c) {
-        return Step::Space { mode: here };
-    }
-    if byte::is_quote(c) {
-        return quoted_step(s, here);
-    }
-    match c {
-        byte::END => refused(refusals::END_IN_BRACES, 0),
+    match s[0] as usize {
         signs::HASH => comment_step(s),
         signs::LEFT_BRACE => refused(refusals::BRACE_IN_BRACES, 0),
         signs::RIGHT_BRACE => lexeme(kinds::T_RIGHT_BRACE, 1, in_mode(depth, Inside::Nothing)),
@@ -294,6 +257,27 @@ pub fn brace_step(s: &[u8], depth: usize) -> Step
         signs::BANG => second::brace_bang(s, here),
         _ => refused(refusals::OTHER_IN_BRACES, 0),
     }
+}
+
+// A step in braces, by the table of leads.
+pub fn brace_step(leads: &[u8; lead::BYTES], s: &[u8], depth: usize) -> Step
+    ensures { λ r. ⌜ r ≡ braceBy (now (leads .entry)) depth (now (s .entry)) ⌝ }
+{
+    let here = in_mode(depth, Inside::Braces);
+    if s.len() == 0 {
+        return refused(refusals::END_IN_BRACES, 0);
+    }
+    let lead = leads[s[0] as usize];
+    if lead == lead::WHITE {
+        return Step::Space { mode: here };
+    }
+    if lead == lead::LETTER {
+        return brace_word(leads, s, here);
+    }
+    if lead == lead::QUOTE {
+        return quoted_by(quoted::accept_string(s[0], &s[1..]), here);
+    }
+    brace_sign(s, depth)
 }
 
 // A colon in brackets.
@@ -324,7 +308,7 @@ pub fn bracket_step(s: &[u8], depth: usize, seen: bool, fresh: bool) -> Step
         return Step::Space { mode: here };
     }
     if byte::is_digit(c) {
-        return number_step(s, here);
+        return number_by(numeral::scan_number(s), here);
     }
     match c {
         byte::END => refused(refusals::END_IN_BRACKETS, 0),
@@ -335,22 +319,23 @@ pub fn bracket_step(s: &[u8], depth: usize, seen: bool, fresh: bool) -> Step
     }
 }
 
-// What the bytes that are left begin with, by a table of words.
-pub fn munch_in(words: &[u8], s: &[u8], mode: Mode) -> Step
-    ensures { λ r. ⌜ r ≡ munchedBy (now (words .entry)) mode (now (s .entry)) ⌝ }
+// The table of leads, to be lent for as many steps as there are.
+pub fn leads() -> [u8; lead::BYTES]
+    ensures { λ r. ⌜ r ≡ leadTable ⌝ }
 {
-    let inside = mode.inside;
-    match inside {
-        Inside::Nothing => outside_step(words, s, mode.depth),
-        Inside::Braces => brace_step(s, mode.depth),
-        Inside::Brackets { seen, fresh } => bracket_step(s, mode.depth, seen, fresh),
-    }
+    lead::LEADS
 }
 
 // What the bytes that are left begin with.
 pub fn munch(s: &[u8], mode: Mode) -> Step
     ensures { λ r. ⌜ r ≡ munched mode (now (s .entry)) ⌝ }
 {
+    let leads = leads();
     let words = token::words();
-    munch_in(&words, s, mode)
+    let inside = mode.inside;
+    match inside {
+        Inside::Nothing => outside_step(&leads, &words, s, mode.depth),
+        Inside::Braces => brace_step(&leads, s, mode.depth),
+        Inside::Brackets { seen, fresh } => bracket_step(s, mode.depth, seen, fresh),
+    }
 }

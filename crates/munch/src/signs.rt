@@ -1,8 +1,4 @@
-// The signs of a query, as first bytes.
-pub const LEFT_PAREN: usize = b'(' as usize;
-
-pub const RIGHT_PAREN: usize = b')' as usize;
-
+// The signs that a step is told by as first bytes.
 pub const LEFT_BRACE: usize = b'{' as usize;
 
 pub const RIGHT_BRACE: usize = b'}' as usize;
@@ -12,20 +8,6 @@ pub const LEFT_BRACKET: usize = b'[' as usize;
 pub const RIGHT_BRACKET: usize = b']' as usize;
 
 pub const COMMA: usize = b',' as usize;
-
-pub const PLUS: usize = b'+' as usize;
-
-pub const MINUS: usize = b'-' as usize;
-
-pub const STAR: usize = b'*' as usize;
-
-pub const SLASH: usize = b'/' as usize;
-
-pub const PERCENT: usize = b'%' as usize;
-
-pub const CARET: usize = b'^' as usize;
-
-pub const AT: usize = b'@' as usize;
 
 pub const EQUALS: usize = b'=' as usize;
 

@@ -4,6 +4,7 @@ use scan::byte::Class;
 use token::Keyword;
 use token::kinds;
 ghost use mathlib.Core.Path.{_≡_};
+ghost use Rattle.token.specs.declared.Keyword.the-variants.{Kind};
 ghost use Rattle.munch.specs.Word.{isFill, hasColon, pastWhite, ruleBy, isOr, braceRule, kindBy};
 
 // `or` before a space in braces, any other word in braces; outside braces a word of the table that is no fill word, a fill word with `(`
@@ -45,6 +46,19 @@ fn past_white(s: &[u8], n: usize) -> usize
     scan::run_end(Class::Space, s, n)
 }
 
+// The rule of a word of the table outside braces, by its kind.
+pub fn table_rule(kind: u16, s: &[u8], n: usize) -> Rule
+    ensures { λ r. ⌜ r ≡ ruleBy (Kind kind) (now (s .entry)) n ⌝ }
+{
+    if !is_fill(kind) {
+        return Rule::Table(kind);
+    }
+    if byte::peek(s, past_white(s, n)) == b'(' as usize {
+        return Rule::FillCalled(kind);
+    }
+    Rule::FillAlone
+}
+
 // The rule of a word outside braces, by the kind that it has of its own.
 pub fn rule_by(own: Keyword, s: &[u8], n: usize) -> Rule
     ensures { λ r. ⌜ r ≡ ruleBy own (now (s .entry)) n ⌝ }
@@ -55,13 +69,7 @@ pub fn rule_by(own: Keyword, s: &[u8], n: usize) -> Rule
         }
         return Rule::Plain;
     };
-    if !is_fill(kind) {
-        return Rule::Table(kind);
-    }
-    if byte::peek(s, past_white(s, n)) == b'(' as usize {
-        return Rule::FillCalled(kind);
-    }
-    Rule::FillAlone
+    table_rule(kind, s, n)
 }
 
 // Whether a word is `or` in any case, with a space next.

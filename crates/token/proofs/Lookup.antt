@@ -2,10 +2,11 @@
 -- (`led`); a word that is empty or longer than any is none, and so is one with a character that is not ASCII, so that it may be looked for by its bytes
 -- (`by-bytes` of utf8).
 use Prim.Native.Nat.{ℕ, zero, suc, _+_, _-_, _*_, _%_, _≤_, _<_}
+use Prim.Native.Char.{code}
 use native.Mathlib.Nat.{add-zero, le-of-suc-le-suc, not-suc-le-zero, mod-lt}
 use native.Mathlib.Omega.{arith}
 use native.Mathlib.Decide.{ℕ-discrete, decLt}
-use mathlib.Core.Bool.{true, false, cond, _&&_, true≢false}
+use mathlib.Core.Bool.{true, false, cond, _&&_, _||_, true≢false}
 use mathlib.Core.List.{List, [], _∷_, _++_, map, append-assoc}
 use mathlib.Core.Logic.{_⊎_, inl, inr}
 use mathlib.Core.Path.{_≡_, refl, sym, ap, _∙_}
@@ -13,10 +14,10 @@ use lib.Dec.{eqb, ltb}
 use lib.ListN.{length, getD, take, length-append, length-map}
 use lib.Seq.{take-at, drop-at, drop-drop, getD-at, getD-append-add, take-append-le}
 use borrow.Author.Tests.{eq-eqb, ne-eqb, le-ltb, lt-ltb}
-use Rattle.scan.specs.Byte.{lowered}
-use Rattle.scan.specs.Text.{sameText}
+use Rattle.scan.specs.Byte.{isWithin, lowered}
+use Rattle.scan.specs.Text.{sameText, has}
 use Rattle.proving.proofs.Choice.{either, and-left, and-right}
-use Rattle.proving.proofs.Tests.{tests-eq, tests-lt, tests-or}
+use Rattle.proving.proofs.Tests.{itself, tests-eq, tests-lt, tests-or}
 use Rattle.scan.proofs.Same.{same-not, same-is-equal}
 use Rattle.utf8.specs.laws.Ascii.{isAscii}
 use Rattle.utf8.proofs.Ascii.{by-bytes, lowered-other}
@@ -25,10 +26,10 @@ use Rattle.token.specs.declared.Keyword.the-variants.{Kind, Nothing}
 use Rattle.token.specs.steps.Padded.{padded}
 use Rattle.token.proofs.Padding.{padded-length, padded-take}
 use Rattle.token.specs.Words.{KindText, _names_, words, kindIn, keywordOf}
-use Rattle.token.specs.laws.Words.{wordAt, TableFinds}
+use Rattle.token.specs.laws.Words.{wordAt, TableFinds, ColonInNone}
 use Rattle.token.specs.steps.WordRows.{wordCount, widestWord, wordRow, slotsFrom, slotCount, tableSize, wordFiller, rowOfWord, tableOf, firstWeight, slotOf, rowFor, slotsOf, wordTable, isRow, rowIn, numberIn, foundAt, isOutOfTable, keywordIn}
 use Rattle.token.proofs.Every.{every, every-at}
-use Rattle.token.proofs.Table.{isEntry, some, short, plain, counted, entries, slot-leads, word-found, entry-found, none-found}
+use Rattle.token.proofs.Table.{isEntry, some, short, plain, whole, counted, entries, slot-leads, word-found, entry-found, none-found}
 
 module _ (e : KindText) (h : length (e .text) ≤ widestWord) where
   text-length : length (padded wordFiller (e .text)) ≡ widestWord
@@ -121,14 +122,19 @@ module _ (w : List ℕ) where
           rw (lt-ltb number wordCount l, row-is-word l, row-is (wordAt number) short-one w, kind-of (wordAt number) short-one)
           (either (λ k. k ≡ kindIn words w) (sameText w (wordAt number .text)) (λ s. sym (entry-found w number (omega (arith, counted)) s)) (λ s. sym (none-found w (λ i h t. let k : i < wordCount = omega (arith, counted) in true≢false (sym t ∙ rw (← led i k t) s)))))
 
-pub table-finds : TableFinds
-unfolding keywordIn keywordOf
-table-finds xs = searched ∙ by-bytes Keyword Nothing (λ ys. kindIn words (map lowered ys)) other-none xs
+-- a word is looked for by its bytes
+found-by-bytes : (xs : List ℕ) → kindIn words (map lowered xs) ≡ keywordOf xs
+unfolding keywordOf
+found-by-bytes = by-bytes Keyword Nothing (λ ys. kindIn words (map lowered ys)) other-none
   where
     other-none : (ys : List ℕ) → isAscii ys ≡ false → kindIn words (map lowered ys) ≡ Nothing
     other-none ys a =
         word-found (map lowered ys) (λ k. k ≡ Nothing) refl (λ e t s. absurd (true≢false (sym s ∙ lowered-other ys (e .text) a (plain e t))))
 
+pub table-finds : TableFinds
+unfolding keywordIn
+table-finds xs = searched ∙ found-by-bytes xs
+  where
     none-empty : length xs ≡ 0 → kindIn words (map lowered xs) ≡ Nothing
     none-empty z = word-found (map lowered xs) (λ k. k ≡ Nothing) refl (λ e t s. absurd (omega (arith, some e t, ap length (same-is-equal (map lowered xs) (e .text) .0 s), length-map xs lowered)))
 
@@ -145,3 +151,18 @@ table-finds xs = searched ∙ by-bytes Keyword Nothing (λ ys. kindIn words (map
         go (inl z) = none-empty z
         go (inr (inl l)) = none-long l
         go (inr (inr l)) = absurd (omega (arith, table-length))
+
+-- lowering keeps a colon, and no text of a row has one
+colon-stays : (xs : List ℕ) → has (code ":") xs ≡ true → has (code ":") (map lowered xs) ≡ true
+unfolding has lowered isWithin
+colon-stays [] h = h
+colon-stays (x ∷ xs) h = go (tests-or (tests-eq x (code ":")) (itself (has (code ":") xs)) .0 h) (colon-stays xs)
+  where
+    go : (x ≡ code ":") ⊎ (has (code ":") xs ≡ true) → (has (code ":") xs ≡ true → has (code ":") (map lowered xs) ≡ true) → eqb (lowered x) (code ":") || has (code ":") (map lowered xs) ≡ true
+    go (inl e) f = rw e
+    go (inr e) f = tests-or (itself (eqb (lowered x) (code ":"))) (itself (has (code ":") (map lowered xs))) .1 (inr (f e))
+
+pub colon-in-none : ColonInNone
+colon-in-none xs h =
+    sym (found-by-bytes xs)
+    ∙ word-found (map lowered xs) (λ k. k ≡ Nothing) refl (λ e t s. absurd (true≢false (sym (colon-stays xs h) ∙ rw (same-is-equal (map lowered xs) (e .text) .0 s) (whole e t))))

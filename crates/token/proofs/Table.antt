@@ -1,15 +1,16 @@
--- The table of words, by one test that the check computes: there are 35 entries, each text is some bytes, short and ASCII, each kind has 16 bits,
--- each text is unlike each that follows, and the slot of each leads to it. So at most one entry has a word for its text, the first that a search finds is
--- the only one, and a word that has an entry finds it by its slot.
+-- The table of words, by one test that the check computes: there are 35 entries, each text is some bytes, short, ASCII and without a colon, each
+-- kind has 16 bits, each text is unlike each that follows, and the slot of each leads to it. So at most one entry has a word for its text, the
+-- first that a search finds is the only one, and a word that has an entry finds it by its slot.
 use Prim.Native.Nat.{ℕ, _^_, _≤_, _<_}
+use Prim.Native.Char.{code}
 use native.Mathlib.Omega.{arith}
-use mathlib.Core.Bool.{Bool, true, _&&_, not, true≢false}
+use mathlib.Core.Bool.{Bool, true, false, _&&_, not, true≢false}
 use mathlib.Core.List.{List}
 use mathlib.Core.Path.{_≡_, refl, sym, _∙_}
 use lib.Dec.{eqb, leb, ltb}
 use lib.ListN.{length}
 use borrow.Author.Tests.{leb-true, ltb-true, eqb-true, not-true}
-use Rattle.scan.specs.Text.{sameText}
+use Rattle.scan.specs.Text.{sameText, has}
 use Rattle.scan.proofs.Same.{same-is-equal}
 use Rattle.proving.proofs.Below.{allBelow, below}
 use Rattle.proving.proofs.Choice.{and-left, and-right}
@@ -22,7 +23,7 @@ use Rattle.token.specs.laws.Words.{wordAt, OneEntry, EntryFound, NoneFou
 use Rattle.token.proofs.Every.{every, distinct, Search, each-found, none-hit, one-hit, hit-found}
 
 abbrev pub isEntry : KindText → Bool
-isEntry e = (ltb 0 (length (e .text)) && leb (length (e .text)) widestWord) && (isAscii (e .text) && ltb (e .kind) (2 ^ 16))
+isEntry e = (ltb 0 (length (e .text)) && leb (length (e .text)) widestWord) && (isAscii (e .text) && (ltb (e .kind) (2 ^ 16) && not (has (code ":") (e .text))))
 
 module _ (e : KindText) (t : isEntry e ≡ true) where
   abbrev sized : Bool
@@ -38,7 +39,10 @@ module _ (e : KindText) (t : isEntry e ≡ true) where
   plain = and-left _ _ (and-right sized _ t)
 
   pub small : e .kind < 2 ^ 16
-  small = ltb-true _ _ (and-right (isAscii (e .text)) _ (and-right sized _ t))
+  small = ltb-true _ _ (and-left _ _ (and-right (isAscii (e .text)) _ (and-right sized _ t)))
+
+  pub whole : has (code ":") (e .text) ≡ false
+  whole = not-true _ (and-right (ltb (e .kind) (2 ^ 16)) _ (and-right (isAscii (e .text)) _ (and-right sized _ t)))
 
 -- the search for a word, which is not both of unlike texts
 abbrev unlike : KindText → KindText → Bool
@@ -60,7 +64,7 @@ abbrev isLed : ℕ → Bool
 isLed i = eqb (rowFor (slotOf (wordAt i .text)) 0 words) i
 
 tested : eqb (length words) wordCount && (every isEntry words && (distinct unlike words && allBelow isLed wordCount)) ≡ true
-unfolding words sameText rowFor slotOf
+unfolding words sameText has rowFor slotOf
 tested = refl
 
 pub counted : length words ≡ wordCount

@@ -1,136 +1,108 @@
--- Each way out knows what the tests said of the first byte, or which byte it is, and so the row of the table; the last that no row is for it.
+-- Each way out knows what the tests said of the first byte's lead, or that there is none.
+use Prim.Native.Nat.{_<_, _≤_}
 use native.Mathlib.Omega.{arith}
-use borrow.Author.Tests.{ne-eqb}
-use mathlib.Core.Path.{refl, _∙_}
+use mathlib.Core.Path.{_≡_, _∙_}
 use denote.Ref.{now}
-use Rattle.scan.specs.declared.byte.Class.the-variants.{Alpha}
-use Rattle.scan.specs.Byte.{isWithin, isSpace, isAlpha, isQuote, isIn}
-use Rattle.scan.proofs.Edges.{ascii-inside, class-ascii}
-use Rattle.munch.specs.Munch.{braceTable, stepIn, munched}
+use lib.ListN.{length, getD, List·getD-eq-default}
+use borrow.Author.Tests.{eq-eqb, ne-eqb}
+use Rattle.proving.proofs.Lists.{getD-any}
+use Rattle.scan.specs.Byte.{end}
+use Rattle.munch.proofs.Ends.{string-there, string-ends}
+use Rattle.munch.specs.Munch.{quotedStep}
+use Rattle.munch.specs.steps.Lent.{braceLed, braceBy}
 use borrow.Author.Needs.{needs}
 use Rattle.munch.proofs.brace_step.Statement.{statement}
 use Rattle.munch.proofs.brace_step.Tie as tie
 
+-- there is a first byte, and its lead decides
+module _ (c : tie.After-shared-slice-known2) where
+  there : 0 < length (now (c .before .before .before .before .args .s))
+  there = omega arith
+
+  led : let a = c .before .before .before .before .args in braceBy (now (a .leads)) (a .depth) (now (a .s)) ≡ braceLed (now (a .leads)) (a .depth) (now (a .s)) (getD (now (a .leads)) (getD (now (a .s)) 0 0) 0)
+  unfolding braceBy
+  led =
+      let s = now (c .before .before .before .before .args .s) in
+      rw (getD-any s 0 end 0 there, ne-eqb (getD s 0 0) end (omega (arith, c .shared-slice-known2 .given 0)))
+
 in-mode-requires : tie.Need-in-mode-requires
 in-mode-requires c κs = search needs
-
-peek-requires : tie.Need-peek-requires
-peek-requires c κs = search needs
-
-is-alpha-requires : tie.Need-is-alpha-requires
-is-alpha-requires c κs = search needs
-
-brace-word-requires : tie.Need-brace-word-requires
-brace-word-requires c κs = unfold isIn in ascii-inside (now (c .before .before .before .before .before .args .s)) 0 (class-ascii Alpha refl _ (rw (← c .before .before .peek .ensures, ← c .before .is-alpha .ensures, c .if1 .taken)))
-
-returns : tie.Need-returns
-unfolding munched stepIn braceTable
-returns c = c .brace-word .ensures ∙ rw (c .before .before .before .before .in-mode .ensures, ← c .before .before .before .peek .ensures, ← c .before .before .is-alpha .ensures, c .before .if1 .taken)
-
-is-space-requires : tie.Need-is-space-requires
-is-space-requires c κs = search needs
-
-returns-2 : tie.Need-returns-2
-unfolding munched stepIn braceTable
-returns-2 c = rw (c .before .before .before .before .before .in-mode .ensures, ← c .before .before .before .before .peek .ensures, ← c .before .before .before .is-alpha .ensures, c .before .before .if1 .left, ← c .before .is-space .ensures, c .if2 .taken)
-
-is-quote-requires : tie.Need-is-quote-requires
-is-quote-requires c κs = search needs
-
-quoted-step-requires : tie.Need-quoted-step-requires
-quoted-step-requires c κs = rw (← c .before .before .before .before .before .before .peek .ensures, ← c .before .is-quote .ensures, c .if3 .taken)
-
-returns-3 : tie.Need-returns-3
-unfolding munched stepIn braceTable
-returns-3 c = c .quoted-step .ensures ∙ rw (c .before .before .before .before .before .before .before .before .in-mode .ensures, ← c .before .before .before .before .before .before .before .peek .ensures, ← c .before .before .before .before .before .before .is-alpha .ensures, c .before .before .before .before .before .if1 .left, ← c .before .before .before .before .is-space .ensures, c .before .before .before .if2 .left, ← c .before .before .is-quote .ensures, c .before .if3 .taken)
 
 refused-requires : tie.Need-refused-requires
 refused-requires c κs = search needs
 
-comment-step-requires : tie.Need-comment-step-requires
-comment-step-requires c κs = ascii-inside (now (c .before .before .before .before .before .before .before .before .before .before .args .s)) 0 (omega (arith, c .match .keys2, c .before .before .before .before .before .before .before .peek .ensures))
+returns : tie.Need-returns
+unfolding braceBy
+returns c = let l : length (now (c .before .before .before .before .args .s)) ≤ 0 = omega arith in c .refused .ensures ∙ rw (List·getD-eq-default (now (c .before .before .before .before .args .s)) end l)
 
-refused-requires-2 : tie.Need-refused-requires-2
-refused-requires-2 c κs = search needs
+shared-slice-read-lead : tie.Need-shared-slice-read-lead
+shared-slice-read-lead c = search needs
 
-in-mode-requires-2 : tie.Need-in-mode-requires-2
-in-mode-requires-2 c κs = search needs
+cast-lead : tie.Need-cast-lead
+cast-lead c = omega (arith, c .shared-slice-known2 .given 0)
 
-lexeme-requires : tie.Need-lexeme-requires
-lexeme-requires c κs = search needs
+element-copy-out-lead : tie.Need-element-copy-out-lead
+element-copy-out-lead c = omega (arith, c .shared-slice-known2 .given 0)
 
-lexeme-requires-2 : tie.Need-lexeme-requires-2
-lexeme-requires-2 c κs = search needs
+returns-2 : tie.Need-returns-2
+unfolding braceLed
+returns-2 c = rw (led (c .before .before), c .before .before .before .before .in-mode .ensures, eq-eqb _ _ (c .if2 .taken))
 
-brace-equals-requires : tie.Need-brace-equals-requires
-brace-equals-requires c κs = search needs
+brace-word-requires : tie.Need-brace-word-requires
+brace-word-requires c κs = search needs
 
-brace-bang-requires : tie.Need-brace-bang-requires
-brace-bang-requires c κs = search needs
+returns-3 : tie.Need-returns-3
+unfolding braceLed
+returns-3 c = c .brace-word .ensures ∙ rw (led (c .before .before .before .before), c .before .before .before .before .before .before .in-mode .ensures, ne-eqb _ _ (c .before .before .if2 .left), eq-eqb _ _ (c .before .if3 .taken))
 
-refused-requires-3 : tie.Need-refused-requires-3
-refused-requires-3 c κs = search needs
+shared-slice-read-accept-string : tie.Need-shared-slice-read-accept-string
+shared-slice-read-accept-string c = search needs
+
+sub-accept-string : tie.Need-sub-accept-string
+sub-accept-string c = search needs
+
+part-accept-string-start : tie.Need-part-accept-string-start
+part-accept-string-start c = search needs
+
+part-accept-string-end : tie.Need-part-accept-string-end
+part-accept-string-end c = search needs
+
+accept-string-requires : tie.Need-accept-string-requires
+accept-string-requires c κs = search needs
+
+quoted-by-requires : tie.Need-quoted-by-requires
+quoted-by-requires c κs = let s = now (c .before .before .before .before .before .before .before .before .before .before .before .args .s) in rw (c .accept-string .ensures) (omega (arith, string-ends s (there (c .before .before .before .before .before .before .before))))
 
 returns-4 : tie.Need-returns-4
-unfolding munched stepIn braceTable isQuote isAlpha isSpace isWithin
-returns-4 c = c .refused .ensures ∙ rw (← c .before .before .before .before .before .before .before .before .peek .ensures, c .before .match .keys1)
+unfolding braceLed quotedStep
+returns-4 c = c .quoted-by .ensures ∙ rw (c .before .accept-string .ensures, string-there (now (c .before .before .before .before .before .before .before .before .before .before .before .before .args .s)) (there (c .before .before .before .before .before .before .before .before)), led (c .before .before .before .before .before .before .before .before), c .before .before .before .before .before .before .before .before .before .before .in-mode .ensures, ne-eqb _ _ (c .before .before .before .before .before .before .if2 .left), ne-eqb _ _ (c .before .before .before .before .before .if3 .left), eq-eqb _ _ (c .before .before .before .before .if4 .taken))
+
+brace-sign-requires : tie.Need-brace-sign-requires
+brace-sign-requires c κs = search needs
 
 returns-5 : tie.Need-returns-5
-unfolding munched stepIn braceTable isQuote isAlpha isSpace isWithin
-returns-5 c = c .comment-step .ensures ∙ rw (← c .before .before .before .before .before .before .before .before .peek .ensures, c .before .match .keys2)
-
-returns-6 : tie.Need-returns-6
-unfolding munched stepIn braceTable isQuote isAlpha isSpace isWithin
-returns-6 c = c .refused2 .ensures ∙ rw (← c .before .before .before .before .before .before .before .before .peek .ensures, c .before .match .keys3)
-
-returns-7 : tie.Need-returns-7
-unfolding munched stepIn braceTable isQuote isAlpha isSpace isWithin
-returns-7 c = c .lexeme .ensures ∙ rw (c .before .in-mode2 .ensures, ← c .before .before .before .before .before .before .before .before .before .peek .ensures, c .before .before .match .keys4)
-
-returns-8 : tie.Need-returns-8
-unfolding munched stepIn braceTable isQuote isAlpha isSpace isWithin
-returns-8 c = c .lexeme2 .ensures ∙ rw (c .before .before .before .before .before .before .before .before .before .in-mode .ensures, ← c .before .before .before .before .before .before .before .before .peek .ensures, c .before .match .keys5)
-
-returns-9 : tie.Need-returns-9
-unfolding munched stepIn braceTable isQuote isAlpha isSpace isWithin
-returns-9 c = c .brace-equals .ensures ∙ rw (c .before .before .before .before .before .before .before .before .before .in-mode .ensures, ← c .before .before .before .before .before .before .before .before .peek .ensures, c .before .match .keys6)
-
-returns-10 : tie.Need-returns-10
-unfolding munched stepIn braceTable isQuote isAlpha isSpace isWithin
-returns-10 c = c .brace-bang .ensures ∙ rw (c .before .before .before .before .before .before .before .before .before .in-mode .ensures, ← c .before .before .before .before .before .before .before .before .peek .ensures, c .before .match .keys7)
-
-returns-11 : tie.Need-returns-11
-unfolding munched stepIn braceTable
-returns-11 c = let r = c .before .match .rest in c .refused3 .ensures ∙ rw (← c .before .before .before .before .before .before .before .before .peek .ensures, ← c .before .before .before .before .before .before .before .is-alpha .ensures, c .before .before .before .before .before .before .if1 .left, ← c .before .before .before .before .before .is-space .ensures, c .before .before .before .before .if2 .left, ← c .before .before .before .is-quote .ensures, c .before .before .if3 .left) (simp (ne-eqb _ _ (r .0 .0 .0 .0 .0 .0 .1), ne-eqb _ _ (r .0 .0 .0 .0 .0 .1), ne-eqb _ _ (r .0 .0 .0 .0 .1), ne-eqb _ _ (r .0 .0 .0 .1), ne-eqb _ _ (r .0 .0 .1), ne-eqb _ _ (r .0 .1), ne-eqb _ _ (r .1)))
+unfolding braceLed
+returns-5 c = c .brace-sign .ensures ∙ rw (led (c .before .before .before .before .before), ne-eqb _ _ (c .before .before .before .if2 .left), ne-eqb _ _ (c .before .before .if3 .left), ne-eqb _ _ (c .before .if4 .left))
 
 pub brace-step-spec : {M : Type 1} → statement M
 brace-step-spec =
     tie.close
     (tie.spec
     in-mode-requires
-    peek-requires
-    is-alpha-requires
-    brace-word-requires
-    returns
-    is-space-requires
-    returns-2
-    is-quote-requires
-    quoted-step-requires
-    returns-3
     refused-requires
-    comment-step-requires
-    refused-requires-2
-    in-mode-requires-2
-    lexeme-requires
-    lexeme-requires-2
-    brace-equals-requires
-    brace-bang-requires
-    refused-requires-3
+    returns
+    shared-slice-read-lead
+    cast-lead
+    element-copy-out-lead
+    returns-2
+    brace-word-requires
+    returns-3
+    shared-slice-read-accept-string
+    sub-accept-string
+    part-accept-string-start
+    part-accept-string-end
+    accept-string-requires
+    quoted-by-requires
     returns-4
-    returns-5
-    returns-6
-    returns-7
-    returns-8
-    returns-9
-    returns-10
-    returns-11)
+    brace-sign-requires
+    returns-5)

@@ -1,5 +1,5 @@
 -- The word is the run, and its kind that of its rule.
-use Rattle.munch.specs.Munch.{braceWord}
+use Rattle.munch.specs.steps.Lent.{braceWordBy}
 use borrow.Author.Needs.{needs}
 use Rattle.munch.proofs.brace_word.Statement.{statement}
 use Rattle.munch.proofs.brace_word.Tie as tie
@@ -17,7 +17,7 @@ lexeme-requires : tie.Need-lexeme-requires
 lexeme-requires c κs = search needs
 
 returns : tie.Need-returns
-unfolding braceWord
+unfolding braceWordBy
 returns c = rw (c .lexeme .ensures, c .before .kind-by .ensures, c .before .before .brace-rule .ensures, c .before .before .before .run-end .ensures)
 
 pub brace-word-spec : {M : Type 1} → statement M

@@ -2,7 +2,7 @@
 use borrow.Author.Tests.{ne-eqb}
 use mathlib.Core.Path.{_∙_}
 use Rattle.scan.specs.Byte.{isWithin, isSpace}
-use Rattle.munch.specs.Munch.{bracketTable, stepIn, munched}
+use Rattle.munch.specs.Munch.{numberStep, bracketTable, stepIn, munched}
 use borrow.Author.Needs.{needs}
 use Rattle.munch.proofs.bracket_step.Statement.{statement}
 use Rattle.munch.proofs.bracket_step.Tie as tie
@@ -23,12 +23,15 @@ returns c = rw (c .before .before .before .in-mode .ensures, ← c .before .befo
 is-digit-requires : tie.Need-is-digit-requires
 is-digit-requires c κs = search needs
 
-number-step-requires : tie.Need-number-step-requires
-number-step-requires c κs = search needs
+scan-number-requires : tie.Need-scan-number-requires
+scan-number-requires c κs = search needs
+
+number-by-requires : tie.Need-number-by-requires
+number-by-requires c κs = search needs
 
 returns-2 : tie.Need-returns-2
-unfolding munched stepIn bracketTable
-returns-2 c = c .number-step .ensures ∙ rw (c .before .before .before .before .before .before .in-mode .ensures, ← c .before .before .before .before .before .peek .ensures, ← c .before .before .before .before .is-space .ensures, c .before .before .before .if1 .left, ← c .before .before .is-digit .ensures, c .before .if2 .taken)
+unfolding munched stepIn bracketTable numberStep
+returns-2 c = c .number-by .ensures ∙ rw (c .before .scan-number .ensures, c .before .before .before .before .before .before .before .in-mode .ensures, ← c .before .before .before .before .before .before .peek .ensures, ← c .before .before .before .before .before .is-space .ensures, c .before .before .before .before .if1 .left, ← c .before .before .before .is-digit .ensures, c .before .before .if2 .taken)
 
 refused-requires : tie.Need-refused-requires
 refused-requires c κs = search needs
@@ -77,7 +80,8 @@ bracket-step-spec =
     is-space-requires
     returns
     is-digit-requires
-    number-step-requires
+    scan-number-requires
+    number-by-requires
     returns-2
     refused-requires
     refused-requires-2

@@ -1,5 +1,6 @@
 -- Each way out knows whether a digit follows.
-use Rattle.munch.specs.Munch.{dotStep}
+use mathlib.Core.Path.{ap, _∙_}
+use Rattle.munch.specs.Munch.{numberBy, numberStep, dotStep}
 use borrow.Author.Needs.{needs}
 use Rattle.munch.proofs.dot_step.Statement.{statement}
 use Rattle.munch.proofs.dot_step.Tie as tie
@@ -10,12 +11,15 @@ peek-requires c κs = search needs
 is-digit-requires : tie.Need-is-digit-requires
 is-digit-requires c κs = search needs
 
-number-step-requires : tie.Need-number-step-requires
-number-step-requires c κs = search needs
+scan-number-requires : tie.Need-scan-number-requires
+scan-number-requires c κs = search needs
+
+number-by-requires : tie.Need-number-by-requires
+number-by-requires c κs = search needs
 
 returns : tie.Need-returns
-unfolding dotStep
-returns c = rw (← c .before .before .before .peek .ensures, ← c .before .before .is-digit .ensures, c .before .if1 .taken) (c .number-step .ensures)
+unfolding dotStep numberStep
+returns c = rw (← c .before .before .before .before .peek .ensures, ← c .before .before .before .is-digit .ensures, c .before .before .if1 .taken) (c .number-by .ensures ∙ ap (numberBy (c .before .before .before .before .before .before .args .mode)) (c .before .scan-number .ensures))
 
 refused-requires : tie.Need-refused-requires
 refused-requires c κs = search needs
@@ -36,7 +40,8 @@ dot-step-spec =
     (tie.spec
     peek-requires
     is-digit-requires
-    number-step-requires
+    scan-number-requires
+    number-by-requires
     returns
     refused-requires
     refused-requires-2

@@ -15,12 +15,33 @@ use Rattle.token.specs.Kinds.{identifier, metricIdentifier, lor, fill, fillRigh
 use Rattle.munch.specs.declared.word.Rule.{Rule}
 use Rattle.munch.specs.declared.word.Rule.the-variants.{Or, InBraces, Table, FillCalled, FillAlone, WithColon, Plain}
 use Rattle.munch.specs.Word.{isFill, ruleBy, isOr, braceRule, kindBy}
+use Rattle.munch.proofs.word.table_rule.Kinds as table-rule
+use Rattle.munch.proofs.word.table_rule.Reads as table-rule-reads
 use Rattle.munch.proofs.word.rule_by.Kinds as rule-by
 use Rattle.munch.proofs.word.rule_by.Reads as rule-by-reads
 use Rattle.munch.proofs.word.brace_rule.Kinds as brace-rule
 use Rattle.munch.proofs.word.brace_rule.Reads as brace-rule-reads
 use Rattle.munch.proofs.word.kind_by.Kinds as kind-by
 use Rattle.munch.proofs.word.kind_by.Reads as kind-by-reads
+
+abbrev table-rule-gives : ℕ → List ℕ → ℕ → Rule → Type 0
+table-rule-gives kind xs n v =
+    Answers table-rule.ps table-rule.r table-rule-reads.Post (λ κs a. (a .0 ≡ kind) × (now (a .1 .0) ≡ xs) × (a .1 .1 .0 ≡ n)) (λ κs. v)
+
+table-rule-at : (kind : ℕ) (xs : List ℕ) (n : ℕ) → table-rule-gives kind xs n (ruleBy (Kind kind) xs n)
+table-rule-at kind xs n κs a x e p h = cc (p, h .0, h .1, h .2)
+
+pub comment-behind-fill-is-not-passed : table-rule-gives fill (ascii "fill#\n(") 4 FillAlone
+unfolding ruleBy isFill isWithin isIn isSpace runLength
+comment-behind-fill-is-not-passed = table-rule-at _ _ _
+
+pub fill-right-is-a-fill-word : table-rule-gives fillRight (ascii "fill_right") 10 FillAlone
+unfolding ruleBy isFill isWithin isIn isSpace runLength
+fill-right-is-a-fill-word = table-rule-at _ _ _
+
+pub or-is-no-fill-word : table-rule-gives lor (ascii "or(") 2 (Table lor)
+unfolding ruleBy isFill isWithin isIn isSpace runLength
+or-is-no-fill-word = table-rule-at _ _ _
 
 abbrev rule-by-gives : Keyword → List ℕ → ℕ → Rule → Type 0
 rule-by-gives own xs n v =
@@ -32,18 +53,6 @@ rule-by-at own xs n κs a x e p h = cc (p, h .0, h .1, h .2)
 pub fill-with-a-paren-next-is-called : rule-by-gives (Kind fill) (ascii "fill (") 4 (FillCalled fill)
 unfolding ruleBy isFill isWithin isIn isSpace runLength
 fill-with-a-paren-next-is-called = rule-by-at _ _ _
-
-pub comment-behind-fill-is-not-passed : rule-by-gives (Kind fill) (ascii "fill#\n(") 4 FillAlone
-unfolding ruleBy isFill isWithin isIn isSpace runLength
-comment-behind-fill-is-not-passed = rule-by-at _ _ _
-
-pub fill-right-is-a-fill-word : rule-by-gives (Kind fillRight) (ascii "fill_right") 10 FillAlone
-unfolding ruleBy isFill isWithin isIn isSpace runLength
-fill-right-is-a-fill-word = rule-by-at _ _ _
-
-pub or-is-no-fill-word : rule-by-gives (Kind lor) (ascii "or(") 2 (Table lor)
-unfolding ruleBy isFill isWithin isIn isSpace runLength
-or-is-no-fill-word = rule-by-at _ _ _
 
 pub colon-behind-the-word-is-not-in-it : rule-by-gives Nothing (ascii "a:") 1 Plain
 unfolding ruleBy has

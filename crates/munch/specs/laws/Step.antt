@@ -1,4 +1,4 @@
--- What the crates above may know of a step, as statements; `proofs/Goes`, `proofs/Fits`, `proofs/Seam` and `proofs/Table`
+-- What the crates above may know of a step, as statements; `proofs/Goes`, `proofs/Fits`, `proofs/Seam` and `proofs/Tables`
 -- have their proofs.
 use Prim.Native.Nat.{ℕ, suc, _^_, _≤_, _<_}
 use Prim.Native.Char.{code}
@@ -18,8 +18,10 @@ use Rattle.munch.specs.Word.{isFill}
 use Rattle.munch.specs.declared.Mode.{Mode}
 use Rattle.munch.specs.declared.Step.{Step}
 use Rattle.munch.specs.declared.Step.the-variants.{Lexeme, Space, Comment, Refused, Finished}
-use Rattle.munch.specs.Munch.{outside, munched}
-use Rattle.munch.specs.steps.Lent.{munchedBy}
+use Rattle.munch.specs.declared.Inside.the-variants.{Nothing, Braces}
+use Rattle.munch.specs.Munch.{mode, outside, munched}
+use Rattle.munch.specs.steps.Leads.{leadTable}
+use Rattle.munch.specs.steps.Lent.{outsideBy, braceBy}
 
 -- so many of the bytes, one at least; where they are a text, no character is cut behind them
 pub record Past (xs : List ℕ) (n : ℕ) : Type 0 where
@@ -61,6 +63,9 @@ abbrev pub StepSeam : Type 0
 StepSeam =
     (m : Mode) (xs ys : List ℕ) → 0 < length xs → Seam xs (munched m xs) (munched m (xs ++ code "\n" ∷ ys))
 
--- a step by the table of document 01's words, as the code makes it, is the step
-abbrev pub ByTable : Type 0
-ByTable = (m : Mode) (xs : List ℕ) → munchedBy wordTable m xs ≡ munched m xs
+-- a step by the tables of leads and of document 01's words, as the code makes it, is the step
+abbrev pub OutsideByTables : Type 0
+OutsideByTables = (d : ℕ) (xs : List ℕ) → outsideBy leadTable wordTable d xs ≡ munched (mode d Nothing) xs
+
+abbrev pub BracesByTable : Type 0
+BracesByTable = (d : ℕ) (xs : List ℕ) → braceBy leadTable d xs ≡ munched (mode d Braces) xs

@@ -1,10 +1,11 @@
 -- What the crates above may know of words, as statements; `proofs/Lookup`, `proofs/Fits` and `proofs/Table` have their proofs.
 use Prim.Native.Nat.{ℕ, _^_, _<_}
+use Prim.Native.Char.{code}
 use mathlib.Core.Bool.{true}
 use mathlib.Core.List.{List}
 use mathlib.Core.Path.{_≡_}
 use lib.ListN.{length, getD}
-use Rattle.scan.specs.Text.{sameText}
+use Rattle.scan.specs.Text.{sameText, has}
 use Rattle.token.specs.declared.Keyword.{Keyword}
 use Rattle.token.specs.declared.Keyword.the-variants.{Kind, Nothing}
 use Rattle.token.specs.Words.{KindText, _names_, words, kindIn, keywordOf}
@@ -38,3 +39,7 @@ EntryFound = (w : List ℕ) (i : ℕ) → i < length words → sameText w (wordA
 -- a word that is no row's text has none
 abbrev pub NoneFound : Type 0
 NoneFound = (w : List ℕ) → ((i : ℕ) → i < length words → sameText w (wordAt i .text) ≡ true → ⊥) → kindIn words w ≡ Nothing
+
+-- and one with a colon is none
+abbrev pub ColonInNone : Type 0
+ColonInNone = (xs : List ℕ) → has (code ":") xs ≡ true → keywordOf xs ≡ Nothing
