@@ -18,6 +18,7 @@ ghost use mathlib.Core.Bool.{true, false};
 ghost use Rattle.munch.specs.declared.Inside.the-variants.{Braces, Brackets};
 ghost use Rattle.munch.specs.Munch.{mode};
 ghost use Rattle.munch.specs.laws.Modes.{Opens};
+ghost use Rattle.munch.specs.steps.Leads.{leadTable};
 ghost use Rattle.lex.specs.Lex.{entriesOf, refusedAt, measured, notLexed, roomed, lexed, listed, leftAfter, kindOf, startsAt, lengthOf, shortest};
 ghost use Rattle.lex.specs.steps.Tally.{tallyOf, refusedIn, answerIn};
 ghost use Rattle.lex.specs.steps.Pass.{filled, outcomeAt, state, stateBehind, Leads, Alike, Reached};
@@ -64,6 +65,7 @@ fn put(kinds: &mut [u16], starts: &mut [u32], lengths: &mut [u32], i: usize, kin
 
 // Reads on in braces from a place, through the brace that closes them, and writes the lexemes that have room, the first of them at place `first`.
 fn braces(
+    leads: &[u8; munch::BYTES],
     query: &[u8],
     kinds: &mut [u16],
     starts: &mut [u32],
@@ -72,7 +74,7 @@ fn braces(
     from: usize,
     first: usize,
 ) -> Run
-    requires { ⌜ length (now query) ≤ textLimit ⌝ ∗ ⌜ Alike (now kinds) (now starts) (now lengths) ⌝ }
+    requires { ⌜ now leads ≡ leadTable ⌝ ∗ ⌜ length (now query) ≤ textLimit ⌝ ∗ ⌜ Alike (now kinds) (now starts) (now lengths) ⌝ }
     requires { ⌜ (from ≤ length (now query)) × (first ≤ from) ⌝ }
     ensures { λ r. ⌜ Reached (now (query .entry)) from r ⌝ }
     ensures { λ r. ⌜ Leads (state (now (kinds .entry)) (now (starts .entry)) (now (lengths .entry)) first (outcomeAt (now (query .entry)) from (mode depth Braces))) (stateBehind (now (query .entry)) (now (kinds .exit)) (now (starts .exit)) (now (lengths .exit)) depth r) ⌝ }
@@ -80,7 +82,7 @@ fn braces(
     let mut at = from;
     let mut i = first;
     loop {
-        let s = munch::brace_step(&query[at..], depth);
+        let s = munch::brace_step(leads, &query[at..], depth);
         let start = ByteOffset(at);
         match s {
             Step::Lexeme {
@@ -181,6 +183,7 @@ fn brackets(
 
 // What a lexeme outside has opened, through its end.
 fn opened(
+    leads: &[u8; munch::BYTES],
     query: &[u8],
     kinds: &mut [u16],
     starts: &mut [u32],
@@ -189,7 +192,7 @@ fn opened(
     at: usize,
     count: usize,
 ) -> Run
-    requires { ⌜ length (now query) ≤ textLimit ⌝ ∗ ⌜ Alike (now kinds) (now starts) (now lengths) ⌝ }
+    requires { ⌜ now leads ≡ leadTable ⌝ ∗ ⌜ length (now query) ≤ textLimit ⌝ ∗ ⌜ Alike (now kinds) (now starts) (now lengths) ⌝ }
     requires { ⌜ Opens (next .inside) ⌝ ∗ ⌜ (at ≤ length (now query)) × (count ≤ at) ⌝ }
     ensures { λ r. ⌜ Reached (now (query .entry)) at r ⌝ }
     ensures { λ r. ⌜ Leads (state (now (kinds .entry)) (now (starts .entry)) (now (lengths .entry)) count (outcomeAt (now (query .entry)) at next)) (stateBehind (now (query .entry)) (now (kinds .exit)) (now (starts .exit)) (now (lengths .exit)) (next .depth) r) ⌝ }
@@ -198,7 +201,7 @@ fn opened(
     let inside = next.inside;
     match inside {
         Inside::Nothing => Run::To { at, count },
-        Inside::Braces => braces(query, kinds, starts, lengths, depth, at, count),
+        Inside::Braces => braces(leads, query, kinds, starts, lengths, depth, at, count),
         Inside::Brackets { seen: _, fresh: _ } => {
             brackets(query, kinds, starts, lengths, depth, at, count)
         }
@@ -207,13 +210,14 @@ fn opened(
 
 // Reads a text and writes the lexemes that have room, lexeme i at place i; those before a refusal too.
 fn pass(
+    leads: &[u8; munch::BYTES],
     words: &[u8],
     query: &[u8],
     kinds: &mut [u16],
     starts: &mut [u32],
     lengths: &mut [u32],
 ) -> Tally
-    requires { ⌜ now words ≡ wordTable ⌝ ∗ ⌜ length (now query) ≤ textLimit ⌝ ∗ ⌜ Alike (now kinds) (now starts) (now lengths) ⌝ }
+    requires { ⌜ (now leads ≡ leadTable) × (now words ≡ wordTable) ⌝ ∗ ⌜ length (now query) ≤ textLimit ⌝ ∗ ⌜ Alike (now kinds) (now starts) (now lengths) ⌝ }
     ensures { λ r. ⌜ r ≡ tallyOf (now (query .entry)) ⌝ }
     ensures { λ _. ⌜ now (kinds .exit) ≡ filled kindOf (now (query .entry)) (now (kinds .entry)) ⌝ }
     ensures { λ _. ⌜ now (starts .exit) ≡ filled startsAt (now (query .entry)) (now (starts .entry)) ⌝ }
@@ -223,7 +227,7 @@ fn pass(
     let mut i = 0;
     let mut depth = 0;
     loop {
-        let s = munch::outside_step(words, &query[at..], depth);
+        let s = munch::outside_step(leads, words, &query[at..], depth);
         let start = ByteOffset(at);
         match s {
             Step::Lexeme {
@@ -233,7 +237,16 @@ fn pass(
             } => {
                 put(kinds, starts, lengths, i, kind, Span { start, length });
                 depth = next.depth;
-                let r = opened(query, kinds, starts, lengths, next, at + length, i + 1);
+                let r = opened(
+                    leads,
+                    query,
+                    kinds,
+                    starts,
+                    lengths,
+                    next,
+                    at + length,
+                    i + 1,
+                );
                 match r {
                     Run::To { at: end, count } => {
                         at = end;
@@ -260,7 +273,8 @@ fn pass(
             Step::Finished => {
                 let end = Span { start, length: 0 };
                 put(kinds, starts, lengths, i, kinds::T_EOF, end);
-                return Tally::Count(i + 1);
+                let count = i + 1;
+                return Tally::Count(count);
             }
         }
     }
@@ -293,11 +307,12 @@ pub fn measure(query: &[u8]) -> Lexing
     let Admission::Admitted(_) = a else {
         return Lexing::Refused(utf8::not_admitted(a));
     };
+    let leads = munch::leads();
     let words = token::words();
     let mut kinds = [0u16; 0];
     let mut starts = [0u32; 0];
     let mut lengths = [0u32; 0];
-    let t = pass(&words, query, &mut kinds, &mut starts, &mut lengths);
+    let t = pass(&leads, &words, query, &mut kinds, &mut starts, &mut lengths);
     let Tally::Count(n) = t else {
         return Lexing::Refused(refused_in(query, t));
     };
@@ -352,6 +367,7 @@ fn copy(
 
 // Writes the n lexemes of a text to the fronts of lists that have room for them.
 fn write(
+    leads: &[u8; munch::BYTES],
     words: &[u8],
     query: &[u8],
     n: usize,
@@ -359,13 +375,14 @@ fn write(
     starts: &mut [u32],
     lengths: &mut [u32],
 )
-    requires { ⌜ now words ≡ wordTable ⌝ ∗ ⌜ length (now query) ≤ textLimit ⌝ ∗ ⌜ n ≡ length (entriesOf (now query)) ⌝ }
+    requires { ⌜ (now leads ≡ leadTable) × (now words ≡ wordTable) ⌝ ∗ ⌜ length (now query) ≤ textLimit ⌝ ∗ ⌜ n ≡ length (entriesOf (now query)) ⌝ }
     requires { ⌜ (n ≤ length (now kinds)) × (n ≤ length (now starts)) × (n ≤ length (now lengths)) ⌝ }
     ensures { λ _. ⌜ now (kinds .exit) ≡ listed kindOf (now (query .entry)) (now (kinds .entry)) ⌝ }
     ensures { λ _. ⌜ now (starts .exit) ≡ listed startsAt (now (query .entry)) (now (starts .entry)) ⌝ }
     ensures { λ _. ⌜ now (lengths .exit) ≡ listed lengthOf (now (query .entry)) (now (lengths .entry)) ⌝ }
 {
     pass(
+        leads,
         words,
         query,
         &mut kinds[..n],
@@ -376,6 +393,7 @@ fn write(
 
 // Lexes a text to three lent lists, by a pass that writes to three others first.
 fn lex_text(
+    leads: &[u8; munch::BYTES],
     words: &[u8],
     query: &[u8],
     ks: &mut [u16],
@@ -385,13 +403,13 @@ fn lex_text(
     starts: &mut [u32],
     lengths: &mut [u32],
 ) -> Lexing
-    requires { ⌜ now words ≡ wordTable ⌝ ∗ ⌜ length (now query) ≤ textLimit ⌝ ∗ ⌜ Alike (now ks) (now ss) (now ls) ⌝ }
+    requires { ⌜ (now leads ≡ leadTable) × (now words ≡ wordTable) ⌝ ∗ ⌜ length (now query) ≤ textLimit ⌝ ∗ ⌜ Alike (now ks) (now ss) (now ls) ⌝ }
     ensures { λ r. ⌜ r ≡ roomed (shortest (length (now (kinds .entry))) (length (now (starts .entry))) (length (now (lengths .entry)))) (answerIn (now (query .entry)) (tallyOf (now (query .entry)))) ⌝ }
     ensures { λ r. ⌜ now (kinds .exit) ≡ leftAfter r (listed kindOf (now (query .entry)) (now (kinds .entry))) (now (kinds .entry)) ⌝ }
     ensures { λ r. ⌜ now (starts .exit) ≡ leftAfter r (listed startsAt (now (query .entry)) (now (starts .entry))) (now (starts .entry)) ⌝ }
     ensures { λ r. ⌜ now (lengths .exit) ≡ leftAfter r (listed lengthOf (now (query .entry)) (now (lengths .entry))) (now (lengths .entry)) ⌝ }
 {
-    let t = pass(words, query, ks, ss, ls);
+    let t = pass(leads, words, query, ks, ss, ls);
     let Tally::Count(n) = t else {
         return Lexing::Refused(refused_in(query, t));
     };
@@ -401,7 +419,7 @@ fn lex_text(
     if n <= ks.len() {
         copy(n, ks, ss, ls, kinds, starts, lengths);
     } else {
-        write(words, query, n, kinds, starts, lengths);
+        write(leads, words, query, n, kinds, starts, lengths);
     }
     Lexing::Count(n)
 }
@@ -420,6 +438,7 @@ pub fn lexer(query: &[u8], kinds: &mut [u16], starts: &mut [u32], lengths: &mut 
     ensures { λ r. ⌜ now (starts .exit) ≡ leftAfter r (listed startsAt (now (query .entry)) (now (starts .entry))) (now (starts .entry)) ⌝ }
     ensures { λ r. ⌜ now (lengths .exit) ≡ leftAfter r (listed lengthOf (now (query .entry)) (now (lengths .entry))) (now (lengths .entry)) ⌝ }
 {
+    let leads = munch::leads();
     let words = token::words();
     let a = utf8::admit(query, utf8::TEXT_LIMIT);
     let Admission::Admitted(_) = a else {
@@ -430,6 +449,7 @@ pub fn lexer(query: &[u8], kinds: &mut [u16], starts: &mut [u32], lengths: &mut 
         let mut ss = [0u32; FEW];
         let mut ls = [0u32; FEW];
         return lex_text(
+            &leads,
             &words,
             query,
             &mut ks,
@@ -444,6 +464,7 @@ pub fn lexer(query: &[u8], kinds: &mut [u16], starts: &mut [u32], lengths: &mut 
     let mut ss = [0u32; MANY];
     let mut ls = [0u32; MANY];
     lex_text(
+        &leads,
         &words,
         query,
         &mut ks,

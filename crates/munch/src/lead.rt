@@ -1,11 +1,9 @@
 // What a byte may begin, as one number that a table of all bytes gives: its class, or the kind of a sign that is whole with its one byte.
+use crate::BYTES;
 use token::kinds;
 ghost use mathlib.Core.Path.{_≡_};
 ghost use Rattle.scan.specs.Run.{runEnd};
 ghost use Rattle.munch.specs.steps.Leads.{isSignLead, startsWord, isFrom};
-
-// How many bytes there are.
-pub const BYTES: usize = 256;
 
 // The classes. What a word goes on with stands last, so that each of its classes begins with those before: a colon, a digit, a letter.
 pub const QUOTE: u8 = b'\'';

@@ -20,6 +20,9 @@ ghost use Rattle.munch.specs.Munch.{mode, deeper, numberBy, quotedBy, do
 ghost use Rattle.munch.specs.steps.Leads.{leadTable};
 ghost use Rattle.munch.specs.steps.Lent.{quotedEnd, wordStepBy, braceWordBy, signStep, otherTable, braceSigns, outsideBy, braceBy};
 
+// How many bytes there are, each of which has a lead.
+pub const BYTES: usize = 256;
+
 // What is open inside a query's parentheses: nothing, braces, or brackets; of these, whether their colon was seen, and whether they were just
 // opened.
 pub enum Inside {
@@ -107,7 +110,7 @@ fn comment_step(s: &[u8]) -> Step
 }
 
 // A word outside braces, by the tables of leads and words. It has a colon where it goes on behind the letters and digits that it begins with.
-fn word_step(leads: &[u8; lead::BYTES], words: &[u8], s: &[u8], mode: Mode) -> Step
+fn word_step(leads: &[u8; BYTES], words: &[u8], s: &[u8], mode: Mode) -> Step
     ensures { λ r. ⌜ r ≡ wordStepBy (now (leads .entry)) (now (words .entry)) mode (now (s .entry)) ⌝ }
 {
     let label = lead::run_end(leads, lead::DIGIT, s, 0);
@@ -123,7 +126,7 @@ fn word_step(leads: &[u8; lead::BYTES], words: &[u8], s: &[u8], mode: Mode) -> S
 }
 
 // A word in braces, by the table of leads.
-fn brace_word(leads: &[u8; lead::BYTES], s: &[u8], mode: Mode) -> Step
+fn brace_word(leads: &[u8; BYTES], s: &[u8], mode: Mode) -> Step
     ensures { λ r. ⌜ r ≡ braceWordBy (now (leads .entry)) mode (now (s .entry)) ⌝ }
 {
     let n = lead::run_end(leads, lead::DIGIT, s, 0);
@@ -216,7 +219,7 @@ fn other_step(s: &[u8], here: Mode) -> Step
 }
 
 // A step outside braces and brackets, by the tables of leads and words.
-pub fn outside_step(leads: &[u8; lead::BYTES], words: &[u8], s: &[u8], depth: usize) -> Step
+pub fn outside_step(leads: &[u8; BYTES], words: &[u8], s: &[u8], depth: usize) -> Step
     ensures { λ r. ⌜ r ≡ outsideBy (now (leads .entry)) (now (words .entry)) depth (now (s .entry)) ⌝ }
 {
     let here = in_mode(depth, Inside::Nothing);
@@ -260,7 +263,7 @@ fn brace_sign(s: &[u8], depth: usize) -> Step
 }
 
 // A step in braces, by the table of leads.
-pub fn brace_step(leads: &[u8; lead::BYTES], s: &[u8], depth: usize) -> Step
+pub fn brace_step(leads: &[u8; BYTES], s: &[u8], depth: usize) -> Step
     ensures { λ r. ⌜ r ≡ braceBy (now (leads .entry)) depth (now (s .entry)) ⌝ }
 {
     let here = in_mode(depth, Inside::Braces);
@@ -320,7 +323,7 @@ pub fn bracket_step(s: &[u8], depth: usize, seen: bool, fresh: bool) -> Step
 }
 
 // The table of leads, to be lent for as many steps as there are.
-pub fn leads() -> [u8; lead::BYTES]
+pub fn leads() -> [u8; BYTES]
     ensures { λ r. ⌜ r ≡ leadTable ⌝ }
 {
     lead::LEADS

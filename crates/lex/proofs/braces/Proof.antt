@@ -3,7 +3,7 @@ use Prim.Native.Nat.{ℕ, _+_, _-_, _≤_}
 use native.Mathlib.Omega.{arith}
 use mathlib.Core.List.{List, [], _∷_}
 use mathlib.Core.Logic.{_⊎_, inl, inr, ⊎-elim}
-use mathlib.Core.Path.{_≡_, refl, sym, ap, _∙_}
+use mathlib.Core.Path.{_≡_, refl, sym, ap, ap₂, _∙_}
 use denote.Enum.Declared.{tagOf}
 use types.Run.{OneOf}
 use lib.ListN.{length, drop}
@@ -17,7 +17,9 @@ use Rattle.munch.specs.declared.Step.{Step}
 use Rattle.munch.specs.declared.Step.the-variants.{Lexeme, Space, Finished}
 use Rattle.munch.specs.Munch.{mode, munched}
 use Rattle.munch.specs.laws.Modes.{Behind, LeadsTo}
+use Rattle.munch.specs.steps.Lent.{braceBy}
 use Rattle.munch.proofs.Modes.{step-leads}
+use Rattle.munch.proofs.Tables.{braces-by-table}
 use Rattle.lex.specs.steps.Pass.{outcomeAt, state, Alike, Leads}
 use Rattle.lex.proofs.Lists.{leads-start, leads-alike}
 use Rattle.lex.proofs.Turns.{lexeme-further, space-further, comment-further, refused-within, turn-lexeme, turn-space, turn-comment, turn-refused, in-mode}
@@ -25,12 +27,12 @@ use Rattle.lex.proofs.braces.Statement.{statement}
 use Rattle.lex.proofs.braces.Tie as tie
 
 abbrev Inv-loop : tie.InvT-loop
-Inv-loop query kinds₀ starts₀ lengths₀ depth from first at₀ i₀ kinds starts lengths at i =
+Inv-loop leads query kinds₀ starts₀ lengths₀ depth from first at₀ i₀ kinds starts lengths at i =
     (from ≤ at) × (at ≤ length query) × (i ≤ at)
     × Leads (state kinds₀ starts₀ lengths₀ first (outcomeAt query from (mode depth Braces))) (state kinds starts lengths i (outcomeAt query at (mode depth Braces)))
 
 abbrev μ-loop : tie.MeasureT-loop
-μ-loop query kinds₀ starts₀ lengths₀ depth from first at₀ i₀ kinds starts lengths at i = length query - at
+μ-loop leads query kinds₀ starts₀ lengths₀ depth from first at₀ i₀ kinds starts lengths at i = length query - at
 
 -- once a step is known: where the loop stood
 abbrev Place : Type 0
@@ -50,7 +52,9 @@ here c = mode (start c .args .depth) Braces
 
 module _ (c : Place) {s : Step} (e : c .brace-step .result ≡ s) where
   told : munched (here c) (drop (at c) (bytes c)) ≡ s
-  told = rw rest-of at (sym (c .brace-step .ensures) ∙ e)
+  told =
+      sym (c .brace-step .ensures ∙ ap₂ (λ (l t : List ℕ). braceBy l (start c .args .depth) t) (start c .pre .0) (rest-of (bytes c) (at c)) ∙ braces-by-table (start c .args .depth) (drop (at c) (bytes c)))
+      ∙ e
 
   leads-to : LeadsTo (start c .args .depth) Braces s
   leads-to = rw told at (step-leads (start c .args .depth) Braces (drop (at c) (bytes c)))
@@ -60,7 +64,7 @@ module _ (c : Place) where
   inside-query = c .before .before .loop .inv .1
 
   alike : let l = c .before .before .loop in Alike (l .kinds) (l .starts) (l .lengths)
-  alike = leads-alike (c .before .before .loop .inv .3) (start c .pre .1 .0)
+  alike = leads-alike (c .before .before .loop .inv .3) (start c .pre .1 .1 .0)
 
 -- behind a lexeme that does not close the braces they are open
 still-open : (d : ℕ) (m : Mode) → Behind d Braces m → OneOf (1 ∷ 2 ∷ []) (tagOf inside.the-type (m .inside)) → m ≡ mode d Braces
@@ -94,7 +98,7 @@ put-requires c κs =
     let t = c .before .before .before .before in
     let p = t .before .before in
     let g = lexeme-further (bytes p) (at p) (here p) (inside-query p) (told p (t .s .given .1)) in
-    let q = start p .pre .0 in
+    let q = start p .pre .1 .0 in
     (alike p, omega arith)
 
 -- behind `put`: where the step was seen to be a lexeme, and what that has led to
@@ -105,10 +109,10 @@ further : (c : tie.After-slice-known6 Inv-loop μ-loop) → let p = seen c .befo
 further c = let p = seen c .before .before in lexeme-further (bytes p) (at p) (here p) (inside-query p) (told p (seen c .s .given .1))
 
 add-at : tie.Need-add-at Inv-loop μ-loop
-add-at c = let g = further c in omega (arith, start (seen c .before .before) .pre .0)
+add-at c = let g = further c in omega (arith, start (seen c .before .before) .pre .1 .0)
 
 add-i : tie.Need-add-i Inv-loop μ-loop
-add-i c = let v = seen c .before .before .before .before .loop .inv in let q = start (seen c .before .before) .pre .0 in omega arith
+add-i c = let v = seen c .before .before .before .before .loop .inv in let q = start (seen c .before .before) .pre .1 .0 in omega arith
 
 enum-told : tie.Need-enum-told Inv-loop μ-loop
 enum-told c = search needs
@@ -159,7 +163,7 @@ enum-told-2 : tie.Need-enum-told-2 Inv-loop μ-loop
 enum-told-2 c = search needs
 
 add-at-2 : tie.Need-add-at-2 Inv-loop μ-loop
-add-at-2 c = let p = c .before .before in let g = space-further (bytes p) (at p) (here p) (inside-query p) (told p (c .enum-told2 .given .1)) in omega (arith, start p .pre .0)
+add-at-2 c = let p = c .before .before in let g = space-further (bytes p) (at p) (here p) (inside-query p) (told p (c .enum-told2 .given .1)) in omega (arith, start p .pre .1 .0)
 
 loop-less-2 : tie.Need-loop-less-2 Inv-loop μ-loop
 loop-less-2 c = let p = c .before .before in let g = space-further (bytes p) (at p) (here p) (inside-query p) (told p (c .enum-told2 .given .1)) in omega arith
@@ -175,7 +179,7 @@ enum-known-s-2 : tie.Need-enum-known-s-2 Inv-loop μ-loop
 enum-known-s-2 c = search needs
 
 add-at-3 : tie.Need-add-at-3 Inv-loop μ-loop
-add-at-3 c = let p = c .before .before .before in let g = comment-further (bytes p) (at p) (here p) (inside-query p) (told p (c .before .s2 .given .1)) in omega (arith, start p .pre .0)
+add-at-3 c = let p = c .before .before .before in let g = comment-further (bytes p) (at p) (here p) (inside-query p) (told p (c .before .s2 .given .1)) in omega (arith, start p .pre .1 .0)
 
 loop-less-3 : tie.Need-loop-less-3 Inv-loop μ-loop
 loop-less-3 c = let p = c .before .before .before in let g = comment-further (bytes p) (at p) (here p) (inside-query p) (told p (c .before .s2 .given .1)) in omega arith
@@ -192,7 +196,7 @@ enum-known-s-3 : tie.Need-enum-known-s-3 Inv-loop μ-loop
 enum-known-s-3 c = search needs
 
 add-place : tie.Need-add-place Inv-loop μ-loop
-add-place c = let p = c .before .before .before in omega (arith, refused-within (bytes p) (at p) (here p) (inside-query p) (told p (c .before .s3 .given .1)), start p .pre .0)
+add-place c = let p = c .before .before .before in omega (arith, refused-within (bytes p) (at p) (here p) (inside-query p) (told p (c .before .s3 .given .1)), start p .pre .1 .0)
 
 same-length-4 : tie.Need-same-length-4 Inv-loop μ-loop
 same-length-4 c = c .before .before .before .before .before .loop .inv .3 .kinds .same

@@ -81,7 +81,17 @@ returns-2 c =
     (ap lexing.Refused (c .at-start .ensures) ∙ sym (fits-not (ap (answerIn (bytes p)) (tallied p)) (omega (arith, p .shortest .ensures))), (refl, (refl, refl)))
 
 copy-requires : tie.Need-copy-requires
-copy-requires c κs = search needs
+copy-requires c κs =
+    let p = c .before .before .before .before .before .before .before .before in
+    let a = start p .args in
+    let o = c .before .before .before .before .before .before .before .before .before .before .before .before .before .before .before .before .before .before .pass in
+    let h : number p ≤ length (o .last .1 .1 .1 .0) = c .before .before .before .before .before .before .if2 .taken in
+    let l = start p .pre .1 .1 in
+    let k : length (o .last .1 .1 .1 .0) ≡ length (now (a .ks)) = o .kept .1 .1 .1 .0 in
+    let m : length (o .last .1 .1 .1 .1 .0) ≡ length (now (a .ss)) = o .kept .1 .1 .1 .1 .0 in
+    let n : length (o .last .1 .1 .1 .1 .1 .0) ≡ length (now (a .ls)) = o .kept .1 .1 .1 .1 .1 .0 in
+    let w = p .shortest .ensures in
+    ((h, omega arith, omega arith), (omega arith, omega arith, omega arith))
 
 write-requires : tie.Need-write-requires
 write-requires c κs =
@@ -113,9 +123,9 @@ returns-3 c =
     let a = start p .args in
     let w = c .before .before .before .before .before .before .copy .ensures in
     let o = c .before .before .before .before .before .before .before .before .before .before .before .before .before .before .before .before .before .before .before .before .before .before .before .before .before .pass in
-    let h : number p ≤ length (o .last .1 .1 .0) = c .before .before .before .before .before .before .before .before .before .before .before .before .before .if2 .taken in
+    let h : number p ≤ length (o .last .1 .1 .1 .0) = c .before .before .before .before .before .before .before .before .before .before .before .before .before .if2 .taken in
     let l = start p .pre .1 .1 in
-    let m : length (o .last .1 .1 .0) ≡ length (now (a .ks)) = o .kept .1 .1 .0 in (
+    let m : length (o .last .1 .1 .1 .0) ≡ length (now (a .ks)) = o .kept .1 .1 .1 .0 in (
       sym (fits (ap (answerIn (bytes p)) (tallied p)) (omega (arith, p .shortest .ensures, c .before .before .before .before .before .before .before .before .before .before .before .before .before .before .if1 .left))),
       (
         copied-all kindOf (bytes p) (now (a .kinds)) (number p) (all p) (now (a .ks)) (omega arith) (o .ensures .1 .0) (w .0),

@@ -12,6 +12,9 @@ use Rattle.lex.proofs.Tallies.{tally-measured}
 use Rattle.lex.proofs.lexer.Statement.{statement}
 use Rattle.lex.proofs.lexer.Tie as tie
 
+leads-requires : tie.Need-leads-requires
+leads-requires c κs = search needs
+
 words-requires : tie.Need-words-requires
 words-requires c κs = search needs
 
@@ -47,8 +50,8 @@ slice-aggregate-lex-text-4 c = search needs
 
 lex-text-requires : tie.Need-lex-text-requires
 lex-text-requires c κs =
-    let taken = admitted-text textLimit (now (c .before .before .before .before .before .before .before .before .before .before .before .before .before .before .before .before .args .query)) _ (sym (c .before .before .before .before .before .before .before .before .before .before .admit .ensures) ∙ c .before .before .before .before .before .before .before .before .enum-told .given .1) in
-    (c .before .before .before .before .before .before .before .before .before .before .before .words .ensures, (omega (arith, taken .0), (refl, refl)))
+    let taken = admitted-text textLimit (now (c .before .before .before .before .before .before .before .before .before .before .before .before .before .before .before .before .before .before .args .query)) _ (sym (c .before .before .before .before .before .before .before .before .before .before .before .admit .ensures) ∙ c .before .before .before .before .before .before .before .before .before .enum-told .given .1) in
+    ((c .before .before .before .before .before .before .before .before .before .before .before .before .before .leads .ensures, c .before .before .before .before .before .before .before .before .before .before .before .before .words .ensures), (omega (arith, taken .0), (refl, refl)))
 
 same-length : tie.Need-same-length
 same-length c = search needs
@@ -63,7 +66,7 @@ returns-2 : tie.Need-returns-2
 unfolding lexed
 returns-2 c =
     let w = c .before .before .before .before .before .before .before .before .before .lex-text .ensures in
-    let m = tally-measured (now (c .before .before .before .before .before .before .before .before .before .before .before .before .before .before .before .before .before .before .before .before .before .before .before .before .before .before .args .query)) (sym (c .before .before .before .before .before .before .before .before .before .before .before .before .before .before .before .before .before .before .before .before .admit .ensures) ∙ c .before .before .before .before .before .before .before .before .before .before .before .before .before .before .before .before .before .before .enum-told .given .1) in
+    let m = tally-measured (now (c .before .before .before .before .before .before .before .before .before .before .before .before .before .before .before .before .before .before .before .before .before .before .before .before .before .before .before .before .args .query)) (sym (c .before .before .before .before .before .before .before .before .before .before .before .before .before .before .before .before .before .before .before .before .before .admit .ensures) ∙ c .before .before .before .before .before .before .before .before .before .before .before .before .before .before .before .before .before .before .before .enum-told .given .1) in
     (w .0 ∙ ap (roomed _) m, w .1)
 
 slice-aggregate-lex-text-5 : tie.Need-slice-aggregate-lex-text-5
@@ -80,8 +83,8 @@ slice-aggregate-lex-text-8 c = search needs
 
 lex-text-requires-2 : tie.Need-lex-text-requires-2
 lex-text-requires-2 c κs =
-    let taken = admitted-text textLimit (now (c .before .before .before .before .before .before .before .before .before .before .before .before .before .before .before .before .args .query)) _ (sym (c .before .before .before .before .before .before .before .before .before .before .admit .ensures) ∙ c .before .before .before .before .before .before .before .before .enum-told .given .1) in
-    (c .before .before .before .before .before .before .before .before .before .before .before .words .ensures, (omega (arith, taken .0), (refl, refl)))
+    let taken = admitted-text textLimit (now (c .before .before .before .before .before .before .before .before .before .before .before .before .before .before .before .before .before .before .args .query)) _ (sym (c .before .before .before .before .before .before .before .before .before .before .before .admit .ensures) ∙ c .before .before .before .before .before .before .before .before .before .enum-told .given .1) in
+    ((c .before .before .before .before .before .before .before .before .before .before .before .before .before .leads .ensures, c .before .before .before .before .before .before .before .before .before .before .before .before .words .ensures), (omega (arith, taken .0), (refl, refl)))
 
 same-length-4 : tie.Need-same-length-4
 same-length-4 c = search needs
@@ -96,13 +99,14 @@ returns-3 : tie.Need-returns-3
 unfolding lexed
 returns-3 c =
     let w = c .before .before .before .before .before .before .before .before .before .lex-text2 .ensures in
-    let m = tally-measured (now (c .before .before .before .before .before .before .before .before .before .before .before .before .before .before .before .before .before .before .before .before .before .before .before .before .before .before .args .query)) (sym (c .before .before .before .before .before .before .before .before .before .before .before .before .before .before .before .before .before .before .before .before .admit .ensures) ∙ c .before .before .before .before .before .before .before .before .before .before .before .before .before .before .before .before .before .before .enum-told .given .1) in
+    let m = tally-measured (now (c .before .before .before .before .before .before .before .before .before .before .before .before .before .before .before .before .before .before .before .before .before .before .before .before .before .before .before .before .args .query)) (sym (c .before .before .before .before .before .before .before .before .before .before .before .before .before .before .before .before .before .before .before .before .before .admit .ensures) ∙ c .before .before .before .before .before .before .before .before .before .before .before .before .before .before .before .before .before .before .before .enum-told .given .1) in
     (w .0 ∙ ap (roomed _) m, w .1)
 
 pub lexer-spec : {M : Type 1} → statement M
 lexer-spec =
     tie.close
     (tie.spec
+    leads-requires
     words-requires
     admit-requires
     enum-told

@@ -31,6 +31,9 @@ returns c =
     let e = c .before .enum-told2 .given .1 in
     rw (← c .before .before .before .admit .ensures, e) (ap Refused (c .not-admitted .ensures ∙ ap notAdmitted e))
 
+leads-requires : tie.Need-leads-requires
+leads-requires c κs = search needs
+
 words-requires : tie.Need-words-requires
 words-requires c κs = search needs
 
@@ -48,14 +51,14 @@ slice-aggregate-pass-4 c = search needs
 
 pass-requires : tie.Need-pass-requires
 pass-requires c κs =
-    let taken = admitted-text textLimit (now (c .before .before .before .before .before .before .before .before .before .args .query)) _ (sym (c .before .before .before .before .before .before .before .admit .ensures) ∙ c .before .before .before .before .before .enum-told .given .1) in
-    (c .before .before .before .before .words .ensures, (omega (arith, taken .0), (refl, refl)))
+    let taken = admitted-text textLimit (now (c .before .before .before .before .before .before .before .before .before .before .before .args .query)) _ (sym (c .before .before .before .before .before .before .before .before .before .admit .ensures) ∙ c .before .before .before .before .before .before .before .enum-told .given .1) in
+    ((c .before .before .before .before .before .before .leads .ensures, c .before .before .before .before .before .words .ensures), (omega (arith, taken .0), (refl, refl)))
 
 -- what the pass counts is the measure
-counts : (c : tie.After-pass) (t : Tally) → c .pass .result ≡ t → let q = now (c .before .before .before .before .before .before .before .before .before .before .args .query) in answerIn q t ≡ measured q
+counts : (c : tie.After-pass) (t : Tally) → c .pass .result ≡ t → let q = now (c .before .before .before .before .before .before .before .before .before .before .before .before .args .query) in answerIn q t ≡ measured q
 counts c t e =
-    let q = now (c .before .before .before .before .before .before .before .before .before .before .args .query) in
-    ap (answerIn q) (sym e ∙ c .pass .ensures .0) ∙ tally-measured q (sym (c .before .before .before .before .before .before .before .before .admit .ensures) ∙ c .before .before .before .before .before .before .enum-told .given .1)
+    let q = now (c .before .before .before .before .before .before .before .before .before .before .before .before .args .query) in
+    ap (answerIn q) (sym e ∙ c .pass .ensures .0) ∙ tally-measured q (sym (c .before .before .before .before .before .before .before .before .before .before .admit .ensures) ∙ c .before .before .before .before .before .before .before .before .enum-told .given .1)
 
 enum-known-t : tie.Need-enum-known-t
 enum-known-t c = search needs
@@ -69,7 +72,7 @@ refused-in-requires c κs = search needs
 returns-2 : tie.Need-returns-2
 returns-2 c =
     let e = c .before .enum-told3 .given .1 in
-    ap Refused (c .refused-in .ensures ∙ ap (refusedIn (now (c .before .before .before .before .before .before .before .before .before .before .before .before .before .before .before .before .args .query))) e) ∙ counts (c .before .before .before .before .before .before) _ e
+    ap Refused (c .refused-in .ensures ∙ ap (refusedIn (now (c .before .before .before .before .before .before .before .before .before .before .before .before .before .before .before .before .before .before .args .query))) e) ∙ counts (c .before .before .before .before .before .before) _ e
 
 returns-3 : tie.Need-returns-3
 returns-3 c = counts (c .before .before .before .before .before .before) _ (c .before .t .given .1)
@@ -83,6 +86,7 @@ measure-spec =
     enum-told-2
     not-admitted-requires
     returns
+    leads-requires
     words-requires
     slice-aggregate-pass
     slice-aggregate-pass-2

@@ -69,7 +69,7 @@ returns-3 : tie.Need-returns-3
 returns-3 c =
     let g = c .before .before .before .before .before .before .before .before .before .before .before .before .before .before .before .before in
     let w = c .before .before .before .before .before .before .brackets .ensures in
-    let e = so (g .args .next) (anew _ (g .pre .1 .1 .0) (c .before .before .before .before .before .before .before .before .before .before .enum-told3 .given .1)) in
+    let e = so (g .args .next) (anew _ (g .pre .1 .1 .1 .0) (c .before .before .before .before .before .before .before .before .before .before .enum-told3 .given .1)) in
     (w .0, leads-on (in-mode _ _ e (leads-start _)) (w .1))
 
 pub opened-spec : {M : Type 1} → statement M

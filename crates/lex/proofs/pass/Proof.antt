@@ -3,7 +3,7 @@ use Prim.Native.Nat.{ℕ, _+_, _-_, _≤_}
 use native.Mathlib.Omega.{arith}
 use mathlib.Core.List.{List}
 use mathlib.Core.Path.{_≡_, refl, sym, ap, ap₂, _∙_, subst}
-use lib.ListN.{length, drop}
+use lib.ListN.{length, take, drop}
 use denote.Ref.{now}
 use borrow.Author.Needs.{needs}
 use Rattle.proving.proofs.Lists.{rest-of}
@@ -12,9 +12,11 @@ use Rattle.munch.specs.declared.Mode.{Mode}
 use Rattle.munch.specs.declared.Step.{Step}
 use Rattle.munch.specs.Munch.{mode, munched}
 use Rattle.munch.specs.laws.Modes.{LeadsTo}
-use Rattle.munch.specs.steps.Lent.{lentStep, munchedBy}
+use Rattle.token.specs.steps.WordRows.{wordTable}
+use Rattle.munch.specs.steps.Leads.{leadTable}
+use Rattle.munch.specs.steps.Lent.{outsideBy}
 use Rattle.munch.proofs.Modes.{step-leads}
-use Rattle.munch.proofs.Table.{by-table}
+use Rattle.munch.proofs.Tables.{outside-by-tables}
 use Rattle.lex.specs.declared.Run.{Run}
 use Rattle.lex.specs.Outcome.{outcomeOf}
 use Rattle.lex.specs.steps.Pass.{outcomeAt, state, stateBehind, Alike, Leads, Reached}
@@ -24,11 +26,11 @@ use Rattle.lex.proofs.pass.Statement.{statement}
 use Rattle.lex.proofs.pass.Tie as tie
 
 abbrev Inv-loop : tie.InvT-loop
-Inv-loop words query kinds₀ starts₀ lengths₀ at₀ i₀ depth₀ kinds starts lengths at i depth =
+Inv-loop leads words query kinds₀ starts₀ lengths₀ at₀ i₀ depth₀ kinds starts lengths at i depth =
     (at ≤ length query) × (i ≤ at) × Leads (state kinds₀ starts₀ lengths₀ 0 (outcomeOf query)) (state kinds starts lengths i (outcomeAt query at (mode depth Nothing)))
 
 abbrev μ-loop : tie.MeasureT-loop
-μ-loop words query kinds₀ starts₀ lengths₀ at₀ i₀ depth₀ kinds starts lengths at i depth = length query - at
+μ-loop leads words query kinds₀ starts₀ lengths₀ at₀ i₀ depth₀ kinds starts lengths at i depth = length query - at
 
 -- once a step is known: where the loop stood
 abbrev Place : Type 0
@@ -52,8 +54,10 @@ here c = mode (depth c) Nothing
 module _ (c : Place) {s : Step} (e : c .outside-step .result ≡ s) where
   told : munched (here c) (drop (at c) (bytes c)) ≡ s
   told =
-      sym (c .outside-step .ensures ∙ ap₂ (λ (w t : List ℕ). lentStep w (depth c) Nothing t) (start c .pre .0) (rest-of (bytes c) (at c)) ∙ (unfold munchedBy in by-table (here c) (drop (at c) (bytes c))))
-      ∙ e
+      sym (c .outside-step .ensures ∙ lent ∙ outside-by-tables (depth c) (drop (at c) (bytes c))) ∙ e
+    where
+      lent : outsideBy (now (start c .args .leads)) (now (start c .args .words)) (depth c) (take (length (bytes c) - at c) (drop (at c) (bytes c))) ≡ outsideBy leadTable wordTable (depth c) (drop (at c) (bytes c))
+      lent = ap (λ (t : List ℕ). outsideBy (now (start c .args .leads)) (now (start c .args .words)) (depth c) t) (rest-of (bytes c) (at c)) ∙ ap₂ (λ (l w : List ℕ). outsideBy l w (depth c) (drop (at c) (bytes c))) (start c .pre .0 .0) (start c .pre .0 .1)
 
   leads-to : LeadsTo (depth c) Nothing s
   leads-to = rw told at (step-leads (depth c) Nothing (drop (at c) (bytes c)))
@@ -125,7 +129,7 @@ opened-requires c κs =
     let g = further c in
     let v = p .before .before .loop .inv in
     let h = start p .pre in
-    (h .1 .0, (leads-alike (behind c) (h .1 .1), (leads-to p (t .s .given .1), (g .1, omega arith))))
+    (h .0 .0, (h .1 .0, (leads-alike (behind c) (h .1 .1), (leads-to p (t .s .given .1), (g .1, omega arith)))))
 
 enum-known-r : tie.Need-enum-known-r Inv-loop μ-loop
 enum-known-r c = search needs
@@ -141,7 +145,7 @@ module _ (c : tie.After-opened Inv-loop μ-loop) where
   abbrev Passed : Run → Type 0
   Passed r =
       let a = start (lexed .before .before) .args in
-      let l = c .opened .last .1 in
+      let l = c .opened .last .1 .1 in
       Reached query (at (lexed .before .before) + lexed .s .given .0 .1 .0) r
       × Leads (state (now (a .kinds)) (now (a .starts)) (now (a .lengths)) 0 (outcomeOf query)) (stateBehind query (l .0) (l .1 .0) (l .1 .1 .0) (lexed .s .given .0 .1 .1 .0 .depth) r)
 
@@ -238,8 +242,8 @@ put-requires-2 c κs =
     let q = start p .pre .1 .0 in
     (alike p, omega arith)
 
-add-t52 : tie.Need-add-t52 Inv-loop μ-loop
-add-t52 c = let v = c .before .before .before .before .before .before .before .before .before .before .before .before .before .before .loop .inv in omega (arith, c .before .before .before .before .before .before .before .before .before .before .before .before .before .before .before .before .before .before .before .before .pre .1 .0)
+add-count : tie.Need-add-count Inv-loop μ-loop
+add-count c = let v = c .before .before .before .before .before .before .before .before .before .before .before .before .before .before .loop .inv in omega (arith, c .before .before .before .before .before .before .before .before .before .before .before .before .before .before .before .before .before .before .before .before .pre .1 .0)
 
 same-length-7 : tie.Need-same-length-7 Inv-loop μ-loop
 same-length-7 c = c .before .before .before .before .before .before .put2 .kept .0 ∙ c .before .before .before .before .before .before .before .before .before .before .before .before .before .before .loop .inv .2 .kinds .same
@@ -295,7 +299,7 @@ pass-spec =
     returns-2
     enum-told-2
     put-requires-2
-    add-t52
+    add-count
     same-length-7
     same-length-8
     same-length-9
