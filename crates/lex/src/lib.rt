@@ -427,7 +427,7 @@ fn lex_text(
 // A query of at most so many bytes is short; how many lexemes of it the lexer has lists for, and how many of a longer one.
 const SHORT: usize = 256;
 
-const FEW: usize = 32;
+const FEW: usize = 64;
 
 const MANY: usize = 1024;
 

@@ -22,7 +22,7 @@ fn list(query: &[u8], out: &mut [u8]) -> usize
 fn main() {
     let mut input = [0u8; MOST_READ];
     let n = io::read_full(STDIN_FILENO, &mut input);
-    let mut text = [0u8; listing::MOST_TEXT];
+    let mut text = [0u8; listing::ROOM];
     let end = list(&input[..n], &mut text);
     io::write_all(STDOUT_FILENO, &text[..end]);
 }

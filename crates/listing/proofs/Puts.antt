@@ -15,6 +15,10 @@ use Rattle.listing.specs.steps.Puts.{Puts}
 pub puts : (d : List ℕ) (at : ℕ) (xs : List ℕ) {r : ℕ} {e : List ℕ} → (r ≡ pastAt d at xs) × (e ≡ putAt d at xs) → at + length xs ≤ length d → Puts xs d at r e
 puts d at xs p h = record { room = h; past = p .0 ∙ put-stands d at xs h .0; left = p .1 }
 
+-- and a text that was put fits
+pub puts-told : {d xs e : List ℕ} {at r : ℕ} → Puts xs d at r e → (r ≡ pastAt d at xs) × (e ≡ putAt d at xs)
+puts-told {d} {xs} {at = at} p = (p .past ∙ sym (put-stands d at xs (p .room) .0), p .left)
+
 put-parts : (d : List ℕ) (at : ℕ) (xs : List ℕ) → at + length xs ≤ length d → putAt d at xs ≡ take at d ++ xs ++ drop (at + length xs) d
 unfolding putAt
 put-parts d at xs h = rw (le-leb (at + length xs) (length d) h)

@@ -7,10 +7,9 @@ ghost use Prim.Native.Nat.{_+_, _≤_};
 ghost use lib.ListN.{length};
 ghost use Rattle.writing.specs.Put.{putAt, pastAt};
 ghost use Rattle.writing.specs.Decimal.{mostDigits};
-ghost use Rattle.lex.specs.Outcome.{entry};
 ghost use Rattle.lex.specs.Lex.{lexed};
-ghost use Rattle.listing.specs.Listing.{mostLexemes, mostText, mostNumbers, numberThen, numbers, refusal, lexemeText, lexemesText, zipped, printedBy, printed};
-ghost use Rattle.listing.specs.steps.Puts.{Puts};
+ghost use Rattle.listing.specs.Listing.{mostLexemes, mostNumbers, numberThen, numbers, refusal, lexemesText, zipped, printedBy, printed};
+ghost use Rattle.listing.specs.steps.Puts.{mostRoom, Puts};
 
 // A longer input is refused.
 pub const INPUT_LIMIT: usize = 4_096;
@@ -22,10 +21,13 @@ const MOST_LEXEMES: usize = INPUT_LIMIT + 1;
 const LONGEST_LEXEME: usize = 28;
 
 // No text that is printed is longer.
-pub const MOST_TEXT: usize = MOST_LEXEMES * LONGEST_LEXEME;
+const MOST_TEXT: usize = MOST_LEXEMES * LONGEST_LEXEME;
 
 // No line is longer: `refused `, three numbers of 64 bits, and a sign behind each.
 const LONGEST_LINE: usize = 71;
+
+// A list of so many bytes has room for any line behind all that is printed before it, so that each is written where it stays.
+pub const ROOM: usize = MOST_TEXT + LONGEST_LINE;
 
 // Writes a number and what follows it.
 fn put_number(out: &mut [u8], at: usize, n: usize, after: &[u8]) -> usize
@@ -60,26 +62,22 @@ fn put_refusal(out: &mut [u8], at: usize, r: Refusal) -> usize
     writing::put_text(out, at, &line[..end])
 }
 
-// Writes `KIND START LENGTH` and LF at `at` where it fits, and answers the offset past it, else `at`.
-fn put_lexeme(out: &mut [u8], at: usize, kind: u16, start: u32, size: u32) -> usize
-    ensures { λ r. ⌜ r ≡ pastAt (now (out .entry)) at (lexemeText (entry kind start size)) ⌝ }
-    ensures { λ r. ⌜ now (out .exit) ≡ putAt (now (out .entry)) at (lexemeText (entry kind start size)) ⌝ }
-{
-    let mut line = [0u8; LONGEST_LINE];
-    let end = put_numbers(&mut line, 0, kind as usize, start as usize, size as usize);
-    writing::put_text(out, at, &line[..end])
-}
-
-// Writes a line for each of the lexemes that three lists of one length hold.
+// Writes a line `KIND START LENGTH` for each of the lexemes that three lists of one length hold.
 fn put_lexemes(kinds: &[u16], starts: &[u32], lengths: &[u32], text: &mut [u8]) -> usize
-    requires { ⌜ (length (now kinds) ≤ mostLexemes) × (mostText ≤ length (now text)) ⌝ }
+    requires { ⌜ (length (now kinds) ≤ mostLexemes) × (mostRoom ≤ length (now text)) ⌝ }
     requires { ⌜ (length (now starts) ≡ length (now kinds)) × (length (now lengths) ≡ length (now kinds)) ⌝ }
     ensures { λ r. ⌜ Puts (lexemesText (zipped (now (kinds .entry)) (now (starts .entry)) (now (lengths .entry)))) (now (text .entry)) 0 r (now (text .exit)) ⌝ }
 {
     let mut at = 0;
     let mut i = 0;
     while i < kinds.len() {
-        at = put_lexeme(text, at, kinds[i], starts[i], lengths[i]);
+        at = put_numbers(
+            text,
+            at,
+            kinds[i] as usize,
+            starts[i] as usize,
+            lengths[i] as usize,
+        );
         i += 1;
     }
     at
@@ -94,7 +92,7 @@ fn lex_to(
     text: &mut [u8],
 ) -> usize
     requires { ⌜ (length (now kinds) ≡ mostLexemes) × (length (now starts) ≡ mostLexemes) × (length (now lengths) ≡ mostLexemes) ⌝ }
-    requires { ⌜ mostText ≤ length (now text) ⌝ }
+    requires { ⌜ mostRoom ≤ length (now text) ⌝ }
     ensures { λ r. ⌜ Puts (printedBy (now (query .entry)) (lexed mostLexemes (now (query .entry)))) (now (text .entry)) 0 r (now (text .exit)) ⌝ }
 {
     let x = lex::lexer(query, kinds, starts, lengths);
@@ -106,7 +104,7 @@ fn lex_to(
 
 // Writes what is printed of an input to a list that has room for it.
 fn list_to(query: &[u8], text: &mut [u8]) -> usize
-    requires { ⌜ mostText ≤ length (now text) ⌝ }
+    requires { ⌜ mostRoom ≤ length (now text) ⌝ }
     ensures { λ r. ⌜ Puts (printed (now (query .entry))) (now (text .entry)) 0 r (now (text .exit)) ⌝ }
 {
     if query.len() > INPUT_LIMIT {
@@ -123,7 +121,10 @@ pub fn list_lexemes(query: &[u8], out: &mut [u8]) -> usize
     ensures { λ r. ⌜ r ≡ pastAt (now (out .entry)) 0 (printed (now (query .entry))) ⌝ }
     ensures { λ r. ⌜ now (out .exit) ≡ putAt (now (out .entry)) 0 (printed (now (query .entry))) ⌝ }
 {
-    let mut text = [0u8; MOST_TEXT];
+    if ROOM <= out.len() {
+        return list_to(query, out);
+    }
+    let mut text = [0u8; ROOM];
     let end = list_to(query, &mut text);
     writing::put_text(out, 0, &text[..end])
 }

@@ -4,6 +4,11 @@ use mathlib.Core.Path.{_≡_}
 use mathlib.Core.List.{List}
 use lib.ListN.{length}
 use Rattle.writing.specs.Put.{putAt}
+use Rattle.listing.specs.Listing.{longestLine, mostText}
+
+-- room for any line behind the longest text that is printed
+abbrev pub mostRoom : ℕ
+mostRoom = mostText + longestLine
 
 -- a text that fits was put into d at an offset, which left e, and r is the offset past it
 pub record Puts (text d : List ℕ) (at r : ℕ) (e : List ℕ) : Type 0 where
