@@ -28,7 +28,7 @@ use Rattle.string.specs.declared.Unquoting.the-variants.{Written, Refuse
 use Rattle.string.specs.Literal.{badLiteral}
 use Rattle.utf8.specs.Answers.{noRoom}
 use Rattle.string.specs.Tiles.{tileSize, tilesPast, tilesOf, hasBad, givesByte, pieceBytes, tileBytes, bytesOf}
-use Rattle.string.specs.steps.Measure.{isPlain, isSingle, tilesExtent, tilesUnquoting}
+use Rattle.string.specs.steps.Measure.{isPlain, GivesOne, isSingle, tilesExtent, tilesUnquoting}
 
 piece-few : (r : Reading) {room : ℕ} {f : Form} {v n : ℕ} → Fair room f v n → length (pieceBytes r f v) ≤ n
 unfolding pieceBytes
@@ -66,6 +66,13 @@ pub tiles-none : (q : ℕ) → tilesOf q [] ≡ []
 unfolding tilesPast
 tiles-none q = refl
 
+-- what stands behind a place, and at it
+pub peek-behind : (xs : List ℕ) (at i : ℕ) → at + i < length xs → peekAt (drop at xs) i ≡ getD xs (at + i) 0
+peek-behind xs at i l = getD-drop at xs i end ∙ getD-any xs (at + i) end 0 l
+
+pub peek-here : (xs : List ℕ) (at : ℕ) → at < length xs → peekAt (drop at xs) 0 ≡ getD xs at 0
+peek-here xs at l = peek-behind xs at 0 (omega arith) ∙ ap (λ (i : ℕ). getD xs i 0) (add-zero at)
+
 -- a plain byte is a tile by itself, and gives itself
 module _ (q c : ℕ) (p : isPlain q c ≡ true) where
   others : not (eqb c q) && leb c 0x7f ≡ true
@@ -79,12 +86,14 @@ module _ (q c : ℕ) (p : isPlain q c ≡ true) where
   unfolding isPlain beginsEscape
   no-escape = rw (not-true (eqb c backslash) (and-left (not (eqb c backslash)) (not (eqb c q) && leb c 0x7f) p))
 
-  pub plain-ascii : c ≤ 0x7f
-  plain-ascii = leb-true c 0x7f (and-right (not (eqb c q)) (leb c 0x7f) others)
+  ascii : c ≤ 0x7f
+  ascii = leb-true c 0x7f (and-right (not (eqb c q)) (leb c 0x7f) others)
 
-  plain-tile : (xs : List ℕ) → peekAt xs 0 ≡ c → tileOf q xs ≡ Piece Plain c 1
-  unfolding tileOf
-  plain-tile xs e = rw (ascii-at xs 0 (omega (arith, e, plain-ascii)), e, no-sign, no-escape)
+  pub plain-one : (xs : List ℕ) → peekAt xs 0 ≡ c → GivesOne q xs c 1
+  plain-one xs e = (Plain, tile, ascii)
+    where
+      tile : tileOf q xs ≡ Piece Plain c 1
+      tile = unfold tileOf in rw (ascii-at xs 0 (omega (arith, e, ascii)), e, no-sign, no-escape)
 
 module _ (q : ℕ) (h : q < 0x80) where
   -- the first tile, and those behind it
@@ -137,23 +146,19 @@ module _ (q : ℕ) (h : q < 0x80) where
       pub few : (r : Reading) → length (pieceBytes r f v) ≤ n
       few r = piece-few r fair
 
-    module _ (p : isPlain q (getD ys at 0) ≡ true) where
-      peeked : peekAt rest 0 ≡ getD ys at 0
-      peeked = getD-drop at ys 0 end ∙ rw (add-zero at) (getD-any ys at end 0 l)
+    -- a tile that gives one byte
+    module _ (v n : ℕ) (g : GivesOne q rest v n) where
+      pub one-fair : (0 < n) × (n ≤ length ys - at)
+      one-fair = let a = fair (g .0) v n (g .1) in (a .some, a .within)
 
-      plain-here : tileOf q rest ≡ Piece Plain (getD ys at 0) 1
-      plain-here = plain-tile q (getD ys at 0) p rest peeked
+      pub one-behind : hasBad (tilesOf q rest) ≡ hasBad (tilesOf q (drop (at + n) ys))
+      one-behind = bad-behind (g .0) v n (g .1)
 
-      pub plain-behind : hasBad (tilesOf q rest) ≡ hasBad (tilesOf q (drop (at + 1) ys))
-      plain-behind = bad-behind Plain (getD ys at 0) 1 plain-here
-
-      pub plain-bytes : (r : Reading) → bytesOf r (tilesOf q rest) ≡ getD ys at 0 ∷ bytesOf r (tilesOf q (drop (at + 1) ys))
-      plain-bytes r =
-          bytes-here Plain (getD ys at 0) 1 plain-here r
-          ∙ ap (λ (bs : List ℕ). bs ++ bytesOf r (tilesOf q (drop (at + 1) ys))) (single r Plain (getD ys at 0) (plain-single r))
+      pub one-bytes : (r : Reading) → bytesOf r (tilesOf q rest) ≡ v ∷ bytesOf r (tilesOf q (drop (at + n) ys))
+      one-bytes r = bytes-here (g .0) v n (g .1) r ∙ ap (λ (bs : List ℕ). bs ++ bytesOf r (tilesOf q (drop (at + n) ys))) (single r (g .0) v (small r))
         where
-          plain-single : (r : Reading) → isSingle r Plain (getD ys at 0) ≡ true
-          plain-single r = unfold isSingle in rw (le-leb (getD ys at 0) 0x7f (plain-ascii q (getD ys at 0) p))
+          small : (r : Reading) → isSingle r (g .0) v ≡ true
+          small r = unfold isSingle in rw (le-leb v 0x7f (g .2))
 
 -- tiles give no more bytes than they have
 module _ (q : ℕ) (h : q < 0x80) (r : Reading) where

@@ -16,15 +16,17 @@ ghost use mathlib.Core.Bool.{true, false};
 ghost use mathlib.Core.List.{[]};
 ghost use mathlib.Core.Path.{_≡_};
 ghost use Prim.Native.Nat.{_+_, _<_, _≤_};
-ghost use lib.ListN.{length};
+ghost use lib.ListN.{length, drop};
 ghost use lib.Seq.{sets};
 ghost use Rattle.scan.specs.Text.{has};
 ghost use Rattle.utf8.specs.Text.{WellFormed};
-ghost use Rattle.string.specs.Tile.{isAllowed};
+ghost use Rattle.string.specs.declared.tile.Form.the-variants.{Letter};
+ghost use Rattle.string.specs.declared.tile.Tile.the-variants.{Piece};
+ghost use Rattle.string.specs.Tile.{isAllowed, tileOf};
 ghost use Rattle.string.specs.Tiles.{tilesOf, hasBad, givesByte, pieceBytes, bytesOf};
 ghost use Rattle.string.specs.Literal.{isEnclosed, hasNewline, hasEscape, unquoted, unquotingOf, textBy, partOf, notUnquoted};
 ghost use Rattle.string.specs.declared.Unquoting.the-variants.{Inner, Written};
-ghost use Rattle.string.specs.steps.Measure.{isPlain, isSingle, tilesExtent, tilesUnquoting};
+ghost use Rattle.string.specs.steps.Measure.{isPlain, GivesOne, isSingle, tilesExtent, tilesUnquoting};
 
 // Document 01's "bad literal".
 pub const BAD_LITERAL: usize = 40;
@@ -41,6 +43,12 @@ pub enum Unquoting {
 pub enum Extent {
     Text { escaped: bool, size: usize },
     Bad,
+}
+
+// A tile that gives one byte: that byte, and how many bytes the tile has; none where it has 0.
+pub struct Single {
+    pub value: u8,
+    pub size: usize,
 }
 
 // The bytes of the two signs.
@@ -100,6 +108,49 @@ fn is_plain(sign: u8, c: u8) -> bool
     c != tile::BACKSLASH && (c != sign && c as u32 <= tile::LAST_ASCII)
 }
 
+// What the letter behind a backslash at a place stands for, or NO_VALUE where no such escape stands there.
+fn letter_at(inner: &[u8], at: usize, sign: u8) -> u32
+    requires { ⌜ at < length (now inner) ⌝ }
+    ensures { λ r. ⌜ ((r ≡ 0 → ⊥) → tileOf sign (drop at (now (inner .entry))) ≡ Piece Letter r 2) ⌝ }
+    ensures { λ r. ⌜ (sign < 0x80 → r ≤ 0x7f) ⌝ }
+{
+    let c = inner[at];
+    if c != tile::BACKSLASH {
+        return tile::NO_VALUE;
+    }
+    if c == sign {
+        return tile::NO_VALUE;
+    }
+    if sign == tile::BACKQUOTE {
+        return tile::NO_VALUE;
+    }
+    let behind = at + tile::BEHIND_BACKSLASH;
+    if inner.len() <= behind {
+        return tile::NO_VALUE;
+    }
+    tile::letter_value(sign, inner[behind])
+}
+
+// The tile at a place, where it is a plain byte or a letter behind a backslash: of these there are most.
+fn single_at(inner: &[u8], at: usize, sign: u8) -> Single
+    requires { ⌜ (sign < 0x80) × (at < length (now inner)) ⌝ }
+    ensures { λ r. ⌜ ((r .size ≡ 0 → ⊥) → GivesOne sign (drop at (now (inner .entry))) (r .value) (r .size)) ⌝ }
+{
+    let c = inner[at];
+    if is_plain(sign, c) {
+        return Single { value: c, size: 1 };
+    }
+    let value = letter_at(inner, at, sign);
+    if value == tile::NO_VALUE {
+        return Single { value: 0, size: 0 };
+    }
+    let byte = value as u8;
+    Single {
+        value: byte,
+        size: tile::BEHIND_LETTER,
+    }
+}
+
 // Whether a tile gives one byte, and not a character.
 fn gives_byte(reading: Reading, form: Form) -> bool
     ensures { λ r. ⌜ r ≡ givesByte reading form ⌝ }
@@ -135,9 +186,10 @@ fn measure(inner: &[u8], sign: u8, reading: Reading) -> Extent
     let mut n = 0;
     let mut from = 0;
     while from < inner.len() {
-        if is_plain(sign, inner[from]) {
+        let one = single_at(inner, from, sign);
+        if one.size != 0 {
             n += 1;
-            from += 1;
+            from += one.size;
             continue;
         }
         let t = tile::unquote_char(&inner[from..], sign);
@@ -182,11 +234,11 @@ fn write_pieces(inner: &[u8], sign: u8, reading: Reading, out: &mut [u8]) -> Ext
     let mut at = 0;
     let mut from = 0;
     while from < inner.len() {
-        let c = inner[from];
-        if is_plain(sign, c) {
-            out[at] = c;
+        let one = single_at(inner, from, sign);
+        if one.size != 0 {
+            out[at] = one.value;
             at += 1;
-            from += 1;
+            from += one.size;
             continue;
         }
         let t = tile::unquote_char(&inner[from..], sign);

@@ -12,6 +12,8 @@ use Rattle.string.specs.declared.tile.Form.{Form}
 use Rattle.string.specs.declared.tile.Tile.the-variants.{Piece}
 use Rattle.string.specs.Tile.{tileOf}
 use Rattle.string.specs.Tiles.{tilesOf, hasBad, pieceBytes, bytesOf}
+use Rattle.string.specs.declared.Single.{Single}
+use Rattle.string.specs.steps.Measure.{GivesOne}
 use Rattle.string.proofs.tile.Tiles.{Fair}
 use Rattle.string.proofs.Contents as contents
 use Rattle.string.proofs.measure.Statement.{statement}
@@ -27,32 +29,45 @@ abbrev μ-loop : tie.MeasureT-loop
 loop-holds : tie.Need-loop-holds Inv-loop μ-loop
 loop-holds c = (omega arith, omega arith, refl, omega arith)
 
-shared-slice-read-is-plain : tie.Need-shared-slice-read-is-plain Inv-loop μ-loop
-shared-slice-read-is-plain c = omega arith
+single-at-requires : tie.Need-single-at-requires Inv-loop μ-loop
+single-at-requires c κs = (c .before .before .before .pre, c .loop-test .taken)
 
-is-plain-requires : tie.Need-is-plain-requires Inv-loop μ-loop
-is-plain-requires c κs = tt
+-- a tile that gives one byte
+module _ (c : tie.Then1 Inv-loop μ-loop) where
+  abbrev o-loop : tie.At-loop Inv-loop μ-loop
+  o-loop = c .before .before .before .before
+
+  abbrev o : tie.Start Inv-loop μ-loop
+  o = o-loop .before .before
+
+  abbrev one : Single
+  one = c .before .before .single-at .result
+
+  gives : GivesOne (o .args .sign) (drop (o-loop .loop .from) (now (o .args .inner))) (one .value) (one .size)
+  gives = c .before .before .single-at .ensures (c .if1 .taken)
+
+  moves : (0 < one .size) × (one .size ≤ length (now (o .args .inner)) - o-loop .loop .from)
+  moves = contents.one-fair (o .args .sign) (o .pre) (now (o .args .inner)) (o-loop .loop .from) (c .before .before .before .loop-test .taken) (one .value) (one .size) gives
 
 add-n : tie.Need-add-n Inv-loop μ-loop
 add-n c = omega arith
 
 add-from : tie.Need-add-from Inv-loop μ-loop
-add-from c = omega arith
+add-from c = omega (arith, moves (c .before))
 
 loop-less : tie.Need-loop-less Inv-loop μ-loop
-loop-less c = omega arith
+loop-less c = omega (arith, moves (c .before))
 
 loop-again : tie.Need-loop-again Inv-loop μ-loop
 loop-again c =
-    let l = c .before .before .before .before in
-    let a = l .before .before in
-    let xs = now (a .args .inner) in
-    let t = c .before .before .before .loop-test .taken in
-    let p = sym (c .before .is-plain .ensures) ∙ c .if1 .taken in (
-      omega arith,
-      omega arith,
-      l .loop .inv .2 ∙ contents.plain-behind (a .args .sign) (a .pre) xs (l .loop .from) t p,
-      omega (arith, ap length (contents.plain-bytes (a .args .sign) (a .pre) xs (l .loop .from) t p (a .args .reading)), l .loop .inv .3),
+    let d = c .before in
+    let l = o-loop d .loop in
+    let a = o d .args in
+    let t = d .before .before .before .loop-test .taken in (
+      omega (arith, moves d),
+      omega (arith, moves d),
+      l .inv .2 ∙ contents.one-behind (a .sign) (o d .pre) (now (a .inner)) (l .from) t (one d .value) (one d .size) (gives d),
+      omega (arith, ap length (contents.one-bytes (a .sign) (o d .pre) (now (a .inner)) (l .from) t (one d .value) (one d .size) (gives d) (a .reading)), l .inv .3),
     )
 
 sub-unquote-char : tie.Need-sub-unquote-char Inv-loop μ-loop
@@ -167,8 +182,7 @@ measure-spec =
     Inv-loop
     μ-loop
     loop-holds
-    shared-slice-read-is-plain
-    is-plain-requires
+    single-at-requires
     add-n
     add-from
     loop-less

@@ -6,7 +6,7 @@ use native.Mathlib.Omega.{arith}
 use mathlib.Core.Bool.{true, true≢false}
 use mathlib.Core.List.{List, _∷_, _++_}
 use mathlib.Core.Path.{_≡_, refl, sym, ap, _∙_}
-use lib.ListN.{length, getD, drop, length-append, length-set}
+use lib.ListN.{length, drop, length-append, length-set}
 use lib.Seq.{sets}
 use denote.Ref.{now}
 use borrow.Author.Needs.{needs}
@@ -16,7 +16,8 @@ use Rattle.string.specs.declared.tile.Form.{Form}
 use Rattle.string.specs.declared.tile.Tile.the-variants.{Piece}
 use Rattle.string.specs.Tile.{tileOf}
 use Rattle.string.specs.Tiles.{tilesOf, hasBad, pieceBytes, bytesOf}
-use Rattle.string.specs.steps.Measure.{isPlain}
+use Rattle.string.specs.declared.Single.{Single}
+use Rattle.string.specs.steps.Measure.{GivesOne}
 use Rattle.string.proofs.tile.Tiles.{Fair}
 use Rattle.string.proofs.Contents as contents
 use Rattle.string.proofs.write_pieces.Statement.{statement}
@@ -34,48 +35,51 @@ abbrev μ-loop : tie.MeasureT-loop
 loop-holds : tie.Need-loop-holds Inv-loop μ-loop
 loop-holds c = (omega arith, refl, refl, omega arith, refl)
 
-shared-slice-read-c : tie.Need-shared-slice-read-c Inv-loop μ-loop
-shared-slice-read-c c = omega arith
+single-at-requires : tie.Need-single-at-requires Inv-loop μ-loop
+single-at-requires c κs = (c .before .before .before .before .pre .0, c .loop-test .taken)
 
-is-plain-requires : tie.Need-is-plain-requires Inv-loop μ-loop
-is-plain-requires c κs = tt
-
--- a plain byte, which gives itself
+-- a tile that gives one byte
 module _ (c : tie.Then1 Inv-loop μ-loop) where
-  abbrev p-loop : tie.At-loop Inv-loop μ-loop
-  p-loop = c .before .before .before .before
+  abbrev o-loop : tie.At-loop Inv-loop μ-loop
+  o-loop = c .before .before .before .before
 
-  abbrev start : tie.Start Inv-loop μ-loop
-  start = p-loop .before .before .before
+  abbrev o : tie.Start Inv-loop μ-loop
+  o = o-loop .before .before .before
 
-  plain : isPlain (start .args .sign) (getD (now (start .args .inner)) (p-loop .loop .from) 0) ≡ true
-  plain = sym (c .before .is-plain .ensures) ∙ c .if1 .taken
+  abbrev one : Single
+  one = c .before .before .single-at .result
 
-  itself : bytesOf (start .args .reading) (tilesOf (start .args .sign) (drop (p-loop .loop .from) (now (start .args .inner)))) ≡ getD (now (start .args .inner)) (p-loop .loop .from) 0 ∷ bytesOf (start .args .reading) (tilesOf (start .args .sign) (drop (p-loop .loop .from + 1) (now (start .args .inner))))
-  itself = contents.plain-bytes (start .args .sign) (start .pre .0) (now (start .args .inner)) (p-loop .loop .from) (c .before .before .before .loop-test .taken) plain (start .args .reading)
+  gives : GivesOne (o .args .sign) (drop (o-loop .loop .from) (now (o .args .inner))) (one .value) (one .size)
+  gives = c .before .before .single-at .ensures (c .if1 .taken)
+
+  moves : (0 < one .size) × (one .size ≤ length (now (o .args .inner)) - o-loop .loop .from)
+  moves = contents.one-fair (o .args .sign) (o .pre .0) (now (o .args .inner)) (o-loop .loop .from) (c .before .before .before .loop-test .taken) (one .value) (one .size) gives
+
+  itself : bytesOf (o .args .reading) (tilesOf (o .args .sign) (drop (o-loop .loop .from) (now (o .args .inner)))) ≡ one .value ∷ bytesOf (o .args .reading) (tilesOf (o .args .sign) (drop (o-loop .loop .from + one .size) (now (o .args .inner))))
+  itself = contents.one-bytes (o .args .sign) (o .pre .0) (now (o .args .inner)) (o-loop .loop .from) (c .before .before .before .loop-test .taken) (one .value) (one .size) gives (o .args .reading)
 
 slice-write-out : tie.Need-slice-write-out Inv-loop μ-loop
-slice-write-out c = omega (arith, ap length (itself c), start c .pre .1)
+slice-write-out c = omega (arith, ap length (itself c), o c .pre .1)
 
 add-at : tie.Need-add-at Inv-loop μ-loop
-add-at c = omega (arith, ap length (itself c), start c .pre .1)
+add-at c = omega (arith, ap length (itself c), o c .pre .1)
 
 add-from : tie.Need-add-from Inv-loop μ-loop
-add-from c = omega arith
+add-from c = omega (arith, moves (c .before))
 
 loop-less : tie.Need-loop-less Inv-loop μ-loop
-loop-less c = omega arith
+loop-less c = omega (arith, moves (c .before))
 
 loop-again : tie.Need-loop-again Inv-loop μ-loop
 loop-again c =
-    let inv = p-loop c .loop .inv in
-    let from = p-loop c .loop .from in
-    let b = contents.plain-behind (start c .args .sign) (start c .pre .0) (now (start c .args .inner)) from (c .before .before .before .loop-test .taken) (plain c) in (
-      omega arith,
-      length-set (p-loop c .loop .out) (p-loop c .loop .at) _ ∙ inv .1,
-      inv .2 ∙ b,
-      omega (arith, ap length (itself c), inv .3),
-      inv .4 ∙ rw (itself c, add-one (p-loop c .loop .at)),
+    let d = c .before in
+    let l = o-loop d .loop in
+    let b = contents.one-behind (o d .args .sign) (o d .pre .0) (now (o d .args .inner)) (l .from) (d .before .before .before .loop-test .taken) (one d .value) (one d .size) (gives d) in (
+      omega (arith, moves d),
+      length-set (l .out) (l .at) _ ∙ l .inv .1,
+      l .inv .2 ∙ b,
+      omega (arith, ap length (itself d), l .inv .3),
+      l .inv .4 ∙ rw (itself d, add-one (l .at)),
     )
 
 sub-unquote-char : tie.Need-sub-unquote-char Inv-loop μ-loop
@@ -210,8 +214,7 @@ write-pieces-spec =
     Inv-loop
     μ-loop
     loop-holds
-    shared-slice-read-c
-    is-plain-requires
+    single-at-requires
     slice-write-out
     add-at
     add-from
