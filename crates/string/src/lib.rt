@@ -8,6 +8,7 @@ use crate::tile::Tile;
 use scan::byte;
 use utf8::Admission;
 use utf8::ByteOffset;
+use utf8::CharNumber;
 use utf8::Reading;
 use utf8::Refusal;
 use utf8::Writing;
@@ -19,7 +20,7 @@ ghost use Prim.Native.Nat.{_+_, _<_, _≤_};
 ghost use lib.ListN.{length, drop};
 ghost use lib.Seq.{sets};
 ghost use Rattle.scan.specs.Text.{has};
-ghost use Rattle.utf8.specs.Text.{WellFormed};
+ghost use Rattle.utf8.specs.Answers.{textLimit, admitted};
 ghost use Rattle.string.specs.declared.tile.Form.the-variants.{Letter};
 ghost use Rattle.string.specs.declared.tile.Tile.the-variants.{Piece};
 ghost use Rattle.string.specs.Tile.{isAllowed, tileOf};
@@ -59,6 +60,18 @@ const SIGNS: usize = 2;
 const SHORT: usize = 128;
 
 const LONGER: usize = 4096;
+
+// Takes up a literal or a text. Whether it is ASCII is asked first, which is quicker for a long one.
+fn admit(text: &[u8]) -> Admission
+    ensures { λ r. ⌜ r ≡ admitted textLimit (now (text .entry)) ⌝ }
+{
+    if text.len() <= utf8::TEXT_LIMIT {
+        if utf8::is_ascii(text) {
+            return Admission::Admitted(CharNumber(text.len()));
+        }
+    }
+    utf8::admit(text, utf8::TEXT_LIMIT)
+}
 
 // Whether a literal stands between two quote signs that are the same.
 fn is_enclosed(literal: &[u8]) -> bool
@@ -101,7 +114,7 @@ fn has_escape(sign: u8, inner: &[u8]) -> bool
     sign != tile::BACKQUOTE && has_byte(inner, tile::BACKSLASH)
 }
 
-// Whether a byte is a character as it is, in a literal whose sign is not the backquote.
+// Whether a byte is ASCII, and neither the sign nor a backslash: it is a tile by itself.
 fn is_plain(sign: u8, c: u8) -> bool
     ensures { λ r. ⌜ r ≡ isPlain sign c ⌝ }
 {
@@ -323,7 +336,7 @@ pub fn unquote_string(literal: &[u8], reading: Reading, text: &mut [u8]) -> Unqu
     ensures { λ r. ⌜ r ≡ unquotingOf reading (length (now (text .entry))) (now (literal .entry)) ⌝ }
     ensures { λ r. ⌜ now (text .exit) ≡ textBy r (unquoted reading (now (literal .entry))) (now (text .entry)) ⌝ }
 {
-    let a = utf8::admit(literal, utf8::TEXT_LIMIT);
+    let a = admit(literal);
     let Admission::Admitted(_) = a else {
         return Unquoting::Refused(utf8::not_admitted(a));
     };
