@@ -1,30 +1,59 @@
 -- Laws of the tiles of a content, from a place on: the first of them, and those from behind it on. A tile takes some of the bytes that are
 -- there and gives no more than it takes (`each-fair`), so both passes end, and what they count fits.
 use Prim.Native.Nat.{ℕ, zero, suc, pred, _+_, _-_, _<_, _≤_}
+use native.Mathlib.Nat.{add-zero}
 use native.Mathlib.Omega.{arith}
-use mathlib.Core.Bool.{Bool, true, false, cond, _||_, true≢false}
+use mathlib.Core.Bool.{Bool, true, false, cond, _&&_, _||_, not, true≢false}
 use mathlib.Core.List.{List, [], _∷_, _++_}
 use mathlib.Core.Path.{_≡_, refl, sym, ap, subst, _∙_}
-use lib.ListN.{length, drop, length-drop, length-append, drop-of-length-le}
-use lib.Seq.{drop-drop}
-use lib.Dec.{leb}
-use borrow.Author.Tests.{leb-true}
-use Rattle.proving.proofs.Choice.{either}
+use lib.ListN.{length, getD, drop, length-drop, length-append, drop-of-length-le}
+use lib.Seq.{drop-drop, getD-drop}
+use lib.Dec.{eqb, leb}
+use borrow.Author.Tests.{leb-true, le-leb, lt-leb, not-true}
+use Rattle.proving.proofs.Choice.{either, and-left, and-right}
+use Rattle.proving.proofs.Lists.{getD-any}
+use Rattle.scan.specs.Byte.{end, peekAt, backslash}
 use Rattle.utf8.specs.declared.Reading.{Reading}
 use Rattle.utf8.specs.Code.{encoded}
 use Rattle.utf8.proofs.Ascii.{ascii-bytes}
+use Rattle.utf8.proofs.Bounds.{ascii-at}
 use Rattle.string.specs.declared.tile.Form.{Form}
+use Rattle.string.specs.declared.tile.Form.the-variants.{Plain}
 use Rattle.string.specs.declared.tile.Tile.{Tile}
 use Rattle.string.specs.declared.tile.Tile.the-variants.{Piece, Bad}
-use Rattle.string.specs.Tile.{tileOf}
+use Rattle.string.specs.Tile.{beginsEscape, tileOf}
 use Rattle.string.proofs.tile.Tiles.{Fair, FairTile, each-fair}
 use Rattle.string.specs.declared.Extent.the-variants as extent
+use Rattle.string.specs.declared.Unquoting.the-variants.{Written, Refused}
+use Rattle.string.specs.Literal.{badLiteral}
+use Rattle.utf8.specs.Answers.{noRoom}
 use Rattle.string.specs.Tiles.{tileSize, tilesPast, tilesOf, hasBad, givesByte, pieceBytes, tileBytes, bytesOf}
-use Rattle.string.specs.steps.Measure.{isSingle, tilesExtent}
+use Rattle.string.specs.steps.Measure.{isPlain, GivesOne, isSingle, tilesExtent, tilesUnquoting}
 
 piece-few : (r : Reading) {room : ℕ} {f : Form} {v n : ℕ} → Fair room f v n → length (pieceBytes r f v) ≤ n
 unfolding pieceBytes
 piece-few r {f = f} {n = n} a = either (λ (bs : List ℕ). length bs ≤ n) (givesByte r f) (λ t. omega (arith, a .some)) (λ t. a .few)
+
+-- what one tile gives
+module _ (r : Reading) (f : Form) (v : ℕ) where
+  pub single : isSingle r f v ≡ true → pieceBytes r f v ≡ v ∷ []
+  unfolding isSingle pieceBytes
+  single = go (leb v 0x7f) refl (givesByte r f)
+    where
+      go : (s : Bool) → leb v 0x7f ≡ s → (t : Bool) → s || t ≡ true → cond t (v ∷ []) (encoded v) ≡ v ∷ []
+      go true a true e = refl
+      go true a false e = let h : v ≤ 0x7f = leb-true v 0x7f a in ascii-bytes v (omega arith)
+      go false a true e = refl
+      go false a false e = absurd (true≢false (sym e))
+
+  pub several : isSingle r f v ≡ false → pieceBytes r f v ≡ encoded v
+  unfolding isSingle pieceBytes
+  several = go (leb v 0x7f) (givesByte r f)
+    where
+      go : (s t : Bool) → s || t ≡ false → cond t (v ∷ []) (encoded v) ≡ encoded v
+      go true t e = absurd (true≢false e)
+      go false true e = absurd (true≢false e)
+      go false false e = refl
 
 tiles-past : (q k : ℕ) (xs : List ℕ) → tilesPast q k xs ≡ tilesOf q (drop k xs)
 unfolding tilesPast
@@ -36,6 +65,35 @@ tiles-past q (suc k) (x ∷ xs) = tiles-past q k xs
 pub tiles-none : (q : ℕ) → tilesOf q [] ≡ []
 unfolding tilesPast
 tiles-none q = refl
+
+-- what stands behind a place, and at it
+pub peek-behind : (xs : List ℕ) (at i : ℕ) → at + i < length xs → peekAt (drop at xs) i ≡ getD xs (at + i) 0
+peek-behind xs at i l = getD-drop at xs i end ∙ getD-any xs (at + i) end 0 l
+
+pub peek-here : (xs : List ℕ) (at : ℕ) → at < length xs → peekAt (drop at xs) 0 ≡ getD xs at 0
+peek-here xs at l = peek-behind xs at 0 (omega arith) ∙ ap (λ (i : ℕ). getD xs i 0) (add-zero at)
+
+-- a plain byte is a tile by itself, and gives itself
+module _ (q c : ℕ) (p : isPlain q c ≡ true) where
+  others : not (eqb c q) && leb c 0x7f ≡ true
+  unfolding isPlain
+  others = and-right (not (eqb c backslash)) (not (eqb c q) && leb c 0x7f) p
+
+  no-sign : eqb c q ≡ false
+  no-sign = not-true (eqb c q) (and-left (not (eqb c q)) (leb c 0x7f) others)
+
+  no-escape : beginsEscape q c ≡ false
+  unfolding isPlain beginsEscape
+  no-escape = rw (not-true (eqb c backslash) (and-left (not (eqb c backslash)) (not (eqb c q) && leb c 0x7f) p))
+
+  ascii : c ≤ 0x7f
+  ascii = leb-true c 0x7f (and-right (not (eqb c q)) (leb c 0x7f) others)
+
+  pub plain-one : (xs : List ℕ) → peekAt xs 0 ≡ c → GivesOne q xs c 1
+  plain-one xs e = (Plain, tile, ascii)
+    where
+      tile : tileOf q xs ≡ Piece Plain c 1
+      tile = unfold tileOf in rw (ascii-at xs 0 (omega (arith, e, ascii)), e, no-sign, no-escape)
 
 module _ (q : ℕ) (h : q < 0x80) where
   -- the first tile, and those behind it
@@ -88,6 +146,20 @@ module _ (q : ℕ) (h : q < 0x80) where
       pub few : (r : Reading) → length (pieceBytes r f v) ≤ n
       few r = piece-few r fair
 
+    -- a tile that gives one byte
+    module _ (v n : ℕ) (g : GivesOne q rest v n) where
+      pub one-fair : (0 < n) × (n ≤ length ys - at)
+      one-fair = let a = fair (g .0) v n (g .1) in (a .some, a .within)
+
+      pub one-behind : hasBad (tilesOf q rest) ≡ hasBad (tilesOf q (drop (at + n) ys))
+      one-behind = bad-behind (g .0) v n (g .1)
+
+      pub one-bytes : (r : Reading) → bytesOf r (tilesOf q rest) ≡ v ∷ bytesOf r (tilesOf q (drop (at + n) ys))
+      one-bytes r = bytes-here (g .0) v n (g .1) r ∙ ap (λ (bs : List ℕ). bs ++ bytesOf r (tilesOf q (drop (at + n) ys))) (single r (g .0) v (small r))
+        where
+          small : (r : Reading) → isSingle r (g .0) v ≡ true
+          small r = unfold isSingle in rw (le-leb v 0x7f (g .2))
+
 -- tiles give no more bytes than they have
 module _ (q : ℕ) (h : q < 0x80) (r : Reading) where
   gives : (room : ℕ) (t : Tile) → 0 < room → FairTile room t → (0 < tileSize t) × (tileSize t ≤ room) × (length (tileBytes r t) ≤ tileSize t)
@@ -129,7 +201,7 @@ module _ (q : ℕ) (ys : List ℕ) (at : ℕ) (l : length ys ≤ at) where
   unfolding bytesOf
   bytes-over r = rw over
 
--- what the measuring pass says
+-- what the passes say
 module _ (r : Reading) (ts : List Tile) where
   pub measured-bad : hasBad ts ≡ true → extent.Bad ≡ tilesExtent r ts
   unfolding tilesExtent
@@ -139,23 +211,26 @@ module _ (r : Reading) (ts : List Tile) where
   unfolding tilesExtent
   measured-text n e h = rw (e, h)
 
--- and what one tile gives
-module _ (r : Reading) (f : Form) (v : ℕ) where
-  pub single : isSingle r f v ≡ true → pieceBytes r f v ≡ v ∷ []
-  unfolding isSingle pieceBytes
-  single = go (leb v 0x7f) refl (givesByte r f)
+  -- and what it tells of the tiles
+  pub text-told : (b : Bool) (n : ℕ) → tilesExtent r ts ≡ extent.Text b n → (hasBad ts ≡ false) × (n ≡ length (bytesOf r ts))
+  unfolding tilesExtent
+  text-told b n = go (hasBad ts) refl
     where
-      go : (s : Bool) → leb v 0x7f ≡ s → (t : Bool) → s || t ≡ true → cond t (v ∷ []) (encoded v) ≡ v ∷ []
-      go true a true e = refl
-      go true a false e = let h : v ≤ 0x7f = leb-true v 0x7f a in ascii-bytes v (omega arith)
-      go false a true e = refl
-      go false a false e = absurd (true≢false (sym e))
+      go : (s : Bool) → hasBad ts ≡ s → cond s extent.Bad (extent.Text true (length (bytesOf r ts))) ≡ extent.Text b n → (hasBad ts ≡ false) × (n ≡ length (bytesOf r ts))
+      go true a e = let z : _≡_ {A = ℕ} 0 1 = cc in absurd (omega arith)
+      go false a e = (a, cc)
 
-  pub several : isSingle r f v ≡ false → pieceBytes r f v ≡ encoded v
-  unfolding isSingle pieceBytes
-  several = go (leb v 0x7f) (givesByte r f)
-    where
-      go : (s t : Bool) → s || t ≡ false → cond t (v ∷ []) (encoded v) ≡ encoded v
-      go true t e = absurd (true≢false e)
-      go false true e = absurd (true≢false e)
-      go false false e = refl
+  -- the answer then, by the room
+  module _ (room : ℕ) where
+    pub answer-bad : tilesExtent r ts ≡ extent.Bad → Refused badLiteral ≡ tilesUnquoting r room ts
+    answer-bad e = rw e
+
+    module _ (b : Bool) (n : ℕ) (e : tilesExtent r ts ≡ extent.Text b n) where
+      to-write : tilesExtent r ts ≡ extent.Text true n
+      to-write = sym (measured-text n (text-told b n e .0) (text-told b n e .1))
+
+      pub answer-small : room < n → Refused noRoom ≡ tilesUnquoting r room ts
+      answer-small h = rw (to-write, lt-leb n room h)
+
+      pub answer-fits : n ≤ room → Written n ≡ tilesUnquoting r room ts
+      answer-fits h = rw (to-write, le-leb n room h)

@@ -2,15 +2,15 @@
 -- are ASCII; so where it has no escape, the sign alone can be bad in it (`Plain`).
 use Prim.Native.Nat.{ℕ, suc, _-_, _<_, _≤_}
 use native.Mathlib.Omega.{arith}
-use mathlib.Core.Bool.{Bool, true, false, cond, _&&_, _||_, not}
+use mathlib.Core.Bool.{Bool, true, false, _&&_, _||_, not}
 use mathlib.Core.List.{List, [], _∷_}
-use mathlib.Core.Path.{_≡_, refl, sym, ap}
+use mathlib.Core.Path.{_≡_, refl}
 use lib.Dec.{eqb, leb}
 use lib.ListN.{length, take, drop, getD}
-use borrow.Author.Tests.{eqb-true, leb-true, le-leb, lt-leb, not-false}
+use borrow.Author.Tests.{eqb-true, leb-true, not-false}
 use Rattle.scan.specs.Text.{has}
 use Rattle.scan.specs.Byte.{end, peekAt, backquote, doubleQuote, singleQuote, isQuote}
-use Rattle.proving.proofs.Choice.{and-left, and-right, told}
+use Rattle.proving.proofs.Choice.{and-left, and-right}
 use Rattle.scan.proofs.byte.Classes.{below-not}
 use Rattle.proving.proofs.Lists.{getD-any}
 use Rattle.utf8.specs.declared.CharNumber.{CharNumber}
@@ -18,14 +18,14 @@ use Rattle.utf8.specs.declared.Reading.{Reading}
 use Rattle.utf8.specs.declared.Refusal.{Refusal}
 use Rattle.utf8.specs.declared.Admission.the-variants as admission
 use Rattle.utf8.specs.Text.{WellFormed, charNumber}
-use Rattle.utf8.specs.Answers.{textLimit, noRoom, admitted}
+use Rattle.utf8.specs.Answers.{textLimit, admitted}
 use Rattle.utf8.proofs.Laws.{ascii-head}
 use Rattle.utf8.proofs.Cuts.{text-cut, boundary}
 use Rattle.string.specs.declared.Extent.{Extent}
 use Rattle.string.specs.declared.Extent.the-variants as extent
-use Rattle.string.specs.declared.Unquoting.the-variants.{Written, Refused}
+use Rattle.string.specs.declared.Unquoting.the-variants.{Refused}
 use Rattle.string.specs.Tiles.{tilesOf, hasBad}
-use Rattle.string.specs.Literal.{signOf, innerOf, isEnclosed, hasNewline, isBadLiteral, hasEscape, unquoted, extentOf, unquotingBy, unquotingOf}
+use Rattle.string.specs.Literal.{signOf, innerOf, isEnclosed, hasNewline, isBadLiteral, hasEscape, extentOf, unquotingBy, unquotingOf}
 use Rattle.string.specs.steps.Measure.{tilesExtent}
 use Rattle.string.proofs.Plain.{neither, unescaped}
 
@@ -121,25 +121,6 @@ sound xs e =
     let b = neither (hasNewline (signOf xs) (innerOf xs)) (hasBad (tilesOf (signOf xs) (innerOf xs))) (a .1) in
     record { enclosed = not-false (isEnclosed xs) (a .0); whole = b .0; good = b .1 }
 
-abbrev tag : Extent → ℕ
-tag (extent.Text false n) = 0
-tag (extent.Text true n) = 1
-tag extent.Bad = 2
-
-abbrev sizeOf : Extent → ℕ
-sizeOf (extent.Text b n) = n
-sizeOf extent.Bad = 0
-
--- what is to be written is the text of a literal that is not bad
-pub text-told : (r : Reading) (xs : List ℕ) (n : ℕ) → extentOf r xs ≡ extent.Text true n → Sound xs × (n ≡ length (unquoted r xs))
-unfolding extentOf
-text-told r xs n = go (isBadLiteral xs) refl (hasEscape (signOf xs) (innerOf xs))
-  where
-    go : (s : Bool) → isBadLiteral xs ≡ s → (t : Bool) → cond s extent.Bad (cond t (extent.Text true (length (unquoted r xs))) (extent.Text false (length (innerOf xs)))) ≡ extent.Text true n → Sound xs × (n ≡ length (unquoted r xs))
-    go true a t e = told tag e refl (λ z. omega arith)
-    go false a true e = (sound xs a, sym (ap sizeOf e))
-    go false a false e = told tag e refl (λ z. omega arith)
-
 -- the answer, by what is admitted and what the literal comes to
 module _ (r : Reading) (room : ℕ) (xs : List ℕ) where
   pub refused-first : (s : Refusal) → admitted textLimit xs ≡ admission.Refused s → Refused s ≡ unquotingOf r room xs
@@ -149,11 +130,3 @@ module _ (r : Reading) (room : ℕ) (xs : List ℕ) where
   pub by-extent : (n : CharNumber) (e : Extent) → admitted textLimit xs ≡ admission.Admitted n → extentOf r xs ≡ e → unquotingBy room e ≡ unquotingOf r room xs
   unfolding unquotingOf
   by-extent n e a x = rw (a, x)
-
-  -- a text to be written goes by the room
-  module _ (n : CharNumber) (m : ℕ) (a : admitted textLimit xs ≡ admission.Admitted n) (x : extentOf r xs ≡ extent.Text true m) where
-    pub too-small : room < m → Refused noRoom ≡ unquotingOf r room xs
-    too-small h = let e = by-extent n (extent.Text true m) a x in rw (lt-leb m room h) at e
-
-    pub fitted : m ≤ room → Written m ≡ unquotingOf r room xs
-    fitted h = let e = by-extent n (extent.Text true m) a x in rw (le-leb m room h) at e

@@ -2,11 +2,14 @@
 use crate::tile;
 use utf8::Admission;
 use utf8::Writing;
+ghost use mathlib.Core.Bool.{cond};
 ghost use mathlib.Core.Option.{Option·getD};
 ghost use mathlib.Core.Path.{_≡_};
 ghost use Prim.Native.Nat.{_+_, _≤_};
+ghost use lib.Dec.{eqb};
 ghost use lib.ListN.{length};
 ghost use lib.Seq.{sets};
+ghost use Rattle.utf8.specs.Answers.{textLimit};
 ghost use Rattle.utf8.specs.Writing.{leftBy};
 ghost use Rattle.string.specs.Letters.{letterOf};
 ghost use Rattle.string.specs.Escape.{escaped, escapingOf};
@@ -29,24 +32,33 @@ fn letter_of(c: u8) -> u8
     }
 }
 
-// How many bytes a byte has when it is escaped.
-fn escaped_size(c: u8) -> usize
-    ensures { λ r. ⌜ r ≡ length (escapedByte c) ⌝ }
+// 1 where two bytes are the same, else 0.
+fn same(a: u8, b: u8) -> u8
+    ensures { λ r. ⌜ r ≡ cond (eqb a b) 1 0 ⌝ }
 {
-    if letter_of(c) == NO_LETTER { 1 } else { 2 }
+    if a == b { 1 } else { 0 }
+}
+
+// How many bytes more a byte has when it is escaped. There is no branch in it, so that many bytes are counted at once.
+fn extra(c: u8) -> u8
+    ensures { λ r. ⌜ r + 1 ≡ length (escapedByte c) ⌝ }
+{
+    same(c, tile::BACKSLASH)
+        | (same(c, b'"') | (same(c, b'\n') | (same(c, b'\r') | same(c, b'\t'))))
 }
 
 // How many bytes a text has when it is escaped.
 fn escaped_length(text: &[u8]) -> usize
+    requires { ⌜ length (now text) ≤ textLimit ⌝ }
     ensures { λ r. ⌜ r ≡ length (escapedBytes (now (text .entry))) ⌝ }
 {
-    let mut n = 0;
+    let mut more: u32 = 0;
     let mut i = 0;
     while i < text.len() {
-        n += escaped_size(text[i]);
+        more += extra(text[i]) as u32;
         i += 1;
     }
-    n
+    text.len() + more as usize
 }
 
 // Writes a byte, escaped, at a place where it fits, and answers the place past it.
@@ -83,7 +95,7 @@ pub fn escape_string(text: &[u8], out: &mut [u8]) -> Writing
     ensures { λ r. ⌜ r ≡ escapingOf (length (now (out .entry))) (now (text .entry)) ⌝ }
     ensures { λ r. ⌜ now (out .exit) ≡ leftBy r (escaped (now (text .entry))) (now (out .entry)) ⌝ }
 {
-    let a = utf8::admit(text, utf8::TEXT_LIMIT);
+    let a = crate::admit(text);
     let Admission::Admitted(_) = a else {
         return Writing::Refused(utf8::not_admitted(a));
     };

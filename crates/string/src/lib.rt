@@ -8,6 +8,7 @@ use crate::tile::Tile;
 use scan::byte;
 use utf8::Admission;
 use utf8::ByteOffset;
+use utf8::CharNumber;
 use utf8::Reading;
 use utf8::Refusal;
 use utf8::Writing;
@@ -16,14 +17,17 @@ ghost use mathlib.Core.Bool.{true, false};
 ghost use mathlib.Core.List.{[]};
 ghost use mathlib.Core.Path.{_≡_};
 ghost use Prim.Native.Nat.{_+_, _<_, _≤_};
-ghost use lib.ListN.{length};
+ghost use lib.ListN.{length, drop};
 ghost use lib.Seq.{sets};
-ghost use Rattle.utf8.specs.Text.{WellFormed};
-ghost use Rattle.string.specs.Tile.{isAllowed};
+ghost use Rattle.scan.specs.Text.{has};
+ghost use Rattle.utf8.specs.Answers.{textLimit, admitted};
+ghost use Rattle.string.specs.declared.tile.Form.the-variants.{Letter};
+ghost use Rattle.string.specs.declared.tile.Tile.the-variants.{Piece};
+ghost use Rattle.string.specs.Tile.{isAllowed, tileOf};
 ghost use Rattle.string.specs.Tiles.{tilesOf, hasBad, givesByte, pieceBytes, bytesOf};
-ghost use Rattle.string.specs.Literal.{isEnclosed, hasNewline, hasEscape, unquoted, extentOf, unquotingOf, textBy, partOf, notUnquoted};
+ghost use Rattle.string.specs.Literal.{isEnclosed, hasNewline, hasEscape, unquoted, unquotingOf, textBy, partOf, notUnquoted};
 ghost use Rattle.string.specs.declared.Unquoting.the-variants.{Inner, Written};
-ghost use Rattle.string.specs.steps.Measure.{isSingle, tilesExtent};
+ghost use Rattle.string.specs.steps.Measure.{isPlain, GivesOne, isSingle, tilesExtent, tilesUnquoting};
 
 // Document 01's "bad literal".
 pub const BAD_LITERAL: usize = 40;
@@ -42,8 +46,32 @@ pub enum Extent {
     Bad,
 }
 
+// A tile that gives one byte: that byte, and how many bytes the tile has; none where it has 0.
+pub struct Single {
+    pub value: u8,
+    pub size: usize,
+}
+
 // The bytes of the two signs.
 const SIGNS: usize = 2;
+
+// The longest contents that are read once: their text is written to a buffer of this length, for short ones and for longer ones, and copied
+// once all of it is known to be good.
+const SHORT: usize = 128;
+
+const LONGER: usize = 4096;
+
+// Takes up a literal or a text. Whether it is ASCII is asked first, which is quicker for a long one.
+fn admit(text: &[u8]) -> Admission
+    ensures { λ r. ⌜ r ≡ admitted textLimit (now (text .entry)) ⌝ }
+{
+    if text.len() <= utf8::TEXT_LIMIT {
+        if utf8::is_ascii(text) {
+            return Admission::Admitted(CharNumber(text.len()));
+        }
+    }
+    utf8::admit(text, utf8::TEXT_LIMIT)
+}
 
 // Whether a literal stands between two quote signs that are the same.
 fn is_enclosed(literal: &[u8]) -> bool
@@ -57,18 +85,83 @@ fn is_enclosed(literal: &[u8]) -> bool
     literal[n - 1] == sign && byte::is_quote(sign as usize)
 }
 
+// Whether a text has the byte. All of it is looked at, so that many bytes are at once.
+fn has_byte(s: &[u8], c: u8) -> bool
+    ensures { λ r. ⌜ r ≡ has c (now (s .entry)) ⌝ }
+{
+    let mut found = false;
+    let mut i = 0;
+    while i < s.len() {
+        if s[i] == c {
+            found = true;
+        }
+        i += 1;
+    }
+    found
+}
+
 // Whether there is a line feed where none may be.
 fn has_newline(sign: u8, inner: &[u8]) -> bool
     ensures { λ r. ⌜ r ≡ hasNewline sign (now (inner .entry)) ⌝ }
 {
-    sign != tile::BACKQUOTE && scan::contains(inner, tile::LINE_FEED)
+    sign != tile::BACKQUOTE && has_byte(inner, tile::LINE_FEED)
 }
 
 // Whether there is an escape.
 fn has_escape(sign: u8, inner: &[u8]) -> bool
     ensures { λ r. ⌜ r ≡ hasEscape sign (now (inner .entry)) ⌝ }
 {
-    sign != tile::BACKQUOTE && scan::contains(inner, tile::BACKSLASH)
+    sign != tile::BACKQUOTE && has_byte(inner, tile::BACKSLASH)
+}
+
+// Whether a byte is ASCII, and neither the sign nor a backslash: it is a tile by itself.
+fn is_plain(sign: u8, c: u8) -> bool
+    ensures { λ r. ⌜ r ≡ isPlain sign c ⌝ }
+{
+    c != tile::BACKSLASH && (c != sign && c as u32 <= tile::LAST_ASCII)
+}
+
+// What the letter behind a backslash at a place stands for, or NO_VALUE where no such escape stands there.
+fn letter_at(inner: &[u8], at: usize, sign: u8) -> u32
+    requires { ⌜ at < length (now inner) ⌝ }
+    ensures { λ r. ⌜ ((r ≡ 0 → ⊥) → tileOf sign (drop at (now (inner .entry))) ≡ Piece Letter r 2) ⌝ }
+    ensures { λ r. ⌜ (sign < 0x80 → r ≤ 0x7f) ⌝ }
+{
+    let c = inner[at];
+    if c != tile::BACKSLASH {
+        return tile::NO_VALUE;
+    }
+    if c == sign {
+        return tile::NO_VALUE;
+    }
+    if sign == tile::BACKQUOTE {
+        return tile::NO_VALUE;
+    }
+    let behind = at + tile::BEHIND_BACKSLASH;
+    if inner.len() <= behind {
+        return tile::NO_VALUE;
+    }
+    tile::letter_value(sign, inner[behind])
+}
+
+// The tile at a place, where it is a plain byte or a letter behind a backslash: of these there are most.
+fn single_at(inner: &[u8], at: usize, sign: u8) -> Single
+    requires { ⌜ (sign < 0x80) × (at < length (now inner)) ⌝ }
+    ensures { λ r. ⌜ ((r .size ≡ 0 → ⊥) → GivesOne sign (drop at (now (inner .entry))) (r .value) (r .size)) ⌝ }
+{
+    let c = inner[at];
+    if is_plain(sign, c) {
+        return Single { value: c, size: 1 };
+    }
+    let value = letter_at(inner, at, sign);
+    if value == tile::NO_VALUE {
+        return Single { value: 0, size: 0 };
+    }
+    let byte = value as u8;
+    Single {
+        value: byte,
+        size: tile::BEHIND_LETTER,
+    }
 }
 
 // Whether a tile gives one byte, and not a character.
@@ -106,6 +199,12 @@ fn measure(inner: &[u8], sign: u8, reading: Reading) -> Extent
     let mut n = 0;
     let mut from = 0;
     while from < inner.len() {
+        let one = single_at(inner, from, sign);
+        if one.size != 0 {
+            n += 1;
+            from += one.size;
+            continue;
+        }
         let t = tile::unquote_char(&inner[from..], sign);
         let Tile::Piece { form, value, size } = t else {
             return Extent::Bad;
@@ -116,32 +215,6 @@ fn measure(inner: &[u8], sign: u8, reading: Reading) -> Extent
     Extent::Text {
         escaped: true,
         size: n,
-    }
-}
-
-// What a literal comes to.
-fn extent_of(literal: &[u8], reading: Reading) -> Extent
-    requires { ⌜ WellFormed (now literal) ⌝ }
-    ensures { λ r. ⌜ r ≡ extentOf reading (now (literal .entry)) ⌝ }
-{
-    if !is_enclosed(literal) {
-        return Extent::Bad;
-    }
-    let sign = literal[0];
-    let end = literal.len() - 1;
-    let inner = &literal[1..end];
-    if has_newline(sign, inner) {
-        return Extent::Bad;
-    }
-    if has_escape(sign, inner) {
-        return measure(inner, sign, reading);
-    }
-    if scan::contains(inner, sign) {
-        return Extent::Bad;
-    }
-    Extent::Text {
-        escaped: false,
-        size: inner.len(),
     }
 }
 
@@ -163,22 +236,98 @@ fn put_piece(reading: Reading, form: Form, value: u32, out: &mut [u8], at: usize
     at + n
 }
 
-// Writes what the tiles of a content give at the front of a buffer that it fits.
-fn write_pieces(inner: &[u8], sign: u8, reading: Reading, out: &mut [u8])
-    requires { ⌜ (sign < 0x80) × (hasBad (tilesOf sign (now inner)) ≡ false) ⌝ }
+// Writes what the tiles of a content give at the front of a buffer that it fits, and answers how many bytes that is. Where a tile is bad,
+// what the tiles before it give is left there.
+fn write_pieces(inner: &[u8], sign: u8, reading: Reading, out: &mut [u8]) -> Extent
+    requires { ⌜ sign < 0x80 ⌝ }
     requires { ⌜ length (bytesOf reading (tilesOf sign (now inner))) ≤ length (now out) ⌝ }
-    ensures { λ _. ⌜ now (out .exit) ≡ sets (now (out .entry)) 0 (bytesOf reading (tilesOf sign (now (inner .entry)))) ⌝ }
+    ensures { λ r. ⌜ r ≡ tilesExtent reading (tilesOf sign (now (inner .entry))) ⌝ }
+    ensures { λ _. ⌜ (hasBad (tilesOf sign (now (inner .entry))) ≡ false → now (out .exit) ≡ sets (now (out .entry)) 0 (bytesOf reading (tilesOf sign (now (inner .entry))))) ⌝ }
 {
     let mut at = 0;
     let mut from = 0;
     while from < inner.len() {
+        let one = single_at(inner, from, sign);
+        if one.size != 0 {
+            out[at] = one.value;
+            at += 1;
+            from += one.size;
+            continue;
+        }
         let t = tile::unquote_char(&inner[from..], sign);
         let Tile::Piece { form, value, size } = t else {
-            return;
+            return Extent::Bad;
         };
         at = put_piece(reading, form, value, out, at);
         from += size;
     }
+    Extent::Text {
+        escaped: true,
+        size: at,
+    }
+}
+
+// Copies a text to the front of a buffer that it fits.
+fn copy(text: &[u8], out: &mut [u8])
+    requires { ⌜ length (now text) ≤ length (now out) ⌝ }
+    ensures { λ _. ⌜ now (out .exit) ≡ sets (now (out .entry)) 0 (now (text .entry)) ⌝ }
+{
+    let mut i = 0;
+    while i < text.len() {
+        out[i] = text[i];
+        i += 1;
+    }
+}
+
+// The text of a content with escapes, by way of a buffer of one's own that is as long as the content.
+fn read_once(inner: &[u8], sign: u8, reading: Reading, own: &mut [u8], text: &mut [u8]) -> Unquoting
+    requires { ⌜ (sign < 0x80) × (length (now inner) ≤ length (now own)) ⌝ }
+    ensures { λ r. ⌜ r ≡ tilesUnquoting reading (length (now (text .entry))) (tilesOf sign (now (inner .entry))) ⌝ }
+    ensures { λ r. ⌜ now (text .exit) ≡ textBy r (bytesOf reading (tilesOf sign (now (inner .entry)))) (now (text .entry)) ⌝ }
+{
+    let e = write_pieces(inner, sign, reading, own);
+    let Extent::Text { escaped: _, size } = e else {
+        return Unquoting::Refused(utf8::at_start(BAD_LITERAL));
+    };
+    if text.len() < size {
+        return Unquoting::Refused(utf8::at_start(utf8::NO_ROOM));
+    }
+    copy(&own[..size], text);
+    Unquoting::Written(size)
+}
+
+// The same for a content of any length, which is measured first.
+fn read_twice(inner: &[u8], sign: u8, reading: Reading, text: &mut [u8]) -> Unquoting
+    requires { ⌜ sign < 0x80 ⌝ }
+    ensures { λ r. ⌜ r ≡ tilesUnquoting reading (length (now (text .entry))) (tilesOf sign (now (inner .entry))) ⌝ }
+    ensures { λ r. ⌜ now (text .exit) ≡ textBy r (bytesOf reading (tilesOf sign (now (inner .entry)))) (now (text .entry)) ⌝ }
+{
+    let e = measure(inner, sign, reading);
+    let Extent::Text { escaped: _, size } = e else {
+        return Unquoting::Refused(utf8::at_start(BAD_LITERAL));
+    };
+    if text.len() < size {
+        return Unquoting::Refused(utf8::at_start(utf8::NO_ROOM));
+    }
+    write_pieces(inner, sign, reading, text);
+    Unquoting::Written(size)
+}
+
+// The text of a content with escapes: but for a very long one its tiles are read once.
+fn read_tiles(inner: &[u8], sign: u8, reading: Reading, text: &mut [u8]) -> Unquoting
+    requires { ⌜ sign < 0x80 ⌝ }
+    ensures { λ r. ⌜ r ≡ tilesUnquoting reading (length (now (text .entry))) (tilesOf sign (now (inner .entry))) ⌝ }
+    ensures { λ r. ⌜ now (text .exit) ≡ textBy r (bytesOf reading (tilesOf sign (now (inner .entry)))) (now (text .entry)) ⌝ }
+{
+    if inner.len() <= SHORT {
+        let mut own = [0; SHORT];
+        return read_once(inner, sign, reading, &mut own, text);
+    }
+    if inner.len() <= LONGER {
+        let mut own = [0; LONGER];
+        return read_once(inner, sign, reading, &mut own, text);
+    }
+    read_twice(inner, sign, reading, text)
 }
 
 // Reads a literal: a text without escapes is left where it stands, and another is written at the front of a lent buffer; nothing is
@@ -187,23 +336,26 @@ pub fn unquote_string(literal: &[u8], reading: Reading, text: &mut [u8]) -> Unqu
     ensures { λ r. ⌜ r ≡ unquotingOf reading (length (now (text .entry))) (now (literal .entry)) ⌝ }
     ensures { λ r. ⌜ now (text .exit) ≡ textBy r (unquoted reading (now (literal .entry))) (now (text .entry)) ⌝ }
 {
-    let a = utf8::admit(literal, utf8::TEXT_LIMIT);
+    let a = admit(literal);
     let Admission::Admitted(_) = a else {
         return Unquoting::Refused(utf8::not_admitted(a));
     };
-    let e = extent_of(literal, reading);
-    let Extent::Text { escaped, size } = e else {
+    if !is_enclosed(literal) {
         return Unquoting::Refused(utf8::at_start(BAD_LITERAL));
-    };
-    if !escaped {
-        return Unquoting::Inner(size);
     }
-    if text.len() < size {
-        return Unquoting::Refused(utf8::at_start(utf8::NO_ROOM));
-    }
+    let sign = literal[0];
     let end = literal.len() - 1;
-    write_pieces(&literal[1..end], literal[0], reading, text);
-    Unquoting::Written(size)
+    let inner = &literal[1..end];
+    if has_newline(sign, inner) {
+        return Unquoting::Refused(utf8::at_start(BAD_LITERAL));
+    }
+    if has_escape(sign, inner) {
+        return read_tiles(inner, sign, reading, text);
+    }
+    if has_byte(inner, sign) {
+        return Unquoting::Refused(utf8::at_start(BAD_LITERAL));
+    }
+    Unquoting::Inner(inner.len())
 }
 
 // Why a literal has no text; where it has one, a refusal of no number.

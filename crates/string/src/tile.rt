@@ -50,7 +50,7 @@ const FORM_FEED: u32 = 0x0c;
 const CARRIAGE_RETURN: u32 = 0x0d;
 
 // No letter stands for this code point.
-const NO_VALUE: u32 = 0;
+pub const NO_VALUE: u32 = 0;
 
 const LARGEST_BYTE: u32 = 0xff;
 
@@ -61,12 +61,12 @@ const HEX: usize = 16;
 const OCTAL: usize = 8;
 
 // Where the digits of an escape begin: behind the backslash, or behind its letter.
-const BEHIND_BACKSLASH: usize = 1;
+pub const BEHIND_BACKSLASH: usize = 1;
 
-const BEHIND_LETTER: usize = 2;
+pub const BEHIND_LETTER: usize = 2;
 
 // The code point that a letter behind the backslash stands for, or NO_VALUE.
-fn letter_value(quote: u8, c: u8) -> u32
+pub fn letter_value(quote: u8, c: u8) -> u32
     ensures { λ r. ⌜ r ≡ Option·getD (letterValue quote c) 0 ⌝ }
 {
     if c == quote {

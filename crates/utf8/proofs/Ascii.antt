@@ -7,7 +7,7 @@ use mathlib.Core.Bool.{Bool, true, false, cond, _&&_, and-false, true≢false}
 use mathlib.Core.List.{List, [], _∷_, map}
 use mathlib.Core.Path.{_≡_, refl, sym, ap, _∙_}
 use lib.Dec.{eqb, ltb}
-use lib.ListN.{length, replicate}
+use lib.ListN.{length, length-map, replicate}
 use borrow.Author.Tests.{ltb-true, lt-ltb, le-ltb, eq-eqb, ne-eqb}
 use Rattle.scan.specs.Byte.{lowered}
 use Rattle.scan.specs.Text.{sameText}
@@ -16,8 +16,9 @@ use Rattle.scan.proofs.byte.Classes.{lowered-above}
 use Rattle.utf8.specs.Table.{tail, fits, charLength}
 use Rattle.utf8.specs.steps.Lead.{sizeBy}
 use Rattle.utf8.specs.Code.{codeOf}
-use Rattle.utf8.specs.Text.{charsPast, codesOf, sizeOf, prefixEnd, WellFormed, isWellFormed}
-use Rattle.utf8.specs.laws.Ascii.{OneByte, isAscii, AsciiText, ByBytes, LoweredOther}
+use Rattle.utf8.specs.Text.{Char, charsPast, charsOf, codesOf, sizeOf, prefixEnd, WellFormed, isWellFormed, begunIn, charNumber}
+use Rattle.utf8.specs.Answers.{validityOf}
+use Rattle.utf8.specs.laws.Ascii.{OneByte, isAscii, AsciiText, AsciiPlaces, ByBytes, LoweredOther}
 use Rattle.utf8.specs.laws.Encode.{AsciiBytes}
 use Rattle.utf8.proofs.Lead.{second, sized, char-by}
 use Rattle.utf8.proofs.Chars.{chars-none, chars-some}
@@ -35,6 +36,25 @@ ascii-text (x ∷ xs) h =
     let l = ltb-true x 0x80 (and-left (ltb x 0x80) (isAscii xs) h) in
     let r = ascii-text xs (and-right (ltb x 0x80) (isAscii xs) h) in
     (ascii-head x xs l .0 ∙ ap suc (r .0), rw (ascii-char x xs l) (ap (λ (t : List ℕ). x ∷ t) (r .1)))
+
+none-before : (cs : List Char) → begunIn 0 cs ≡ 0
+unfolding begunIn
+none-before [] = refl
+none-before (c ∷ cs) = refl
+
+ascii-number : (xs : List ℕ) → isAscii xs ≡ true → (to : ℕ) → to ≤ length xs → charNumber xs to ≡ to
+ascii-number xs h zero l = unfold charNumber in none-before (charsOf xs)
+ascii-number [] h (suc to) l = let f : ⊥ = omega arith in absurd f
+ascii-number (x ∷ xs) h (suc to) l =
+    ascii-head x xs (ltb-true x 0x80 (and-left (ltb x 0x80) (isAscii xs) h)) .1 to
+    ∙ ap suc (ascii-number xs (and-right (ltb x 0x80) (isAscii xs) h) to (omega arith))
+
+pub ascii-places : AsciiPlaces
+unfolding validityOf
+ascii-places xs h =
+    let t = ascii-text xs h in
+    let n : length (charsOf xs) ≡ length xs = sym (length-map (charsOf xs) (λ (c : Char). c .code)) ∙ ap length (t .1) in
+    (rw (eq-eqb (prefixEnd xs) (length xs) (t .0), n), ascii-number xs h)
 
 pub one-ascii : OneByte
 one-ascii x xs e = go (sizeBy x) (size-range x) (sym (char-by x xs) ∙ e)

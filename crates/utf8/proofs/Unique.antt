@@ -1,6 +1,8 @@
 -- Any two answers that the promise of a public function allows are equal.
 use mathlib.Core.Path.{sym, _∙_}
 use Rattle.proving.proofs.One.{OneAnswer}
+use Rattle.utf8.proofs.is_ascii.Kinds as is-ascii
+use Rattle.utf8.proofs.is_ascii.Reads as is-ascii-reads
 use Rattle.utf8.proofs.validate.Kinds as validate
 use Rattle.utf8.proofs.validate.Reads as validate-reads
 use Rattle.utf8.proofs.admit.Kinds as admit
@@ -15,6 +17,9 @@ use Rattle.utf8.proofs.char_at.Kinds as char-at
 use Rattle.utf8.proofs.char_at.Reads as char-at-reads
 use Rattle.utf8.proofs.at_start.Kinds as at-start
 use Rattle.utf8.proofs.at_start.Reads as at-start-reads
+
+pub same-is-ascii : OneAnswer is-ascii.ps is-ascii.r is-ascii-reads.Post
+same-is-ascii κs a x y e f p q = p ∙ sym q
 
 pub same-validate : OneAnswer validate.ps validate.r validate-reads.Post
 same-validate κs a x y e f p q = p ∙ sym q

@@ -2,6 +2,7 @@
 -- proved. Where a theorem unfolds `FUNCTION-at` it computes with all that this lemma unfolds.
 use Prim.Native.Nat.{ℕ}
 use Prim.Native.Char.{code}
+use mathlib.Core.Bool.{Bool, true, false}
 use mathlib.Core.List.{List, [], _∷_}
 use mathlib.Core.Path.{_≡_, ap, ap₂, _∙_}
 use denote.Ref.{now}
@@ -23,6 +24,9 @@ use Rattle.utf8.specs.declared.Writing.{Writing}
 use Rattle.utf8.specs.declared.Writing.the-variants as writing
 use Rattle.utf8.specs.Answers.{count, place, validityOf, atStart, admitted, characterAt, notUtf8, notAdmitted}
 use Rattle.utf8.specs.Writing.{notWritten}
+use Rattle.utf8.specs.laws.Ascii.{isAscii}
+use Rattle.utf8.proofs.is_ascii.Kinds as is-ascii
+use Rattle.utf8.proofs.is_ascii.Reads as is-ascii-reads
 use Rattle.utf8.proofs.validate.Kinds as validate
 use Rattle.utf8.proofs.validate.Reads as validate-reads
 use Rattle.utf8.proofs.at_start.Kinds as at-start
@@ -37,6 +41,18 @@ use Rattle.utf8.proofs.not_admitted.Kinds as not-admitted
 use Rattle.utf8.proofs.not_admitted.Reads as not-admitted-reads
 use Rattle.utf8.proofs.not_written.Kinds as not-written
 use Rattle.utf8.proofs.not_written.Reads as not-written-reads
+
+abbrev is-ascii-gives : List ℕ → Bool → Type 0
+is-ascii-gives xs v = Answers is-ascii.ps is-ascii.r is-ascii-reads.Post (λ κs a. now (a .0) ≡ xs) (λ κs. v)
+
+is-ascii-at : (xs : List ℕ) → is-ascii-gives xs (isAscii xs)
+is-ascii-at xs κs a x e p h = p ∙ ap isAscii h
+
+pub last-ascii-byte-is-ascii : is-ascii-gives (0x7f ∷ []) true
+last-ascii-byte-is-ascii = is-ascii-at _
+
+pub byte-behind-ascii-is-not : is-ascii-gives (0x80 ∷ 0x61 ∷ []) false
+byte-behind-ascii-is-not = is-ascii-at _
 
 abbrev validate-gives : List ℕ → Validity → Type 0
 validate-gives xs v = Answers validate.ps validate.r validate-reads.Post (λ κs a. now (a .0) ≡ xs) (λ κs. v)

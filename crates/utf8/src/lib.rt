@@ -10,6 +10,7 @@ ghost use Rattle.utf8.specs.Text.{charNumber};
 ghost use Rattle.utf8.specs.Code.{codeOf};
 ghost use Rattle.utf8.specs.Answers.{count, nextStart, validityOf, atStart, notUtf8By, admitted, notAdmitted, characterAt};
 ghost use Rattle.utf8.specs.Writing.{notWritten};
+ghost use Rattle.utf8.specs.laws.Ascii.{isAscii};
 
 // How many bytes come before a place.
 pub struct ByteOffset(pub usize);
@@ -83,6 +84,8 @@ const LAST_OF_TWO: usize = 0xdf;
 const LAST_OF_THREE: usize = 0xef;
 
 const LAST_OF_FOUR: usize = 0xf4;
+
+const LAST_ASCII: u8 = 0x7f;
 
 // The first bytes besides LAST_OF_FOUR whose second byte has bounds of its own, and those bounds: no character is written in more bytes
 // than it needs, none is a surrogate, and none is above 10FFFF.
@@ -222,8 +225,23 @@ fn next_start(text: &[u8], to: usize) -> Place
     }
 }
 
-// Whether bytes are UTF-8 text.
-pub fn validate(text: &[u8]) -> Validity
+// Whether all bytes are ASCII.
+pub fn is_ascii(text: &[u8]) -> bool
+    ensures { λ r. ⌜ r ≡ isAscii (now (text .entry)) ⌝ }
+{
+    let mut most = 0;
+    let mut i = 0;
+    while i < text.len() {
+        if most < text[i] {
+            most = text[i];
+        }
+        i += 1;
+    }
+    most <= LAST_ASCII
+}
+
+// Whether bytes are UTF-8 text, by its characters.
+fn walk(text: &[u8]) -> Validity
     ensures { λ r. ⌜ r ≡ validityOf (now (text .entry)) ⌝ }
 {
     let end = next_start(text, text.len());
@@ -234,6 +252,16 @@ pub fn validate(text: &[u8]) -> Validity
     } else {
         Validity::Invalid(end)
     }
+}
+
+// Whether bytes are UTF-8 text. Whether they are ASCII is asked first, which is quicker for a long text.
+pub fn validate(text: &[u8]) -> Validity
+    ensures { λ r. ⌜ r ≡ validityOf (now (text .entry)) ⌝ }
+{
+    if is_ascii(text) {
+        return Validity::Valid(CharNumber(text.len()));
+    }
+    walk(text)
 }
 
 // A refusal that names no place.
@@ -267,7 +295,7 @@ pub fn admit(text: &[u8], limit: usize) -> Admission
     if limit < text.len() {
         return Admission::Refused(at_start(TOO_LONG));
     }
-    let v = validate(text);
+    let v = walk(text);
     let Validity::Valid(n) = v else {
         return Admission::Refused(not_utf8(v));
     };

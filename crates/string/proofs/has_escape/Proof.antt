@@ -6,16 +6,16 @@ use borrow.Author.Needs.{needs}
 use Rattle.string.proofs.has_escape.Statement.{statement}
 use Rattle.string.proofs.has_escape.Tie as tie
 
-contains-requires : tie.Need-contains-requires
-contains-requires c κs = search needs
+has-byte-requires : tie.Need-has-byte-requires
+has-byte-requires c κs = search needs
 
 returns : tie.Need-returns
 unfolding hasEscape
-returns c = rw (ne-eqb _ _ (c .before .if1 .taken)) (c .contains .ensures)
+returns c = rw (ne-eqb _ _ (c .before .if1 .taken)) (c .has-byte .ensures)
 
 returns-2 : tie.Need-returns-2
 unfolding hasEscape
 returns-2 c = rw (eq-eqb (c .before .before .args .sign) 96 (omega (arith, c .if1 .left)))
 
 pub has-escape-spec : {M : Type 1} → statement M
-has-escape-spec = tie.close (tie.spec contains-requires returns returns-2)
+has-escape-spec = tie.close (tie.spec has-byte-requires returns returns-2)

@@ -12,6 +12,8 @@ use Rattle.string.specs.declared.tile.Form.{Form}
 use Rattle.string.specs.declared.tile.Tile.the-variants.{Piece}
 use Rattle.string.specs.Tile.{tileOf}
 use Rattle.string.specs.Tiles.{tilesOf, hasBad, pieceBytes, bytesOf}
+use Rattle.string.specs.declared.Single.{Single}
+use Rattle.string.specs.steps.Measure.{GivesOne}
 use Rattle.string.proofs.tile.Tiles.{Fair}
 use Rattle.string.proofs.Contents as contents
 use Rattle.string.proofs.measure.Statement.{statement}
@@ -26,6 +28,47 @@ abbrev μ-loop : tie.MeasureT-loop
 
 loop-holds : tie.Need-loop-holds Inv-loop μ-loop
 loop-holds c = (omega arith, omega arith, refl, omega arith)
+
+single-at-requires : tie.Need-single-at-requires Inv-loop μ-loop
+single-at-requires c κs = (c .before .before .before .pre, c .loop-test .taken)
+
+-- a tile that gives one byte
+module _ (c : tie.Then1 Inv-loop μ-loop) where
+  abbrev o-loop : tie.At-loop Inv-loop μ-loop
+  o-loop = c .before .before .before .before
+
+  abbrev o : tie.Start Inv-loop μ-loop
+  o = o-loop .before .before
+
+  abbrev one : Single
+  one = c .before .before .single-at .result
+
+  gives : GivesOne (o .args .sign) (drop (o-loop .loop .from) (now (o .args .inner))) (one .value) (one .size)
+  gives = c .before .before .single-at .ensures (c .if1 .taken)
+
+  moves : (0 < one .size) × (one .size ≤ length (now (o .args .inner)) - o-loop .loop .from)
+  moves = contents.one-fair (o .args .sign) (o .pre) (now (o .args .inner)) (o-loop .loop .from) (c .before .before .before .loop-test .taken) (one .value) (one .size) gives
+
+add-n : tie.Need-add-n Inv-loop μ-loop
+add-n c = omega arith
+
+add-from : tie.Need-add-from Inv-loop μ-loop
+add-from c = omega (arith, moves (c .before))
+
+loop-less : tie.Need-loop-less Inv-loop μ-loop
+loop-less c = omega (arith, moves (c .before))
+
+loop-again : tie.Need-loop-again Inv-loop μ-loop
+loop-again c =
+    let d = c .before in
+    let l = o-loop d .loop in
+    let a = o d .args in
+    let t = d .before .before .before .loop-test .taken in (
+      omega (arith, moves d),
+      omega (arith, moves d),
+      l .inv .2 ∙ contents.one-behind (a .sign) (o d .pre) (now (a .inner)) (l .from) t (one d .value) (one d .size) (gives d),
+      omega (arith, ap length (contents.one-bytes (a .sign) (o d .pre) (now (a .inner)) (l .from) t (one d .value) (one d .size) (gives d) (a .reading)), l .inv .3),
+    )
 
 sub-unquote-char : tie.Need-sub-unquote-char Inv-loop μ-loop
 sub-unquote-char c = search needs
@@ -47,23 +90,26 @@ enum-told c = search needs
 
 -- what is known after the call: the tile that stands here
 module _ (c : tie.After-unquote-char Inv-loop μ-loop) where
+  abbrev l : tie.At-loop Inv-loop μ-loop
+  l = c .before .before .before .before .before .before
+
   abbrev q : ℕ
-  q = c .before .before .before .before .before .args .sign
+  q = l .before .before .args .sign
 
   abbrev ys : List ℕ
-  ys = now (c .before .before .before .before .before .args .inner)
+  ys = now (l .before .before .args .inner)
 
   abbrev place : ℕ
-  place = c .before .before .before .loop .from
+  place = l .loop .from
 
   abbrev r : Reading
-  r = c .before .before .before .before .before .args .reading
+  r = l .before .before .args .reading
 
   ascii : q < 0x80
-  ascii = c .before .before .before .before .before .pre
+  ascii = l .before .before .pre
 
   inside : place < length ys
-  inside = c .before .before .loop-test .taken
+  inside = c .before .before .before .before .before .loop-test .taken
 
   here : c .unquote-char .result ≡ tileOf q (drop place ys)
   here = c .unquote-char .ensures ∙ ap (tileOf q) (rest-of ys place)
@@ -72,7 +118,7 @@ returns : tie.Need-returns Inv-loop μ-loop
 returns c =
     let d = c .before .before in
     contents.measured-bad (r d) (tilesOf (q d) (ys d))
-    (d .before .before .before .loop .inv .2 ∙ contents.bad-here (q d) (ascii d) (ys d) (place d) (inside d) (sym (here d) ∙ c .enum-told .given .1))
+    (l d .loop .inv .2 ∙ contents.bad-here (q d) (ascii d) (ys d) (place d) (inside d) (sym (here d) ∙ c .enum-told .given .1))
 
 piece-size-requires : tie.Need-piece-size-requires Inv-loop μ-loop
 piece-size-requires c κs = tt
@@ -100,25 +146,25 @@ module _ (c : tie.After-piece-size Inv-loop μ-loop) where
   few : c .piece-size .result ≤ size
   few = omega (arith, c .piece-size .ensures, contents.few (q d) (ascii d) (ys d) (place d) (inside d) form value size piece (r d))
 
-add-n : tie.Need-add-n Inv-loop μ-loop
-add-n c = omega (arith, few c, fair c .within)
+add-n-2 : tie.Need-add-n-2 Inv-loop μ-loop
+add-n-2 c = omega (arith, few c, fair c .within)
 
-add-from : tie.Need-add-from Inv-loop μ-loop
-add-from c = omega (arith, fair c .within)
+add-from-2 : tie.Need-add-from-2 Inv-loop μ-loop
+add-from-2 c = omega (arith, fair c .within)
 
-loop-less : tie.Need-loop-less Inv-loop μ-loop
-loop-less c = omega (arith, fair c .within, fair c .some)
+loop-less-2 : tie.Need-loop-less-2 Inv-loop μ-loop
+loop-less-2 c = omega (arith, fair c .within, fair c .some)
 
-loop-again : tie.Need-loop-again Inv-loop μ-loop
-loop-again c =
+loop-again-2 : tie.Need-loop-again-2 Inv-loop μ-loop
+loop-again-2 c =
     let e = d c in
     let b = contents.bad-behind (q e) (ascii e) (ys e) (place e) (inside e) (form c) (value c) (size c) (piece c) in
     let g = contents.bytes-here (q e) (ascii e) (ys e) (place e) (inside e) (form c) (value c) (size c) (piece c) (r e) in
-    let l = ap length g ∙ length-append (pieceBytes (r e) (form c) (value c)) (bytesOf (r e) (tilesOf (q e) (drop (place e + size c) (ys e)))) in (
+    let k = ap length g ∙ length-append (pieceBytes (r e) (form c) (value c)) (bytesOf (r e) (tilesOf (q e) (drop (place e + size c) (ys e)))) in (
       omega (arith, fair c .within),
       omega (arith, few c),
-      e .before .before .before .loop .inv .2 ∙ b,
-      omega (arith, l, c .piece-size .ensures, e .before .before .before .loop .inv .3),
+      l e .loop .inv .2 ∙ b,
+      omega (arith, k, c .piece-size .ensures, l e .loop .inv .3),
     )
 
 returns-2 : tie.Need-returns-2 Inv-loop μ-loop
@@ -136,6 +182,11 @@ measure-spec =
     Inv-loop
     μ-loop
     loop-holds
+    single-at-requires
+    add-n
+    add-from
+    loop-less
+    loop-again
     sub-unquote-char
     part-unquote-char-start
     part-unquote-char-end
@@ -144,8 +195,8 @@ measure-spec =
     enum-told
     returns
     piece-size-requires
-    add-n
-    add-from
-    loop-less
-    loop-again
+    add-n-2
+    add-from-2
+    loop-less-2
+    loop-again-2
     returns-2)

@@ -4,6 +4,7 @@ use Prim.Native.Nat.{ℕ}
 use Prim.Native.Char.{code}
 use mathlib.Core.Bool.{Bool, true, false}
 use mathlib.Core.List.{List, [], _∷_}
+use mathlib.Core.Option.{Option·getD}
 use mathlib.Core.Path.{_≡_, ap, ap₂, _∙_}
 use denote.Ref.{now}
 use Rattle.scan.specs.Ascii.{ascii}
@@ -18,10 +19,28 @@ use Rattle.string.specs.declared.tile.Tile.{Tile}
 use Rattle.string.specs.declared.tile.Tile.the-variants.{Piece, Bad}
 use Rattle.string.specs.Letters.{lookedUp, letterValue}
 use Rattle.string.specs.Tile.{amountFrom, isByte, isAllowed, numbered, escapeOf, beginsEscape, tileOf}
+use Rattle.string.proofs.tile.letter_value.Kinds as letter-value
+use Rattle.string.proofs.tile.letter_value.Reads as letter-value-reads
 use Rattle.string.proofs.tile.is_byte.Kinds as is-byte
 use Rattle.string.proofs.tile.is_byte.Reads as is-byte-reads
 use Rattle.string.proofs.tile.unquote_char.Kinds as unquote-char
 use Rattle.string.proofs.tile.unquote_char.Reads as unquote-char-reads
+
+-- of the literal's quote sign, and a byte behind a backslash
+abbrev letter-value-gives : ℕ → ℕ → ℕ → Type 0
+letter-value-gives q c v = Answers letter-value.ps letter-value.r letter-value-reads.Post (λ κs a. (a .0 ≡ q) × (a .1 .0 ≡ c)) (λ κs. v)
+
+letter-value-at : (q c : ℕ) → letter-value-gives q c (Option·getD (letterValue q c) 0)
+unfolding letterValue lookedUp
+letter-value-at q c κs a x e p h = p ∙ ap₂ (λ (s b : ℕ). Option·getD (letterValue s b) 0) (h .0) (h .1)
+
+pub letter-n-is-a-newline : letter-value-gives (code "'") (code "n") 10
+unfolding letter-value-at
+letter-n-is-a-newline = letter-value-at _ _
+
+pub sign-of-another-literal-is-no-letter : letter-value-gives (code "'") (code "\"") 0
+unfolding letter-value-at
+sign-of-another-literal-is-no-letter = letter-value-at _ _
 
 abbrev is-byte-gives : Form → Bool → Type 0
 is-byte-gives f v = Answers is-byte.ps is-byte.r is-byte-reads.Post (λ κs a. a .0 ≡ f) (λ κs. v)

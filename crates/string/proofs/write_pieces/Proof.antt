@@ -1,11 +1,12 @@
 -- The invariant: with what the tiles from here on give written from `at` on, the buffer is as with what all of them give written from its
--- front; that fits, and none of them is bad.
+-- front, and that many bytes are left; and one from here on is bad exactly where one is.
 use Prim.Native.Nat.{ℕ, _+_, _-_, _<_, _≤_}
+use native.Mathlib.Numerals.{add-one}
 use native.Mathlib.Omega.{arith}
-use mathlib.Core.Bool.{false, true≢false}
-use mathlib.Core.List.{List, _++_}
+use mathlib.Core.Bool.{true, true≢false}
+use mathlib.Core.List.{List, _∷_, _++_}
 use mathlib.Core.Path.{_≡_, refl, sym, ap, _∙_}
-use lib.ListN.{length, drop, length-append}
+use lib.ListN.{length, drop, length-append, length-set}
 use lib.Seq.{sets}
 use denote.Ref.{now}
 use borrow.Author.Needs.{needs}
@@ -15,6 +16,8 @@ use Rattle.string.specs.declared.tile.Form.{Form}
 use Rattle.string.specs.declared.tile.Tile.the-variants.{Piece}
 use Rattle.string.specs.Tile.{tileOf}
 use Rattle.string.specs.Tiles.{tilesOf, hasBad, pieceBytes, bytesOf}
+use Rattle.string.specs.declared.Single.{Single}
+use Rattle.string.specs.steps.Measure.{GivesOne}
 use Rattle.string.proofs.tile.Tiles.{Fair}
 use Rattle.string.proofs.Contents as contents
 use Rattle.string.proofs.write_pieces.Statement.{statement}
@@ -22,14 +25,62 @@ use Rattle.string.proofs.write_pieces.Tie as tie
 
 abbrev Inv-loop : tie.InvT-loop
 Inv-loop inner sign reading out₀ at₀ from₀ out at from =
+    let all = bytesOf reading (tilesOf sign inner) in
     let rest = bytesOf reading (tilesOf sign (drop from inner)) in
-    (from ≤ length inner) × (length out ≡ length out₀) × (hasBad (tilesOf sign (drop from inner)) ≡ false) × (at + length rest ≤ length out) × (sets out₀ 0 (bytesOf reading (tilesOf sign inner)) ≡ sets out at rest)
+    (from ≤ length inner) × (length out ≡ length out₀) × (hasBad (tilesOf sign inner) ≡ hasBad (tilesOf sign (drop from inner))) × (at + length rest ≡ length all) × (sets out₀ 0 all ≡ sets out at rest)
 
 abbrev μ-loop : tie.MeasureT-loop
 μ-loop inner sign reading out₀ at₀ from₀ out at from = length inner - from
 
 loop-holds : tie.Need-loop-holds Inv-loop μ-loop
-loop-holds c = (omega arith, refl, c .before .before .pre .0 .1, omega (arith, c .before .before .pre .1), refl)
+loop-holds c = (omega arith, refl, refl, omega arith, refl)
+
+single-at-requires : tie.Need-single-at-requires Inv-loop μ-loop
+single-at-requires c κs = (c .before .before .before .before .pre .0, c .loop-test .taken)
+
+-- a tile that gives one byte
+module _ (c : tie.Then1 Inv-loop μ-loop) where
+  abbrev o-loop : tie.At-loop Inv-loop μ-loop
+  o-loop = c .before .before .before .before
+
+  abbrev o : tie.Start Inv-loop μ-loop
+  o = o-loop .before .before .before
+
+  abbrev one : Single
+  one = c .before .before .single-at .result
+
+  gives : GivesOne (o .args .sign) (drop (o-loop .loop .from) (now (o .args .inner))) (one .value) (one .size)
+  gives = c .before .before .single-at .ensures (c .if1 .taken)
+
+  moves : (0 < one .size) × (one .size ≤ length (now (o .args .inner)) - o-loop .loop .from)
+  moves = contents.one-fair (o .args .sign) (o .pre .0) (now (o .args .inner)) (o-loop .loop .from) (c .before .before .before .loop-test .taken) (one .value) (one .size) gives
+
+  itself : bytesOf (o .args .reading) (tilesOf (o .args .sign) (drop (o-loop .loop .from) (now (o .args .inner)))) ≡ one .value ∷ bytesOf (o .args .reading) (tilesOf (o .args .sign) (drop (o-loop .loop .from + one .size) (now (o .args .inner))))
+  itself = contents.one-bytes (o .args .sign) (o .pre .0) (now (o .args .inner)) (o-loop .loop .from) (c .before .before .before .loop-test .taken) (one .value) (one .size) gives (o .args .reading)
+
+slice-write-out : tie.Need-slice-write-out Inv-loop μ-loop
+slice-write-out c = omega (arith, ap length (itself c), o c .pre .1)
+
+add-at : tie.Need-add-at Inv-loop μ-loop
+add-at c = omega (arith, ap length (itself c), o c .pre .1)
+
+add-from : tie.Need-add-from Inv-loop μ-loop
+add-from c = omega (arith, moves (c .before))
+
+loop-less : tie.Need-loop-less Inv-loop μ-loop
+loop-less c = omega (arith, moves (c .before))
+
+loop-again : tie.Need-loop-again Inv-loop μ-loop
+loop-again c =
+    let d = c .before in
+    let l = o-loop d .loop in
+    let b = contents.one-behind (o d .args .sign) (o d .pre .0) (now (o d .args .inner)) (l .from) (d .before .before .before .loop-test .taken) (one d .value) (one d .size) (gives d) in (
+      omega (arith, moves d),
+      length-set (l .out) (l .at) _ ∙ l .inv .1,
+      l .inv .2 ∙ b,
+      omega (arith, ap length (itself d), l .inv .3),
+      l .inv .4 ∙ rw (itself d, add-one (l .at)),
+    )
 
 sub-unquote-char : tie.Need-sub-unquote-char Inv-loop μ-loop
 sub-unquote-char c = search needs
@@ -49,10 +100,13 @@ enum-known-t c = search needs
 enum-told : tie.Need-enum-told Inv-loop μ-loop
 enum-told c = search needs
 
--- what is known after the call: the tile that stands here, which is not bad
+-- what is known after the call: the tile that stands here
 module _ (c : tie.After-unquote-char Inv-loop μ-loop) where
+  abbrev l : tie.At-loop Inv-loop μ-loop
+  l = c .before .before .before .before .before .before
+
   abbrev a : tie.Start Inv-loop μ-loop
-  a = c .before .before .before .before .before .before
+  a = l .before .before .before
 
   abbrev q : ℕ
   q = a .args .sign
@@ -61,27 +115,29 @@ module _ (c : tie.After-unquote-char Inv-loop μ-loop) where
   ys = now (a .args .inner)
 
   abbrev place : ℕ
-  place = c .before .before .before .loop .from
+  place = l .loop .from
 
   ascii : q < 0x80
-  ascii = a .pre .0 .0
+  ascii = a .pre .0
 
   inside : place < length ys
-  inside = c .before .before .loop-test .taken
+  inside = c .before .before .before .before .before .loop-test .taken
 
   here : c .unquote-char .result ≡ tileOf q (drop place ys)
   here = c .unquote-char .ensures ∙ ap (tileOf q) (rest-of ys place)
 
-never : (c : tie.After-enum-told Inv-loop μ-loop) → ⊥
-never c =
+bad : (c : tie.After-enum-told Inv-loop μ-loop) → let d = c .before .before in hasBad (tilesOf (q d) (ys d)) ≡ true
+bad c =
     let d = c .before .before in
-    true≢false (sym (contents.bad-here (q d) (ascii d) (ys d) (place d) (inside d) (sym (here d) ∙ c .enum-told .given .1)) ∙ d .before .before .before .loop .inv .2)
+    l d .loop .inv .2 ∙ contents.bad-here (q d) (ascii d) (ys d) (place d) (inside d) (sym (here d) ∙ c .enum-told .given .1)
 
 same-length : tie.Need-same-length Inv-loop μ-loop
-same-length c = absurd (never c)
+same-length c = l (c .before .before) .loop .inv .1
 
 returns : tie.Need-returns Inv-loop μ-loop
-returns c = absurd (never c)
+returns c =
+    let d = c .before .before in
+    (contents.measured-bad (a d .args .reading) (tilesOf (q d) (ys d)) (bad c), λ good. absurd (true≢false (sym (bad c) ∙ good)))
 
 -- and what it has
 module _ (c : tie.After-known-told Inv-loop μ-loop) where
@@ -116,23 +172,23 @@ module _ (c : tie.After-known-told Inv-loop μ-loop) where
   long = ap length bytes ∙ length-append given behind
 
 put-piece-requires : tie.Need-put-piece-requires Inv-loop μ-loop
-put-piece-requires c κs = let e = c .before in (fair e .allowed, omega (arith, long e, d e .before .before .before .loop .inv .3))
+put-piece-requires c κs = let e = c .before in (fair e .allowed, omega (arith, long e, l (d e) .loop .inv .3, l (d e) .loop .inv .1, a (d e) .pre .1))
 
-add-from : tie.Need-add-from Inv-loop μ-loop
-add-from c = omega (arith, fair (c .before .before .before .before) .within)
+add-from-2 : tie.Need-add-from-2 Inv-loop μ-loop
+add-from-2 c = omega (arith, fair (c .before .before .before .before) .within)
 
-loop-less : tie.Need-loop-less Inv-loop μ-loop
-loop-less c = let e = c .before .before .before .before in omega (arith, fair e .within, fair e .some)
+loop-less-2 : tie.Need-loop-less-2 Inv-loop μ-loop
+loop-less-2 c = let e = c .before .before .before .before in omega (arith, fair e .within, fair e .some)
 
-loop-again : tie.Need-loop-again Inv-loop μ-loop
-loop-again c =
+loop-again-2 : tie.Need-loop-again-2 Inv-loop μ-loop
+loop-again-2 c =
     let e = c .before .before .before .before in
     let p = c .before .before .put-piece in
-    let inv = d e .before .before .before .loop .inv in
+    let inv = l (d e) .loop .inv in
     let b = contents.bad-behind (q (d e)) (ascii (d e)) (ys (d e)) (place (d e)) (inside (d e)) (form e) (value e) (size e) (piece e) in (
       omega (arith, fair e .within),
       omega (arith, p .kept, inv .1),
-      sym b ∙ inv .2,
+      inv .2 ∙ b,
       omega (arith, long e, p .kept, p .ensures .0, inv .3),
       inv .4 ∙ rw (bytes e, sets-join, p .ensures .1, p .ensures .0),
     )
@@ -144,7 +200,12 @@ returns-2 : tie.Need-returns-2 Inv-loop μ-loop
 returns-2 c =
     let a = c .before .before .before .before .args in
     let l = c .before .loop in
-    sym (l .inv .4 ∙ rw (contents.bytes-over (a .sign) (now (a .inner)) (l .from) (c .loop-test .left) (a .reading)))
+    let none = contents.bytes-over (a .sign) (now (a .inner)) (l .from) (c .loop-test .left) (a .reading) in (
+      contents.measured-text (a .reading) (tilesOf (a .sign) (now (a .inner))) (l .at)
+          (l .inv .2 ∙ contents.bad-over (a .sign) (now (a .inner)) (l .from) (c .loop-test .left))
+          (omega (arith, l .inv .3, ap length none)),
+      λ good. sym (l .inv .4 ∙ rw none),
+    )
 
 pub write-pieces-spec : {M : Type 1} → statement M
 write-pieces-spec =
@@ -153,6 +214,12 @@ write-pieces-spec =
     Inv-loop
     μ-loop
     loop-holds
+    single-at-requires
+    slice-write-out
+    add-at
+    add-from
+    loop-less
+    loop-again
     sub-unquote-char
     part-unquote-char-start
     part-unquote-char-end
@@ -162,8 +229,8 @@ write-pieces-spec =
     same-length
     returns
     put-piece-requires
-    add-from
-    loop-less
-    loop-again
+    add-from-2
+    loop-less-2
+    loop-again-2
     same-length-2
     returns-2)

@@ -1,4 +1,4 @@
--- `utf8::admit` meets its contract: past the limit it is refusal 1, and otherwise it is what `validate` says.
+-- `utf8::admit` meets its contract: past the limit it is refusal 1, and otherwise it is what `walk` says.
 use borrow.Author.Tests.{lt-ltb, le-ltb}
 use mathlib.Core.Path.{_≡_, sym, ap, _∙_}
 use denote.Ref.{now}
@@ -16,8 +16,8 @@ returns : tie.Need-returns
 unfolding admitted
 returns c = rw (lt-ltb _ _ (c .before .if1 .taken)) (ap Refused (c .at-start .ensures))
 
-validate-requires : tie.Need-validate-requires
-validate-requires c κs = search needs
+walk-requires : tie.Need-walk-requires
+walk-requires c κs = search needs
 
 enum-known-v : tie.Need-enum-known-v
 enum-known-v c = search needs
@@ -28,12 +28,12 @@ enum-told c = search needs
 not-utf8-requires : tie.Need-not-utf8-requires
 not-utf8-requires c κs = search needs
 
--- within the limit the answer is what `validate` says of the text
-within : (c : tie.After-validate) → let a = c .before .before .before .args in admitted (a .limit) (now (a .text)) ≡ admittedAs (c .validate .result)
+-- within the limit the answer is what `walk` says of the text
+within : (c : tie.After-walk) → let a = c .before .before .before .args in admitted (a .limit) (now (a .text)) ≡ admittedAs (c .walk .result)
 unfolding admitted
 within c =
     let a = c .before .before .before .args in
-    rw (le-ltb (a .limit) (length (now (a .text))) (c .before .if1 .left), ← c .validate .ensures)
+    rw (le-ltb (a .limit) (length (now (a .text))) (c .before .if1 .left), ← c .walk .ensures)
 
 returns-2 : tie.Need-returns-2
 returns-2 c =
@@ -49,7 +49,7 @@ admit-spec =
     (tie.spec
     at-start-requires
     returns
-    validate-requires
+    walk-requires
     enum-known-v
     enum-told
     not-utf8-requires

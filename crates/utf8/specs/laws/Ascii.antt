@@ -5,13 +5,15 @@ use mathlib.Core.Bool.{Bool, true, false, cond, _&&_}
 use mathlib.Core.List.{List, [], _∷_, map}
 use mathlib.Core.Path.{_≡_}
 use lib.Dec.{ltb}
+use lib.ListN.{length}
 use Rattle.scan.specs.Byte.{peekAt, lowered}
 use Rattle.scan.specs.Text.{sameText}
 use Rattle.utf8.specs.declared.Character.the-variants.{Scalar}
+use Rattle.utf8.specs.declared.Validity.the-variants.{Valid}
 use Rattle.utf8.specs.Table.{charLength}
 use Rattle.utf8.specs.Code.{codeOf}
 use Rattle.utf8.specs.Text.{codesOf, prefixEnd, WellFormed, isWellFormed, charNumber}
-use Rattle.utf8.specs.Answers.{characterAt}
+use Rattle.utf8.specs.Answers.{count, validityOf, characterAt}
 
 -- an ASCII byte is the character at its offset
 abbrev pub AsciiAt : Type 0
@@ -45,6 +47,12 @@ isAscii (x ∷ xs) = ltb x 0x80 && isAscii xs
 
 abbrev pub AsciiText : Type 0
 AsciiText = (xs : List ℕ) → isAscii xs ≡ true → WellFormed xs × (codesOf xs ≡ xs)
+
+-- of as many characters as bytes, and a place in them has as many before it
+abbrev pub AsciiPlaces : Type 0
+AsciiPlaces =
+    (xs : List ℕ) → isAscii xs ≡ true →
+    (validityOf xs ≡ Valid (count (length xs))) × ((to : ℕ) → to ≤ length xs → charNumber xs to ≡ to)
 
 -- what is said of characters, and takes all that are not ASCII alike, can be read off the bytes
 abbrev pub ByBytes : Type 1

@@ -3,8 +3,9 @@ use mathlib.Core.Path.{refl, sym, ap, _∙_}
 use native.Mathlib.Omega.{arith}
 use denote.Ref.{now}
 use borrow.Author.Needs.{needs}
-use Rattle.utf8.specs.Answers.{notAdmitted}
+use Rattle.utf8.specs.Answers.{textLimit, notAdmitted}
 use Rattle.utf8.specs.declared.Writing.the-variants.{Refused}
+use Rattle.utf8.proofs.Given.{admitted-text}
 use Rattle.string.proofs.escape.Escapes.{refused-first, not-fitted, written, left}
 use Rattle.string.proofs.escape.escape_string.Statement.{statement}
 use Rattle.string.proofs.escape.escape_string.Tie as tie
@@ -28,7 +29,8 @@ returns c =
     (ap Refused (c .not-admitted .ensures ∙ ap notAdmitted e) ∙ refused-first _ d _ (sym (c .before .before .before .admit .ensures) ∙ e), refl)
 
 escaped-length-requires : tie.Need-escaped-length-requires
-escaped-length-requires c κs = search needs
+escaped-length-requires c κs =
+    let n = admitted-text textLimit (now (c .before .before .before .before .before .args .text)) _ (sym (c .before .before .admit .ensures) ∙ c .enum-told .given .1) .0 in omega arith
 
 at-start-requires : tie.Need-at-start-requires
 at-start-requires c κs = search needs

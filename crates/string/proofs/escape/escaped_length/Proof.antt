@@ -1,5 +1,5 @@
--- The invariant: with what is left, n is the length of the whole; and a byte counts for two at most.
-use Prim.Native.Nat.{_+_, _*_, _-_, _≤_}
+-- The invariant: with what is left, i and what the bytes before i have more is the length of the whole; and a byte has one more at most.
+use Prim.Native.Nat.{ℕ, _+_, _-_, _≤_}
 use native.Mathlib.Omega.{arith}
 use mathlib.Core.Path.{_≡_, ap, _∙_}
 use denote.Ref.{now}
@@ -10,25 +10,29 @@ use Rattle.string.proofs.escape.escaped_length.Statement.{statement}
 use Rattle.string.proofs.escape.escaped_length.Tie as tie
 
 abbrev Inv-loop : tie.InvT-loop
-Inv-loop text n₀ i₀ n i = (i ≤ length text) × (n ≤ 2 * i) × (n + length (escapedBytes (drop i text)) ≡ length (escapedBytes text))
+Inv-loop text more₀ i₀ more i =
+    (i ≤ length text) × (more ≤ i) × (i + more + length (escapedBytes (drop i text)) ≡ length (escapedBytes text))
 
 abbrev μ-loop : tie.MeasureT-loop
-μ-loop text n₀ i₀ n i = length text - i
+μ-loop text more₀ i₀ more i = length text - i
 
 loop-holds : tie.Need-loop-holds Inv-loop μ-loop
 loop-holds c = (omega arith, omega arith, omega arith)
 
-shared-slice-read-escaped-size : tie.Need-shared-slice-read-escaped-size Inv-loop μ-loop
-shared-slice-read-escaped-size c = omega arith
+shared-slice-read-extra : tie.Need-shared-slice-read-extra Inv-loop μ-loop
+shared-slice-read-extra c = omega arith
 
-escaped-size-requires : tie.Need-escaped-size-requires Inv-loop μ-loop
-escaped-size-requires c κs = tt
+extra-requires : tie.Need-extra-requires Inv-loop μ-loop
+extra-requires c κs = tt
 
-few : (c : tie.After-escaped-size Inv-loop μ-loop) → c .escaped-size .result ≤ 2
-few c = omega (arith, c .escaped-size .ensures, byte-few (getD (now (c .before .before .before .before .before .args .text)) (c .before .before .before .loop .i) 0))
+few : (c : tie.After-extra Inv-loop μ-loop) → c .extra .result ≤ 1
+few c = omega (arith, c .extra .ensures, byte-few (getD (now (c .before .before .before .before .before .args .text)) (c .before .before .before .loop .i) 0))
 
-add-n : tie.Need-add-n Inv-loop μ-loop
-add-n c = omega (arith, few c)
+cast-more : tie.Need-cast-more Inv-loop μ-loop
+cast-more c = omega (arith, few c)
+
+add-more : tie.Need-add-more Inv-loop μ-loop
+add-more c = omega (arith, few c, c .before .before .before .before .before .pre)
 
 add-i : tie.Need-add-i Inv-loop μ-loop
 add-i c = omega arith
@@ -41,7 +45,13 @@ loop-again c =
     let xs = now (c .before .before .before .before .before .args .text) in
     let i = c .before .before .before .loop .i in
     let e = ap length (next xs i (c .before .before .loop-test .taken)) ∙ length-append (escapedByte (getD xs i 0)) (escapedBytes (drop (i + 1) xs)) in
-    (omega arith, omega (arith, few c), omega (arith, e, c .escaped-size .ensures))
+    (omega arith, omega (arith, few c), omega (arith, e, c .extra .ensures))
+
+cast-result : tie.Need-cast-result Inv-loop μ-loop
+cast-result c = omega (arith, c .before .before .before .pre)
+
+add-result : tie.Need-add-result Inv-loop μ-loop
+add-result c = omega (arith, c .before .before .before .pre)
 
 returns : tie.Need-returns Inv-loop μ-loop
 returns c =
@@ -56,10 +66,13 @@ escaped-length-spec =
     Inv-loop
     μ-loop
     loop-holds
-    shared-slice-read-escaped-size
-    escaped-size-requires
-    add-n
+    shared-slice-read-extra
+    extra-requires
+    cast-more
+    add-more
     add-i
     loop-less
     loop-again
+    cast-result
+    add-result
     returns)
