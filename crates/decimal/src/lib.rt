@@ -4,7 +4,6 @@ mod tens;
 use scan::byte;
 use scan::byte::Class;
 use scan::sign;
-use tens::POWERS;
 ghost use mathlib.Core.Bool.{false, _&&_, _||_};
 ghost use mathlib.Core.Path.{_≡_};
 ghost use Prim.Native.Nat.{suc, _+_, _≤_, min};
@@ -19,7 +18,7 @@ ghost use Rattle.scan.specs.Sign.{isMinus};
 ghost use Rattle.scan.specs.Digits.{valueFrom, valueOf};
 ghost use Rattle.decimal.specs.Grammar.{pastPoint, isExponent, pastExponent, between, partsOf, hasDigits, exponentHasDigits, isNumeral, digitsOf, exponentOf};
 ghost use Rattle.decimal.specs.Value.{bitsOf, radixOf, mostTold, mostExact, mostExponent, decimalLimit, plain, numeralRead, decimalOf};
-ghost use Rattle.decimal.specs.steps.Scale.{trailing, significand, isExact, nearest, scaledBy, tenTo};
+ghost use Rattle.decimal.specs.steps.Scale.{trailing, significand, isExact, nearest, scaledBy};
 
 // How a number was written.
 pub enum Notation {
@@ -234,14 +233,6 @@ const MOST_EXACT: u64 = 0x20_0000_0000_0000;
 // An f64 holds every power of ten up to this one.
 const MOST_EXPONENT: usize = 22;
 
-// A power of ten.
-fn power(e: usize) -> f64
-    requires { ⌜ e ≤ mostExponent ⌝ }
-    ensures { λ r. ⌜ r ≡ tenTo e ⌝ }
-{
-    POWERS[e]
-}
-
 // The f64 nearest to w times one power of ten over another, of which neither is more than 10 ^ 22 times the other: one rounded
 // multiplication or division of two exact values.
 fn magnitude(w: u64, raised: usize, reduced: usize) -> f64
@@ -249,9 +240,9 @@ fn magnitude(w: u64, raised: usize, reduced: usize) -> f64
     ensures { λ r. ⌜ r ≡ nearest false w raised reduced ⌝ }
 {
     if reduced <= raised {
-        return w as f64 * power(raised - reduced);
+        return w as f64 * tens::power(raised - reduced);
     }
-    w as f64 / power(reduced - raised)
+    w as f64 / tens::power(reduced - raised)
 }
 
 // The same with a sign.
