@@ -1,4 +1,5 @@
 // Decimal texts, by the grammar of Rust's f64, and their values where these are exact; the number that every reader of numbers answers with.
+pub mod short;
 mod tens;
 
 use scan::byte;
