@@ -362,6 +362,22 @@ fn not_a_number() -> f64
     0.0 / 0.0
 }
 
+// What a text is that is no numeral: infinity or NaN by name, or no decimal.
+fn named(s: &[u8]) -> Decimal
+    requires { ⌜ (length (now s) ≤ decimalLimit) × (isNumeral (now s) ≡ false) ⌝ }
+    ensures { λ r. ⌜ r ≡ decimalOf (now (s .entry)) ⌝ }
+{
+    let from = sign::past_sign(s, 0);
+    let word = &s[from..];
+    if is_infinite(word) {
+        return Decimal::Named(plain(infinite(sign::is_minus(s, 0))));
+    }
+    if is_named(word, b"nan") {
+        return Decimal::Named(plain(not_a_number()));
+    }
+    Decimal::NotDecimal
+}
+
 // Document 01's limit of a duration or number text, in bytes.
 pub const LIMIT: usize = 256;
 
@@ -372,17 +388,9 @@ pub fn read_decimal(s: &[u8]) -> Decimal
     if LIMIT < s.len() {
         return Decimal::NotDecimal;
     }
-    let from = sign::past_sign(s, 0);
-    let word = &s[from..];
-    if is_infinite(word) {
-        return Decimal::Named(plain(infinite(sign::is_minus(s, 0))));
-    }
-    if is_named(word, b"nan") {
-        return Decimal::Named(plain(not_a_number()));
-    }
     let p = parts_of(s);
-    if !is_numeral(s, p) {
-        return Decimal::NotDecimal;
+    if is_numeral(s, p) {
+        return numeral(s, p);
     }
-    numeral(s, p)
+    named(s)
 }

@@ -1,7 +1,7 @@
 -- How a text is read once it is taken up; and that an exact decimal is taken up, and is not empty, while `0` is one.
 use Prim.Native.Nat.{ℕ}
 use native.Mathlib.Omega.{arith}
-use mathlib.Core.Bool.{Bool, true, false, cond, _&&_}
+use mathlib.Core.Bool.{Bool, true, false, cond}
 use mathlib.Core.List.{List, [], _∷_}
 use mathlib.Core.Path.{_≡_, refl, sym, ap, _∙_}
 use lib.Dec.{ltb}
@@ -25,7 +25,6 @@ use Rattle.utf8.specs.Answers.{admitted}
 use Rattle.utf8.specs.laws.Refusals.{Taken}
 use Rattle.utf8.proofs.Given.{given-exactly}
 use Rattle.decimal.specs.declared.Number.{Number}
-use Rattle.decimal.specs.declared.Decimal.{Decimal}
 use Rattle.decimal.specs.declared.Decimal.the-variants.{NotDecimal, Exact}
 use Rattle.decimal.specs.Grammar.{hasDigits, exponentHasDigits, isNumeral, isInfinite, isNan}
 use Rattle.decimal.specs.Value.{plain, isInExact, numeralRead, decimalLimit, decimalIn, decimalOf}

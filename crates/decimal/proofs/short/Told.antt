@@ -1,30 +1,31 @@
 -- What is told of a short text that begins with a digit. It has no sign and is no name, so it is a numeral or nothing; and its digits are
 -- few: they amount to less than 2^53 and end with few zeros, so that its value is in the exact range by its exponent alone.
-use Prim.Native.Nat.{ℕ, suc, _+_, _-_, _*_, _^_, _<_, _≤_}
+use Prim.Native.Nat.{ℕ, _+_, _-_, _*_, _^_, _<_, _≤_}
 use Prim.Native.Char.{code}
 use native.Mathlib.Decide.{ℕ-discrete}
 use native.Mathlib.Nat.{add-zero}
 use native.Mathlib.Numerals.{add-one}
 use native.Mathlib.Omega.{arith}
 use mathlib.Core.Bool.{Bool, true, false, cond, _&&_, _||_, not, true≢false}
-use mathlib.Core.List.{List, [], map}
-use mathlib.Core.Logic.{_⊎_, inl, inr}
+use mathlib.Core.List.{List, map}
+use mathlib.Core.Logic.{inl, inr}
 use mathlib.Core.Path.{_≡_, refl, sym, ap, ap₂, _∙_}
 use lib.Dec.{leb}
-use lib.Ieee.{Float, binary64, round}
+use lib.Ieee.{binary64, round}
 use lib.ListN.{length, take, drop, take-append-drop, length-append}
 use borrow.Author.Tests.{ne-eqb, lt-ltb, ltb-true}
 use Rattle.proving.proofs.Choice.{either}
 use Rattle.proving.proofs.Tests.{affirmed, itself, tests-le, tests-and}
 use Rattle.scan.specs.declared.byte.Class.the-variants.{Digit}
-use Rattle.scan.specs.Byte.{end, peekAt, isIn, lowered}
+use Rattle.scan.specs.Byte.{peekAt, isIn, lowered}
+use Rattle.scan.specs.Run.{runEnd}
 use Rattle.scan.specs.Sign.{pastSign, isMinus}
 use Rattle.scan.specs.Digits.{valueFrom, valueOf}
 use Rattle.scan.proofs.byte.Classes.{within-bounds, end-in-none}
 use Rattle.scan.proofs.Runs.{run-goes-on, run-stopped, run-stops}
 use Rattle.decimal.specs.declared.Decimal.the-variants.{NotDecimal, Exact}
 use Rattle.decimal.specs.Grammar.{isExponent, wholeFrom, wholeTo, fractionFrom, fractionTo, exponentFrom, exponentTo, partsOf, exponentHasDigits, isNumeral, between, fractionOf, digitsOf, exponentOf, isNegativeExponent}
-use Rattle.decimal.specs.Value.{mostExact, mostExponent, plain, nearestOf, decimalOf}
+use Rattle.decimal.specs.Value.{mostExact, mostExponent, plain, decimalOf}
 use Rattle.decimal.specs.laws.Decimal.{Spelled, InExact}
 use Rattle.decimal.specs.steps.Scale.{trailing, significand, raised, reduced, nearest}
 use Rattle.decimal.specs.steps.Short.{mostShort, mostRaised, Led, scaledShort, Tells}
@@ -49,6 +50,7 @@ module _ (xs : List ℕ) where
   abbrev up : ℕ
   up = cond (isNegativeExponent xs) 0 (valueOf 10 (exponentOf xs))
 
+  -- it begins with a digit
   module _ (d : isIn Digit (peekAt xs 0) ≡ true) where
     bounds : (code "0" ≤ peekAt xs 0) × (peekAt xs 0 ≤ code "9")
     unfolding isIn
@@ -76,45 +78,49 @@ module _ (xs : List ℕ) where
         go (inr (inl i)) = omega (arith, first-nan xs i, low)
         go (inr (inr m)) = n m
 
-    -- with no exponent, and with one
-    module _ (e : isExponent xs (fractionTo xs) ≡ false) where
-      no-power : exponentTo xs ≡ fractionTo xs
-      no-power = rw e (run-stops (isIn Digit) xs (fractionTo xs) (run-stopped (isIn Digit) (end-in-none Digit) xs (fractionFrom xs)))
+    pub some : exponentHasDigits xs (partsOf xs) ≡ true → exponentTo xs ≡ length xs → isNumeral xs ≡ true
+    some h l = tests-numeral xs .1 (inl some-whole, (h, l))
 
-      pub goes-on : fractionTo xs < length xs → isNumeral xs ≡ true → ⊥
-      goes-on l n = omega (arith, tests-numeral xs .0 n .1 .1, no-power)
+  pub unended : (exponentTo xs ≡ length xs → ⊥) → isNumeral xs ≡ true → ⊥
+  unended h n = h (tests-numeral xs .0 n .1 .1)
 
-      pub ends : fractionTo xs ≡ length xs → isNumeral xs ≡ true
-      unfolding exponentHasDigits
-      ends l = tests-numeral xs .1 (inl some-whole, (rw e, no-power ∙ l))
+  -- with no exponent
+  pub past-end : fractionTo xs ≡ length xs → isExponent xs (fractionTo xs) ≡ false
+  past-end e = affirmed (itself (isExponent xs (fractionTo xs))) (λ t. omega (arith, exponent-inside xs (fractionTo xs) t))
 
-      pub plain-up : up ≡ 0
-      unfolding valueFrom
-      plain-up =
-          let s = run-stops (isIn Digit) xs (fractionTo xs) (run-stopped (isIn Digit) (end-in-none Digit) xs (fractionFrom xs)) in
-          rw (e, s) (ap (valueOf 10) (between-none xs (fractionTo xs)))
+  module _ (e : isExponent xs (fractionTo xs) ≡ false) where
+    stops : runEnd (isIn Digit) xs (fractionTo xs) ≡ fractionTo xs
+    stops = run-stops (isIn Digit) xs (fractionTo xs) (run-stopped (isIn Digit) (end-in-none Digit) xs (fractionFrom xs))
 
-      pub plain-down : reduced xs ≡ length (fractionOf xs)
-      plain-down = rw e (add-zero (length (fractionOf xs)))
+    pub no-power : exponentTo xs ≡ fractionTo xs
+    no-power = rw e stops
 
-    module _ (e : isExponent xs (fractionTo xs) ≡ true) where
-      pub power-from : exponentFrom xs ≡ pastSign xs (fractionTo xs + 1)
-      power-from = rw (e, add-one)
+    pub none-needed : exponentHasDigits xs (partsOf xs) ≡ true
+    unfolding exponentHasDigits
+    none-needed = rw e
 
-      pub no-digits : exponentTo xs ≡ exponentFrom xs → isNumeral xs ≡ true → ⊥
-      unfolding exponentHasDigits
-      no-digits s n = omega (arith, ltb-true (exponentFrom xs) (exponentTo xs) (implied _ _ e (tests-numeral xs .0 n .1 .0)))
+    pub plain-up : up ≡ 0
+    unfolding valueFrom
+    plain-up = rw (e, stops) (ap (valueOf 10) (between-none xs (fractionTo xs)))
 
-      pub digits : (exponentTo xs ≡ exponentFrom xs → ⊥) → exponentTo xs ≡ length xs → isNumeral xs ≡ true
-      unfolding exponentHasDigits
-      digits n l = tests-numeral xs .1 (inl some-whole, (implies (isExponent xs (fractionTo xs)) _ (lt-ltb (exponentFrom xs) (exponentTo xs) (omega arith)), l))
+    pub plain-down : reduced xs ≡ length (fractionOf xs)
+    plain-down = rw e (add-zero (length (fractionOf xs)))
 
-    pub unended : (exponentTo xs ≡ length xs → ⊥) → isNumeral xs ≡ true → ⊥
-    unended h n = h (tests-numeral xs .0 n .1 .1)
+  -- with one
+  module _ (e : isExponent xs (fractionTo xs) ≡ true) where
+    pub power-from : exponentFrom xs ≡ pastSign xs (fractionTo xs + 1)
+    power-from = rw (e, add-one)
 
-  -- what the exponent's sign says
-  pub negative : (b : Bool) → isExponent xs (fractionTo xs) ≡ true → isMinus xs (fractionTo xs + 1) ≡ b → isNegativeExponent xs ≡ b
-  negative b e h = ap₂ _&&_ e (ap (isMinus xs) (sym (add-one (fractionTo xs))) ∙ h)
+    pub no-digits : exponentTo xs ≡ exponentFrom xs → isNumeral xs ≡ true → ⊥
+    unfolding exponentHasDigits
+    no-digits s n = omega (arith, ltb-true (exponentFrom xs) (exponentTo xs) (implied _ _ e (tests-numeral xs .0 n .1 .0)))
+
+    pub digits : (exponentTo xs ≡ exponentFrom xs → ⊥) → exponentHasDigits xs (partsOf xs) ≡ true
+    unfolding exponentHasDigits
+    digits n = implies (isExponent xs (fractionTo xs)) _ (lt-ltb (exponentFrom xs) (exponentTo xs) (omega arith))
+
+    pub negative : (b : Bool) → isMinus xs (fractionTo xs + 1) ≡ b → isNegativeExponent xs ≡ b
+    negative b h = ap₂ _&&_ e (ap (isMinus xs) (sym (add-one (fractionTo xs))) ∙ h)
 
   module _ (m : isNegativeExponent xs ≡ true) where
     pub lowered-up : up ≡ 0
@@ -132,9 +138,6 @@ module _ (xs : List ℕ) where
 
   pub fraction-few : length (fractionOf xs) ≤ length xs
   fraction-few = omega (arith, digits-few xs (partsOf xs) refl, length-append (between xs (wholeFrom xs) (wholeTo xs)) (fractionOf xs))
-
-pub past-end : (xs : List ℕ) → fractionTo xs ≡ length xs → isExponent xs (fractionTo xs) ≡ false
-past-end xs e = affirmed (itself (isExponent xs (fractionTo xs))) (λ t. omega (arith, exponent-inside xs (fractionTo xs) t))
 
 -- the value
 module _ (xs : List ℕ) (at w behind : ℕ) (l : Led xs at w behind) (n : isNumeral xs ≡ true) where

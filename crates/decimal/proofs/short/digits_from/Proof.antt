@@ -2,7 +2,7 @@
 -- than come before this place; so that it does not overflow.
 use Prim.Native.Nat.{ℕ, _+_, _-_, _*_, _^_, _≤_, _<_}
 use native.Mathlib.Omega.{arith}
-use mathlib.Core.Bool.{true, false}
+use mathlib.Core.Bool.{true}
 use mathlib.Core.List.{List}
 use mathlib.Core.Path.{_≡_, refl, sym, ap, _∙_}
 use lib.ListN.{length, getD}
@@ -12,10 +12,8 @@ use Rattle.decimal.proofs.Exactness.{digit-below}
 use borrow.Author.Needs.{needs}
 use Rattle.scan.specs.declared.byte.Class.the-variants.{Digit}
 use Rattle.scan.specs.Byte.{peekAt, digitOf, isIn}
-use Rattle.scan.specs.Run.{runEnd}
 use Rattle.scan.proofs.byte.Classes.{end-in-none}
-use Rattle.scan.proofs.Runs.{inside, run-goes-on, run-stops}
-use Rattle.decimal.specs.declared.short.Digits.{Digits}
+use Rattle.scan.proofs.Runs.{inside}
 use Rattle.decimal.specs.steps.Short.{mostShort, digitsFrom}
 use Rattle.decimal.proofs.short.Walks.{turn, out, grown, further}
 use Rattle.decimal.proofs.short.digits_from.Statement.{statement}

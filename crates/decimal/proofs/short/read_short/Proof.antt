@@ -1,5 +1,5 @@
 -- What is read is the text's digits, before the point and behind it. Where the text ends there, it is a numeral in the exact range.
-use Prim.Native.Nat.{ℕ, _-_, _^_, _<_, _≤_}
+use Prim.Native.Nat.{ℕ, _-_, _≤_}
 use native.Mathlib.Omega.{arith}
 use mathlib.Core.Bool.{true}
 use mathlib.Core.List.{List}
@@ -24,7 +24,7 @@ use Rattle.decimal.proofs.Values.{ten-pos}
 use Rattle.decimal.proofs.Zeros.{between-long}
 use Rattle.decimal.proofs.Places.{point-within, digits-within, fraction-within}
 use Rattle.decimal.proofs.short.Walks.{further}
-use Rattle.decimal.proofs.short.Told.{from-start, ends, plain-up, plain-down, fraction-few, past-end, told-value}
+use Rattle.decimal.proofs.short.Told.{from-start, some, past-end, no-power, none-needed, plain-up, plain-down, fraction-few, told-value}
 use Rattle.decimal.proofs.short.read_short.Statement.{statement}
 use Rattle.decimal.proofs.short.read_short.Tie as tie
 
@@ -125,8 +125,8 @@ returns-3 c =
     let l = led a in
     let t : fractionTo x ≡ length x = sym (end-is a) ∙ c .before .if3 .taken in
     let e = past-end x t in
-    told-value x (all a .end) (all a .value) (all a .end - point a) l (ends x (l .first) e t) 0 (all a .end - point a) (plain-up x (l .first) e)
-    (plain-down x (l .first) e ∙ sym (l .fraction)) (omega arith) (omega (arith, l .fraction, fraction-few x, l .few))
+    told-value x (all a .end) (all a .value) (all a .end - point a) l (some x (l .first) (none-needed x e) (no-power x e ∙ t)) 0 (all a .end - point a) (plain-up x e)
+    (plain-down x e ∙ sym (l .fraction)) (omega arith) (omega (arith, l .fraction, fraction-few x, l .few))
     ∙ ap (λ (v : Float). Exact (plain v)) (sym (c .magnitude .ensures))
 
 with-exponent-requires : tie.Need-with-exponent-requires

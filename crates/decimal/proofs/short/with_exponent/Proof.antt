@@ -3,8 +3,7 @@ use Prim.Native.Nat.{ℕ, _+_, _^_, _<_, _≤_}
 use native.Mathlib.Omega.{arith}
 use mathlib.Core.Bool.{Bool, true, false}
 use mathlib.Core.List.{List}
-use mathlib.Core.Path.{_≡_, refl, sym, ap, subst, _∙_}
-use lib.ListN.{length}
+use mathlib.Core.Path.{_≡_, sym, ap, subst, _∙_}
 use denote.Ref.{now}
 use borrow.Author.Tests.{not-true, not-false}
 use borrow.Author.Needs.{needs}
@@ -17,7 +16,7 @@ use Rattle.decimal.specs.steps.Short.{mostShort, digitsFrom, Led, Tells}
 use Rattle.decimal.proofs.Values.{ten-pos}
 use Rattle.decimal.proofs.Places.{exponent-within}
 use Rattle.decimal.proofs.short.Walks.{further}
-use Rattle.decimal.proofs.short.Told.{none, goes-on, power-from, no-digits, digits, unended, negative, lowered-up, lowered-down, raised-up, raised-down, fraction-few, told-scaled}
+use Rattle.decimal.proofs.short.Told.{none, some, unended, no-power, power-from, no-digits, digits, negative, lowered-up, lowered-down, raised-up, raised-down, fraction-few, told-scaled}
 use Rattle.decimal.proofs.short.with_exponent.Statement.{statement}
 use Rattle.decimal.proofs.short.with_exponent.Tie as tie
 
@@ -38,8 +37,8 @@ is-exponent-requires c κs = search needs
 returns : tie.Need-returns
 returns c =
     let a = c .before .before .before in
-    none (text a) (led a .first)
-    (goes-on (text a) (led a .first) (sym (tested (c .before)) ∙ not-true (c .before .is-exponent .result) (c .if1 .taken)) (omega (arith, led a .ends, a .pre .1)))
+    let e = no-power (text a) (sym (tested (c .before)) ∙ not-true (c .before .is-exponent .result) (c .if1 .taken)) in
+    none (text a) (led a .first) (unended (text a) (λ q. omega (arith, e, led a .ends, a .pre .1)))
 
 add-past-sign : tie.Need-add-past-sign
 add-past-sign c = omega (arith, c .before .before .before .pre .1)
@@ -67,7 +66,7 @@ module _ (c : tie.After-digits-from) where
   stands = sym (tested (c .before .before .before)) ∙ not-false (c .before .before .before .is-exponent .result) (c .before .before .if1 .left)
 
   from-is : c .before .past-sign .result ≡ exponentFrom xs
-  from-is = c .before .past-sign .ensures ∙ ap (λ (n : ℕ). pastSign xs (n + 1)) (led start .ends) ∙ sym (power-from xs (led start .first) stands)
+  from-is = c .before .past-sign .ensures ∙ ap (λ (n : ℕ). pastSign xs (n + 1)) (led start .ends) ∙ sym (power-from xs stands)
 
   all : e ≡ digitsFrom xs (exponentFrom xs) 0
   all = c .digits-from .ensures .0 ∙ ap (λ (n : ℕ). digitsFrom xs n 0) from-is
@@ -87,12 +86,12 @@ module _ (c : tie.After-digits-from) where
 returns-2 : tie.Need-returns-2
 returns-2 c =
     let d = c .before .before in
-    none (xs d) (led (start d) .first) (no-digits (xs d) (led (start d) .first) (stands d) (sym (end-is d) ∙ c .if2 .taken ∙ from-is d))
+    none (xs d) (led (start d) .first) (no-digits (xs d) (stands d) (sym (end-is d) ∙ c .if2 .taken ∙ from-is d))
 
 returns-3 : tie.Need-returns-3
 returns-3 c =
     let d = c .before .before .before .before in
-    none (xs d) (led (start d) .first) (unended (xs d) (led (start d) .first) (λ q. c .if3 .taken (end-is d ∙ q)))
+    none (xs d) (led (start d) .first) (unended (xs d) (λ q. c .if3 .taken (end-is d ∙ q)))
 
 add-is-minus : tie.Need-add-is-minus
 add-is-minus c = omega (arith, start (c .before .before .before .before) .pre .1)
@@ -106,11 +105,12 @@ module _ (c : tie.After-is-minus) where
   told = c .before .before .before .before .before
 
   minus : (b : Bool) → c .is-minus .result ≡ b → isNegativeExponent (xs told) ≡ b
-  minus b h = negative (xs told) b (stands told) (ap (λ (n : ℕ). isMinus (xs told) (n + 1)) (sym (led (start told) .ends)) ∙ sym (c .is-minus .ensures) ∙ h)
+  minus b h = negative (xs told) (stands told) b (ap (λ (n : ℕ). isMinus (xs told) (n + 1)) (sym (led (start told) .ends)) ∙ sym (c .is-minus .ensures) ∙ h)
 
   numeral : isNumeral (xs told) ≡ true
   numeral =
-      digits (xs told) (led (start told) .first) (stands told) (λ q. c .before .before .before .if2 .left (end-is told ∙ q ∙ sym (from-is told)))
+      some (xs told) (led (start told) .first)
+      (digits (xs told) (stands told) (λ q. c .before .before .before .if2 .left (end-is told ∙ q ∙ sym (from-is told))))
       (sym (end-is told) ∙ omega (arith, c .before .if3 .left))
 
 add-scaled : tie.Need-add-scaled
