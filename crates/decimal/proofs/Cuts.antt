@@ -24,7 +24,7 @@ use Rattle.decimal.specs.Grammar.{between}
 use Rattle.decimal.specs.laws.Spelling.{Sign, SignCut, SignFound, Digits, SomeDigits}
 
 -- the signs come before the point
-sign-no : (c : ℕ) → code "." ≤ c → isSign c ≡ false
+pub sign-no : (c : ℕ) → code "." ≤ c → isSign c ≡ false
 unfolding isSign
 sign-no c h = rw (ne-eqb c (code "+") (λ e. omega arith), ne-eqb c (code "-") (λ e. omega arith))
 

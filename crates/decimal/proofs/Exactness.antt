@@ -94,7 +94,7 @@ ends v (d ∷ ds) a z e = go (isZeros ds) refl (ends (v * 10 + digitOf d) ds (a 
     go false f ih = ih f on
 
 -- the digits of a text are digits
-digit-below : (c : ℕ) → isIn Digit c ≡ true → digitOf c < 10
+pub digit-below : (c : ℕ) → isIn Digit c ≡ true → digitOf c < 10
 unfolding isIn digitOf
 digit-below c e = rw e (omega (arith, within-bounds (code "0") (code "9") c e))
 

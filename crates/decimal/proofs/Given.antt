@@ -73,7 +73,7 @@ module _ (xs : List ℕ) where
   no-nan n = affirmed (itself (isNan xs)) (λ a. true≢false (sym n ∙ spelled-once xs .2 a))
 
   -- what a numeral is read as
-  numeral : Short xs → Numeric xs → decimalOf xs ≡ numeralRead xs
+  pub numeral : Short xs → Numeric xs → decimalOf xs ≡ numeralRead xs
   unfolding decimalIn
   numeral h n = rw (← by-characters xs h, no-infinite (inr n), no-nan n, n)
 

@@ -52,7 +52,7 @@ module _ (xs : List ℕ) where
   abbrev Spelled : Type 0
   Spelled = (s a b t d : List ℕ) × NumeralOf s a b t d xs
 
-  tests-numeral : Tests (isNumeral xs) (((wholeFrom xs < wholeTo xs) ⊎ (fractionFrom xs < fractionTo xs)) × ((exponentHasDigits xs (partsOf xs) ≡ true) × (exponentTo xs ≡ length xs)))
+  pub tests-numeral : Tests (isNumeral xs) (((wholeFrom xs < wholeTo xs) ⊎ (fractionFrom xs < fractionTo xs)) × ((exponentHasDigits xs (partsOf xs) ≡ true) × (exponentTo xs ≡ length xs)))
   unfolding isNumeral hasDigits
   tests-numeral =
       tests-and (tests-or (tests-lt (wholeFrom xs) (wholeTo xs)) (tests-lt (fractionFrom xs) (fractionTo xs)))
@@ -80,7 +80,7 @@ pub numeral-spelled : NumeralSpelled
 numeral-spelled xs = (spelled xs, tested xs)
 
 -- a name begins with a letter
-lowered-low : (w : List ℕ) → peekAt w 0 ≤ code "9" → peekAt (map lowered w) 0 ≤ code "9"
+pub lowered-low : (w : List ℕ) → peekAt w 0 ≤ code "9" → peekAt (map lowered w) 0 ≤ code "9"
 unfolding lowered
 lowered-low [] h = h
 lowered-low (x ∷ w) h = rw (below-not (code "A") (code "Z") x (omega arith)) h
@@ -140,7 +140,7 @@ module _ (xs : List ℕ) where
   first-named : (name : List ℕ) → isNamed name xs ≡ true → first ≡ peekAt name 0
   first-named name e = ap (λ (l : List ℕ). peekAt l 0) (same-is-equal (map lowered (drop (wholeFrom xs) xs)) name .0 e)
 
-  first-infinite : isInfinite xs ≡ true → first ≡ code "i"
+  pub first-infinite : isInfinite xs ≡ true → first ≡ code "i"
   unfolding isInfinite
   first-infinite e = go (tests-or (itself (isNamed (ascii "inf") xs)) (itself (isNamed (ascii "infinity") xs)) .0 e)
     where
@@ -148,7 +148,7 @@ module _ (xs : List ℕ) where
       go (inl e) = first-named (ascii "inf") e
       go (inr e) = first-named (ascii "infinity") e
 
-  first-nan : isNan xs ≡ true → first ≡ code "n"
+  pub first-nan : isNan xs ≡ true → first ≡ code "n"
   unfolding isNan
   first-nan e = first-named (ascii "nan") e
 

@@ -138,6 +138,10 @@ pub ten-to-23-is-outside : read-decimal-gives (ascii "1e23") (Outside false)
 unfolding read-decimal-at
 ten-to-23-is-outside = read-decimal-at _
 
+pub last-zero-raises-the-exponent : read-decimal-gives (ascii "10e22") (Outside false)
+unfolding read-decimal-at
+last-zero-raises-the-exponent = read-decimal-at _
+
 pub two-to-53-is-exact : read-decimal-gives (ascii "9007199254740992") (Exact (plain (fin false 1 (pos 53))))
 unfolding read-decimal-at
 two-to-53-is-exact = read-decimal-at _

@@ -1,10 +1,10 @@
 // Decimal texts, by the grammar of Rust's f64, and their values where these are exact; the number that every reader of numbers answers with.
+pub mod short;
 mod tens;
 
 use scan::byte;
 use scan::byte::Class;
 use scan::sign;
-use tens::POWERS;
 ghost use mathlib.Core.Bool.{false, _&&_, _||_};
 ghost use mathlib.Core.Path.{_≡_};
 ghost use Prim.Native.Nat.{suc, _+_, _≤_, min};
@@ -19,7 +19,7 @@ ghost use Rattle.scan.specs.Sign.{isMinus};
 ghost use Rattle.scan.specs.Digits.{valueFrom, valueOf};
 ghost use Rattle.decimal.specs.Grammar.{pastPoint, isExponent, pastExponent, between, partsOf, hasDigits, exponentHasDigits, isNumeral, digitsOf, exponentOf};
 ghost use Rattle.decimal.specs.Value.{bitsOf, radixOf, mostTold, mostExact, mostExponent, decimalLimit, plain, numeralRead, decimalOf};
-ghost use Rattle.decimal.specs.steps.Scale.{trailing, significand, isExact, nearest, scaledBy, tenTo};
+ghost use Rattle.decimal.specs.steps.Scale.{trailing, significand, isExact, nearest, scaledBy};
 
 // How a number was written.
 pub enum Notation {
@@ -234,14 +234,6 @@ const MOST_EXACT: u64 = 0x20_0000_0000_0000;
 // An f64 holds every power of ten up to this one.
 const MOST_EXPONENT: usize = 22;
 
-// A power of ten.
-fn power(e: usize) -> f64
-    requires { ⌜ e ≤ mostExponent ⌝ }
-    ensures { λ r. ⌜ r ≡ tenTo e ⌝ }
-{
-    POWERS[e]
-}
-
 // The f64 nearest to w times one power of ten over another, of which neither is more than 10 ^ 22 times the other: one rounded
 // multiplication or division of two exact values.
 fn magnitude(w: u64, raised: usize, reduced: usize) -> f64
@@ -249,9 +241,9 @@ fn magnitude(w: u64, raised: usize, reduced: usize) -> f64
     ensures { λ r. ⌜ r ≡ nearest false w raised reduced ⌝ }
 {
     if reduced <= raised {
-        return w as f64 * power(raised - reduced);
+        return w as f64 * tens::power(raised - reduced);
     }
-    w as f64 / power(reduced - raised)
+    w as f64 / tens::power(reduced - raised)
 }
 
 // The same with a sign.
@@ -370,6 +362,22 @@ fn not_a_number() -> f64
     0.0 / 0.0
 }
 
+// What a text is that is no numeral: infinity or NaN by name, or no decimal.
+fn named(s: &[u8]) -> Decimal
+    requires { ⌜ (length (now s) ≤ decimalLimit) × (isNumeral (now s) ≡ false) ⌝ }
+    ensures { λ r. ⌜ r ≡ decimalOf (now (s .entry)) ⌝ }
+{
+    let from = sign::past_sign(s, 0);
+    let word = &s[from..];
+    if is_infinite(word) {
+        return Decimal::Named(plain(infinite(sign::is_minus(s, 0))));
+    }
+    if is_named(word, b"nan") {
+        return Decimal::Named(plain(not_a_number()));
+    }
+    Decimal::NotDecimal
+}
+
 // Document 01's limit of a duration or number text, in bytes.
 pub const LIMIT: usize = 256;
 
@@ -380,17 +388,9 @@ pub fn read_decimal(s: &[u8]) -> Decimal
     if LIMIT < s.len() {
         return Decimal::NotDecimal;
     }
-    let from = sign::past_sign(s, 0);
-    let word = &s[from..];
-    if is_infinite(word) {
-        return Decimal::Named(plain(infinite(sign::is_minus(s, 0))));
-    }
-    if is_named(word, b"nan") {
-        return Decimal::Named(plain(not_a_number()));
-    }
     let p = parts_of(s);
-    if !is_numeral(s, p) {
-        return Decimal::NotDecimal;
+    if is_numeral(s, p) {
+        return numeral(s, p);
     }
-    numeral(s, p)
+    named(s)
 }

@@ -8,6 +8,7 @@ use crate::span::Duration;
 use crate::units::Units;
 use decimal::Decimal;
 use decimal::Number;
+use decimal::short;
 use utf8::Admission;
 use utf8::Refusal;
 ghost use mathlib.Core.Path.{_≡_};
@@ -91,19 +92,9 @@ fn inexact(s: &[u8], d: Decimal) -> Timing
     unit_text(s)
 }
 
-// A decimal, or else parts with units.
-fn read_text(s: &[u8]) -> Timing
-    ensures { λ r. ⌜ r ≡ timedDecimal (now (s .entry)) (decimalOf (now (s .entry))) ⌝ }
-{
-    let d = decimal::read_decimal(s);
-    let Decimal::Exact(n) = d else {
-        return inexact(s, d);
-    };
-    seconds(n)
-}
-
-// Reads a duration.
-pub fn parse_duration(s: &[u8]) -> Timing
+// A text that is no exact decimal.
+fn other(s: &[u8], d: Decimal) -> Timing
+    requires { ⌜ (d ≡ decimalOf (now s)) × ((n : Number) → d ≡ Exact n → ⊥) ⌝ }
     ensures { λ r. ⌜ r ≡ timingOf (now (s .entry)) ⌝ }
 {
     let a = utf8::admit(s, decimal::LIMIT);
@@ -113,10 +104,21 @@ pub fn parse_duration(s: &[u8]) -> Timing
     if s.len() == 0 {
         return refused(EMPTY);
     }
+    inexact(s, d)
+}
+
+// Reads a duration. An exact decimal comes first: it is UTF-8, and short enough.
+pub fn parse_duration(s: &[u8]) -> Timing
+    ensures { λ r. ⌜ r ≡ timingOf (now (s .entry)) ⌝ }
+{
+    let d = short::read_at_once(s);
+    let Decimal::Exact(n) = d else {
+        return other(s, d);
+    };
     if scan::is_text(s, b"0") {
         return refused(ZERO);
     }
-    read_text(s)
+    seconds(n)
 }
 
 // Why a text is no duration; where it is one, a refusal of no number.

@@ -105,6 +105,9 @@ fn nanos(f: u64, k: u64) -> u64
     requires { ⌜ f < 2 ^ k ⌝ ∗ ⌜ k ≤ 94 ⌝ }
     ensures { λ r. ⌜ r ≡ closest (f * nanosASecond) (2 ^ k) ⌝ }
 {
+    if f == 0 {
+        return 0;
+    }
     if k <= 32 {
         return closest_div(f * Duration::NANOS_A_SECOND, pow2(k));
     }

@@ -1,126 +1,24 @@
--- Too long, a name, a numeral or none, as in the definition.
-use Prim.Native.Nat.{ℕ, _-_, _<_, _≤_}
+-- Too long, a numeral, or a name or none. A numeral is no name, so that it may come first.
+use Prim.Native.Nat.{ℕ, _<_}
 use native.Mathlib.Omega.{arith}
-use mathlib.Core.Bool.{true, false, _||_}
-use mathlib.Core.List.{List, map}
-use mathlib.Core.Path.{_≡_, sym, ap, _∙_}
-use lib.Ieee.{Float, inf, nan}
-use lib.ListN.{length, take, drop}
+use mathlib.Core.List.{List}
+use mathlib.Core.Path.{_≡_, sym, _∙_}
+use lib.ListN.{length}
 use denote.Ref.{now}
-use borrow.Author.Tests.{lt-ltb, not-true, not-false}
-use Rattle.scan.specs.Ascii.{ascii}
-use Rattle.scan.specs.Byte.{lowered}
-use Rattle.scan.specs.Text.{sameText}
-use Rattle.proving.proofs.Lists.{rest-of}
-use Rattle.decimal.specs.declared.Decimal.the-variants.{NotDecimal, Named}
-use Rattle.scan.specs.Sign.{isMinus}
-use Rattle.decimal.specs.Grammar.{wholeFrom, isNumeral, isInfinite, isNan}
-use Rattle.decimal.specs.Value.{decimalLimit, plain, numeralRead, decimalIn, decimalOf}
-use Rattle.scan.proofs.sign.Places.{sign-within}
-use Rattle.decimal.proofs.Characters.{by-characters}
+use borrow.Author.Tests.{lt-ltb}
+use Rattle.decimal.specs.declared.Decimal.the-variants.{NotDecimal}
+use Rattle.decimal.specs.Value.{decimalLimit, decimalOf}
+use Rattle.decimal.proofs.Given as given
 use borrow.Author.Needs.{needs}
 use Rattle.decimal.proofs.read_decimal.Statement.{statement}
 use Rattle.decimal.proofs.read_decimal.Tie as tie
 
-module _ (xs : List ℕ) where
-  too-long : decimalLimit < length xs → NotDecimal ≡ decimalOf xs
-  unfolding decimalOf
-  too-long h = rw (lt-ltb decimalLimit (length xs) h)
-
-  module _ (h : length xs ≤ decimalLimit) where
-    infinity : isInfinite xs ≡ true → Named (plain (inf (isMinus xs 0))) ≡ decimalOf xs
-    unfolding decimalIn
-    infinity i = rw (← by-characters xs h, i)
-
-    module _ (i : isInfinite xs ≡ false) where
-      no-number : isNan xs ≡ true → Named (plain nan) ≡ decimalOf xs
-      unfolding decimalIn
-      no-number n = rw (← by-characters xs h, i, n)
-
-      module _ (n : isNan xs ≡ false) where
-        none : isNumeral xs ≡ false → NotDecimal ≡ decimalOf xs
-        unfolding decimalIn
-        none e = rw (← by-characters xs h, i, n, e)
-
-        some : isNumeral xs ≡ true → numeralRead xs ≡ decimalOf xs
-        unfolding decimalIn
-        some e = rw (← by-characters xs h, i, n, e)
+too-long : (xs : List ℕ) → decimalLimit < length xs → NotDecimal ≡ decimalOf xs
+unfolding decimalOf
+too-long xs h = rw (lt-ltb decimalLimit (length xs) h)
 
 returns : tie.Need-returns
 returns c = too-long (now (c .before .before .args .s)) (c .if1 .taken)
-
-past-sign-requires : tie.Need-past-sign-requires
-past-sign-requires c κs = search needs
-
-sub-word : tie.Need-sub-word
-sub-word c = omega (arith, c .past-sign .ensures, sign-within (now (c .before .before .before .args .s)) 0 (omega arith))
-
-part-word-start : tie.Need-part-word-start
-part-word-start c = omega (arith, c .past-sign .ensures, sign-within (now (c .before .before .before .args .s)) 0 (omega arith))
-
-part-word-end : tie.Need-part-word-end
-part-word-end c = search needs
-
-is-infinite-requires : tie.Need-is-infinite-requires
-is-infinite-requires c κs = search needs
-
--- the word behind the sign
-module _ (c : tie.After-is-infinite) where
-  abbrev text : List ℕ
-  text = now (c .before .before .before .before .before .args .s)
-
-  short : length text ≤ decimalLimit
-  short = omega (arith, c .before .before .before .if1 .left)
-
-  word-is : take (length text - c .before .before .past-sign .result) (drop (c .before .before .past-sign .result) text) ≡ drop (wholeFrom text) text
-  word-is = rest-of text (c .before .before .past-sign .result) ∙ ap (λ (n : ℕ). drop n text) (c .before .before .past-sign .ensures)
-
-  told : c .is-infinite .result ≡ isInfinite text
-  unfolding isInfinite
-  told = c .is-infinite .ensures ∙ ap (λ (w : List ℕ). sameText (map lowered w) (ascii "inf") || sameText (map lowered w) (ascii "infinity")) word-is
-
-is-minus-requires : tie.Need-is-minus-requires
-is-minus-requires c κs = search needs
-
-infinite-requires : tie.Need-infinite-requires
-infinite-requires c κs = search needs
-
-plain-requires : tie.Need-plain-requires
-plain-requires c κs = search needs
-
-returns-2 : tie.Need-returns-2
-returns-2 c =
-    let d = c .before .before .before .before in
-    ap Named (c .plain .ensures)
-    ∙ ap (λ (x : Float). Named (plain x)) (c .before .infinite .ensures ∙ ap inf (c .before .before .is-minus .ensures))
-    ∙ infinity (text d) (short d) (sym (told d) ∙ c .before .before .before .if2 .taken)
-
-slice-aggregate-is-named : tie.Need-slice-aggregate-is-named
-slice-aggregate-is-named c = search needs
-
-is-named-requires : tie.Need-is-named-requires
-is-named-requires c κs = search needs
-
-nan-told : (c : tie.After-is-named) → c .is-named .result ≡ isNan (text (c .before .before .before))
-unfolding isNan
-nan-told c = c .is-named .ensures ∙ ap (λ (w : List ℕ). sameText (map lowered w) (ascii "nan")) (word-is (c .before .before .before))
-
-finite : (c : tie.After-is-named) → isInfinite (text (c .before .before .before)) ≡ false
-finite c = sym (told (c .before .before .before)) ∙ c .before .before .if2 .left
-
-not-a-number-requires : tie.Need-not-a-number-requires
-not-a-number-requires c κs = search needs
-
-plain-requires-2 : tie.Need-plain-requires-2
-plain-requires-2 c κs = search needs
-
-returns-3 : tie.Need-returns-3
-returns-3 c =
-    let e = c .before .before .before in
-    let d = e .before .before .before in
-    ap Named (c .plain2 .ensures)
-    ∙ ap (λ (x : Float). Named (plain x)) (c .before .not-a-number .ensures)
-    ∙ no-number (text d) (short d) (finite e) (sym (nan-told e) ∙ c .before .before .if3 .taken)
 
 parts-of-requires : tie.Need-parts-of-requires
 parts-of-requires c κs = search needs
@@ -128,47 +26,28 @@ parts-of-requires c κs = search needs
 is-numeral-requires : tie.Need-is-numeral-requires
 is-numeral-requires c κs = c .parts-of .ensures
 
-returns-4 : tie.Need-returns-4
-returns-4 c =
-    let e = c .before .before .before .before in
-    let d = e .before .before .before in
-    none (text d) (short d) (finite e) (sym (nan-told e) ∙ c .before .before .before .if3 .left)
-    (sym (c .before .is-numeral .ensures) ∙ not-true (c .before .is-numeral .result) (c .if4 .taken))
-
 numeral-requires : tie.Need-numeral-requires
-numeral-requires c κs =
-    let d = c .before .before .before .before .before .before .before in
-    (c .before .before .parts-of .ensures, short d)
+numeral-requires c κs = (c .before .before .parts-of .ensures, omega (arith, c .before .before .before .if1 .left))
 
-returns-5 : tie.Need-returns-5
-returns-5 c =
-    let e = c .before .before .before .before .before in
-    let d = e .before .before .before in
-    c .numeral .ensures
-    ∙ some (text d) (short d) (finite e) (sym (nan-told e) ∙ c .before .before .before .before .if3 .left)
-    (sym (c .before .before .is-numeral .ensures) ∙ not-false (c .before .before .is-numeral .result) (c .before .if4 .left))
+returns-2 : tie.Need-returns-2
+returns-2 c =
+    let i = c .before .before in
+    c .numeral .ensures ∙ sym (given.numeral _ (omega (arith, i .before .before .if1 .left)) (sym (i .is-numeral .ensures) ∙ c .before .if2 .taken))
+
+named-requires : tie.Need-named-requires
+named-requires c κs = let i = c .before in (omega (arith, i .before .before .if1 .left), sym (i .is-numeral .ensures) ∙ c .if2 .left)
+
+returns-3 : tie.Need-returns-3
+returns-3 c = search needs
 
 pub read-decimal-spec : {M : Type 1} → statement M
 read-decimal-spec =
     tie.close
     (tie.spec
     returns
-    past-sign-requires
-    sub-word
-    part-word-start
-    part-word-end
-    is-infinite-requires
-    is-minus-requires
-    infinite-requires
-    plain-requires
-    returns-2
-    slice-aggregate-is-named
-    is-named-requires
-    not-a-number-requires
-    plain-requires-2
-    returns-3
     parts-of-requires
     is-numeral-requires
-    returns-4
     numeral-requires
-    returns-5)
+    returns-2
+    named-requires
+    returns-3)

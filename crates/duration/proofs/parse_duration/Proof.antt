@@ -1,70 +1,48 @@
--- What is refused is refused first; then the text is empty, `0`, or read.
+-- An exact decimal is taken up, and is `0` or seconds; any other text is read as the definition says.
+use native.Mathlib.Omega.{arith}
 use Prim.Native.Nat.{ℕ}
-use mathlib.Core.Bool.{true, false}
-use mathlib.Core.List.{List}
+use mathlib.Core.List.{List, [], _∷_}
+use mathlib.Core.Logic.{⊎-elim}
 use mathlib.Core.Path.{_≡_, sym, ap, _∙_}
-use lib.ListN.{length}
+use types.Run.{OneOf}
+use denote.Enum.Declared.{tagOf}
 use denote.Ref.{now}
-use borrow.Author.Tests.{eq-eqb, ne-eqb}
-use Rattle.scan.specs.Ascii.{ascii}
-use Rattle.scan.specs.Text.{sameText}
-use Rattle.utf8.specs.declared.Admission.{Admission}
-use Rattle.utf8.specs.Answers.{admitted, notAdmitted}
-use Rattle.decimal.specs.Value.{decimalLimit, decimalOf}
-use Rattle.duration.specs.declared.Timing.the-variants.{Refused}
-use Rattle.duration.specs.Duration.{emptyText, zeroDuration, timedDecimal, durationRead, timingFor, timingOf}
+use Rattle.decimal.specs.declared.Number.{Number}
+use Rattle.decimal.specs.declared.Decimal.{Decimal}
+use Rattle.decimal.specs.declared.Decimal.the-variants.{Exact}
+use Rattle.decimal.specs.Value.{decimalOf}
+use Rattle.decimal.proofs.Decimal as decimal
+use Rattle.duration.specs.Duration.{timedDecimal}
+use Rattle.duration.proofs.Taken as taken
 use borrow.Author.Needs.{needs}
 use Rattle.duration.proofs.parse_duration.Statement.{statement}
 use Rattle.duration.proofs.parse_duration.Tie as tie
 
-admit-requires : tie.Need-admit-requires
-admit-requires c κs = search needs
+read-at-once-requires : tie.Need-read-at-once-requires
+read-at-once-requires c κs = search needs
 
-enum-told : tie.Need-enum-told
-enum-told c = search needs
+enum-known-d : tie.Need-enum-known-d
+enum-known-d c = search needs
 
-enum-told-2 : tie.Need-enum-told-2
-enum-told-2 c = search needs
+not-exact : (d : Decimal) → OneOf (0 ∷ 1 ∷ 3 ∷ []) (tagOf decimal.the-type d) → (n : Number) → d ≡ Exact n → ⊥
+not-exact d t n e = let k = ap (tagOf decimal.the-type) e in ⊎-elim (λ z. omega arith) (⊎-elim (λ z. omega arith) (λ z. omega arith)) t
 
-not-admitted-requires : tie.Need-not-admitted-requires
-not-admitted-requires c κs = search needs
-
-module _ (xs : List ℕ) where
-  by-admission : (a : Admission) → admitted decimalLimit xs ≡ a → timingFor a xs ≡ timingOf xs
-  unfolding timingOf
-  by-admission a e = ap (λ (b : Admission). timingFor b xs) (sym e)
-
-  empty : length xs ≡ 0 → Refused emptyText ≡ durationRead xs
-  unfolding durationRead
-  empty e = rw (eq-eqb (length xs) 0 e)
-
-  module _ (n : length xs ≡ 0 → ⊥) where
-    zero : sameText xs (ascii "0") ≡ true → Refused zeroDuration ≡ durationRead xs
-    unfolding durationRead
-    zero e = rw (ne-eqb (length xs) 0 n, e)
-
-    other : sameText xs (ascii "0") ≡ false → timedDecimal xs (decimalOf xs) ≡ durationRead xs
-    unfolding durationRead
-    other e = rw (ne-eqb (length xs) 0 n, e)
+other-requires : tie.Need-other-requires
+other-requires c κs = (c .before .read-at-once .ensures, not-exact _ (c .match .keys2))
 
 returns : tie.Need-returns
-returns c =
-    let x = now (c .before .before .before .before .before .args .s) in
-    let e = c .before .enum-told2 .given .1 in
-    ap Refused (c .not-admitted .ensures ∙ ap notAdmitted e) ∙ by-admission x _ (sym (c .before .before .before .admit .ensures) ∙ e)
+returns c = search needs
 
-module _ (c : tie.After-enum-told) where
+-- the number of an exact decimal
+module _ (c : tie.After-known-told) where
   abbrev text : List ℕ
-  text = now (c .before .before .before .before .args .s)
+  text = now (c .before .before .before .before .before .args .s)
 
-  read : durationRead text ≡ timingOf text
-  read = by-admission text _ (sym (c .before .before .admit .ensures) ∙ c .enum-told .given .1)
+  abbrev number : Number
+  number = c .before .d .given .0 .0
 
-refused-requires : tie.Need-refused-requires
-refused-requires c κs = search needs
-
-returns-2 : tie.Need-returns-2
-returns-2 c = let t = c .before .before in c .refused .ensures ∙ empty (text t) (c .before .if1 .taken) ∙ read t
+  exact : decimalOf text ≡ Exact number
+  exact = sym (c .before .before .before .read-at-once .ensures) ∙ c .before .d .given .1
 
 slice-aggregate-is-text : tie.Need-slice-aggregate-is-text
 slice-aggregate-is-text c = search needs
@@ -72,32 +50,42 @@ slice-aggregate-is-text c = search needs
 is-text-requires : tie.Need-is-text-requires
 is-text-requires c κs = search needs
 
-refused-requires-2 : tie.Need-refused-requires-2
-refused-requires-2 c κs = search needs
+refused-requires : tie.Need-refused-requires
+refused-requires c κs = search needs
+
+returns-2 : tie.Need-returns-2
+returns-2 c =
+    let i = c .before .before in
+    let k = i .before .before in
+    let x = text k in
+    c .refused .ensures
+    ∙ taken.zero x (taken.not-empty x (number k) (exact k)) (sym (i .is-text .ensures) ∙ c .before .if1 .taken)
+    ∙ taken.exact-read x (number k) (exact k)
+
+seconds-requires : tie.Need-seconds-requires
+seconds-requires c κs = search needs
 
 returns-3 : tie.Need-returns-3
-returns-3 c = let i = c .before .before in let t = i .before .before .before in c .refused2 .ensures ∙ zero (text t) (i .before .before .if1 .left) (sym (i .is-text .ensures) ∙ c .before .if2 .taken) ∙ read t
-
-read-text-requires : tie.Need-read-text-requires
-read-text-requires c κs = search needs
-
-returns-4 : tie.Need-returns-4
-returns-4 c = let i = c .before .before in let t = i .before .before .before in c .read-text .ensures ∙ other (text t) (i .before .before .if1 .left) (sym (i .is-text .ensures) ∙ c .before .if2 .left) ∙ read t
+returns-3 c =
+    let i = c .before .before in
+    let k = i .before .before in
+    let x = text k in
+    c .seconds .ensures
+    ∙ ap (timedDecimal x) (sym (exact k))
+    ∙ taken.other x (taken.not-empty x (number k) (exact k)) (sym (i .is-text .ensures) ∙ c .before .if1 .left)
+    ∙ taken.exact-read x (number k) (exact k)
 
 pub parse-duration-spec : {M : Type 1} → statement M
 parse-duration-spec =
     tie.close
     (tie.spec
-    admit-requires
-    enum-told
-    enum-told-2
-    not-admitted-requires
+    read-at-once-requires
+    enum-known-d
+    other-requires
     returns
-    refused-requires
-    returns-2
     slice-aggregate-is-text
     is-text-requires
-    refused-requires-2
-    returns-3
-    read-text-requires
-    returns-4)
+    refused-requires
+    returns-2
+    seconds-requires
+    returns-3)

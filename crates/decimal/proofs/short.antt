@@ -1,0 +1,4 @@
+pub mod Walks
+pub mod Told
+pub mod Unique
+pub mod Wrong
