@@ -8,7 +8,6 @@ use crate::tile::Tile;
 use scan::byte;
 use utf8::Admission;
 use utf8::ByteOffset;
-use utf8::CharNumber;
 use utf8::Reading;
 use utf8::Refusal;
 use utf8::Writing;
@@ -20,7 +19,6 @@ ghost use Prim.Native.Nat.{_+_, _<_, _≤_};
 ghost use lib.ListN.{length, drop};
 ghost use lib.Seq.{sets};
 ghost use Rattle.scan.specs.Text.{has};
-ghost use Rattle.utf8.specs.Answers.{textLimit, admitted};
 ghost use Rattle.string.specs.declared.tile.Form.the-variants.{Letter};
 ghost use Rattle.string.specs.declared.tile.Tile.the-variants.{Piece};
 ghost use Rattle.string.specs.Tile.{isAllowed, tileOf};
@@ -60,18 +58,6 @@ const SIGNS: usize = 2;
 const SHORT: usize = 128;
 
 const LONGER: usize = 4096;
-
-// Takes up a literal or a text. Whether it is ASCII is asked first, which is quicker for a long one.
-fn admit(text: &[u8]) -> Admission
-    ensures { λ r. ⌜ r ≡ admitted textLimit (now (text .entry)) ⌝ }
-{
-    if text.len() <= utf8::TEXT_LIMIT {
-        if utf8::is_ascii(text) {
-            return Admission::Admitted(CharNumber(text.len()));
-        }
-    }
-    utf8::admit(text, utf8::TEXT_LIMIT)
-}
 
 // Whether a literal stands between two quote signs that are the same.
 fn is_enclosed(literal: &[u8]) -> bool
@@ -336,7 +322,7 @@ pub fn unquote_string(literal: &[u8], reading: Reading, text: &mut [u8]) -> Unqu
     ensures { λ r. ⌜ r ≡ unquotingOf reading (length (now (text .entry))) (now (literal .entry)) ⌝ }
     ensures { λ r. ⌜ now (text .exit) ≡ textBy r (unquoted reading (now (literal .entry))) (now (text .entry)) ⌝ }
 {
-    let a = admit(literal);
+    let a = utf8::admit_text(literal);
     let Admission::Admitted(_) = a else {
         return Unquoting::Refused(utf8::not_admitted(a));
     };

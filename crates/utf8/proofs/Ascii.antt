@@ -1,13 +1,14 @@
 -- What is said of ASCII characters is said of their bytes. By induction on the bytes: an ASCII byte is a character by itself, and one
 -- that is not ASCII begins no character, or a longer one, whose code point is not ASCII either.
-use Prim.Native.Nat.{ℕ, zero, suc, _<_, _≤_}
+use Prim.Native.Nat.{ℕ, zero, suc, _+_, _<_, _≤_}
+use native.Mathlib.Nat.{add-zero}
 use native.Mathlib.Omega.{arith}
 use native.Mathlib.Decide.{decLt, ℕ-discrete}
 use mathlib.Core.Bool.{Bool, true, false, cond, _&&_, and-false, true≢false}
 use mathlib.Core.List.{List, [], _∷_, map}
 use mathlib.Core.Path.{_≡_, refl, sym, ap, _∙_}
 use lib.Dec.{eqb, ltb}
-use lib.ListN.{length, length-map, replicate}
+use lib.ListN.{length, take, drop, length-map, replicate}
 use borrow.Author.Tests.{ltb-true, lt-ltb, le-ltb, eq-eqb, ne-eqb}
 use Rattle.scan.specs.Byte.{lowered}
 use Rattle.scan.specs.Text.{sameText}
@@ -21,7 +22,7 @@ use Rattle.utf8.specs.Answers.{validityOf}
 use Rattle.utf8.specs.laws.Ascii.{OneByte, isAscii, AsciiText, AsciiPlaces, ByBytes, LoweredOther}
 use Rattle.utf8.specs.laws.Encode.{AsciiBytes}
 use Rattle.utf8.proofs.Lead.{second, sized, char-by}
-use Rattle.utf8.proofs.Chars.{chars-none, chars-some}
+use Rattle.utf8.proofs.Chars.{chars-none, chars-some, stop, stop-more}
 use Rattle.utf8.proofs.Codes.{one-byte}
 use Rattle.utf8.proofs.Laws.{ascii-char, ascii-head}
 use Rattle.utf8.proofs.Inverse.{Range, size-range, long-code}
@@ -55,6 +56,16 @@ ascii-places xs h =
     let t = ascii-text xs h in
     let n : length (charsOf xs) ≡ length xs = sym (length-map (charsOf xs) (λ (c : Char). c .code)) ∙ ap length (t .1) in
     (rw (eq-eqb (prefixEnd xs) (length xs) (t .0), n), ascii-number xs h)
+
+-- where characters stop that begin before an offset, past so many ASCII bytes that stand before it
+pub ascii-on : (n to at k : ℕ) (xs : List ℕ) → isAscii (take n xs) ≡ true → n ≤ length xs → at + n ≤ to → stop to at k (charsOf xs) ≡ stop to (at + n) (k + n) (charsOf (drop n xs))
+ascii-on zero to at k xs h l m = rw (add-zero at, add-zero k)
+ascii-on (suc n) to at k [] h l m = let f : ⊥ = omega arith in absurd f
+ascii-on (suc n) to at k (x ∷ xs) h l m =
+    let e : at + suc n ≡ at + 1 + n = omega arith in
+    let f : k + suc n ≡ k + 1 + n = omega arith in
+    rw (ascii-char x xs (ltb-true x 0x80 (and-left (ltb x 0x80) (isAscii (take n xs)) h)), e, f)
+    (stop-more to at k (record { code = x; size = 1 }) (charsOf xs) (omega arith) ∙ ascii-on n to (at + 1) (k + 1) xs (and-right (ltb x 0x80) (isAscii (take n xs)) h) (omega arith) (omega arith))
 
 pub one-ascii : OneByte
 one-ascii x xs e = go (sizeBy x) (size-range x) (sym (char-by x xs) ∙ e)

@@ -4,11 +4,14 @@ pub mod encode;
 
 use scan::byte;
 ghost use mathlib.Core.Path.{_≡_};
+ghost use mathlib.Core.Bool.{true};
+ghost use Prim.Native.Nat.{_≤_};
+ghost use lib.ListN.{length, take};
 ghost use Rattle.utf8.specs.Table.{isTail, charLength};
 ghost use Rattle.utf8.specs.steps.Lead.{sizeBy, lowSecond, highSecond, withTails};
 ghost use Rattle.utf8.specs.Text.{charNumber};
 ghost use Rattle.utf8.specs.Code.{codeOf};
-ghost use Rattle.utf8.specs.Answers.{count, nextStart, validityOf, atStart, notUtf8By, admitted, notAdmitted, characterAt};
+ghost use Rattle.utf8.specs.Answers.{count, nextStart, validityOf, atStart, notUtf8By, admitted, notAdmitted, characterAt, textLimit};
 ghost use Rattle.utf8.specs.Writing.{notWritten};
 ghost use Rattle.utf8.specs.laws.Ascii.{isAscii};
 
@@ -205,26 +208,6 @@ fn char_length(s: &[u8]) -> usize
     }
 }
 
-// Where the first character begins that is not before an offset, or the longest well-formed prefix ends.
-fn next_start(text: &[u8], to: usize) -> Place
-    ensures { λ r. ⌜ r ≡ nextStart (now (text .entry)) to ⌝ }
-{
-    let mut at = 0;
-    let mut count = 0;
-    while at < to {
-        let n = char_length(&text[at..]);
-        if n == 0 {
-            break;
-        }
-        at += n;
-        count += 1;
-    }
-    Place {
-        byte: ByteOffset(at),
-        character: CharNumber(count),
-    }
-}
-
 // Whether all bytes are ASCII.
 pub fn is_ascii(text: &[u8]) -> bool
     ensures { λ r. ⌜ r ≡ isAscii (now (text .entry)) ⌝ }
@@ -238,6 +221,49 @@ pub fn is_ascii(text: &[u8]) -> bool
         i += 1;
     }
     most <= LAST_ASCII
+}
+
+// So many bytes are looked at together.
+const BLOCK: usize = 32;
+
+// How many bytes may be passed over at once, of those that are left and of the most that are wanted: some where all of them are ASCII.
+fn ascii_run(s: &[u8], most: usize) -> usize
+    ensures { λ r. ⌜ (r ≤ length (now (s .entry))) × (r ≤ most) × (isAscii (take r (now (s .entry))) ≡ true) ⌝ }
+{
+    if most < BLOCK {
+        return 0;
+    }
+    if s.len() < BLOCK {
+        return 0;
+    }
+    if is_ascii(&s[..BLOCK]) { BLOCK } else { 0 }
+}
+
+// Where the first character begins that is not before an offset, or the longest well-formed prefix ends.
+fn next_start(text: &[u8], to: usize) -> Place
+    ensures { λ r. ⌜ r ≡ nextStart (now (text .entry)) to ⌝ }
+{
+    let mut at = 0;
+    let mut count = 0;
+    while at < to {
+        let s = &text[at..];
+        let run = ascii_run(s, to - at);
+        if 0 < run {
+            at += run;
+            count += run;
+            continue;
+        }
+        let n = char_length(s);
+        if n == 0 {
+            break;
+        }
+        at += n;
+        count += 1;
+    }
+    Place {
+        byte: ByteOffset(at),
+        character: CharNumber(count),
+    }
 }
 
 // Whether bytes are UTF-8 text, by its characters.
@@ -300,6 +326,18 @@ pub fn admit(text: &[u8], limit: usize) -> Admission
         return Admission::Refused(not_utf8(v));
     };
     Admission::Admitted(n)
+}
+
+// Takes up a query, a literal or a text. Whether it is ASCII is asked first, which is quicker for a long one.
+pub fn admit_text(text: &[u8]) -> Admission
+    ensures { λ r. ⌜ r ≡ admitted textLimit (now (text .entry)) ⌝ }
+{
+    if text.len() <= TEXT_LIMIT {
+        if is_ascii(text) {
+            return Admission::Admitted(CharNumber(text.len()));
+        }
+    }
+    admit(text, TEXT_LIMIT)
 }
 
 // Why a text is not taken up; where it is, a refusal of no number.

@@ -1,13 +1,13 @@
--- Within the limit ASCII bytes are taken up, as many characters as they are; whatever else is asked of `utf8::admit`.
+-- Within the limit ASCII bytes are taken up, as many characters as they are; whatever else is asked of `admit`.
 use mathlib.Core.Path.{sym, _∙_}
 use denote.Ref.{now}
 use lib.ListN.{length}
 use borrow.Author.Needs.{needs}
 use borrow.Author.Tests.{le-ltb}
 use Rattle.utf8.specs.Answers.{textLimit, admitted}
 use Rattle.utf8.proofs.Ascii.{ascii-places}
-use Rattle.string.proofs.admit.Statement.{statement}
-use Rattle.string.proofs.admit.Tie as tie
+use Rattle.utf8.proofs.admit_text.Statement.{statement}
+use Rattle.utf8.proofs.admit_text.Tie as tie
 
 is-ascii-requires : tie.Need-is-ascii-requires
 is-ascii-requires c κs = search needs
@@ -25,5 +25,5 @@ admit-requires c κs = search needs
 returns-2 : tie.Need-returns-2
 returns-2 c = c .admit .ensures
 
-pub admit-spec : {M : Type 1} → statement M
-admit-spec = tie.close (tie.spec is-ascii-requires returns admit-requires returns-2)
+pub admit-text-spec : {M : Type 1} → statement M
+admit-text-spec = tie.close (tie.spec is-ascii-requires returns admit-requires returns-2)
