@@ -25,7 +25,7 @@ ghost use Rattle.exports.specs.Written.{writtenCode};
 pub extern "C" fn simmerpath_utf8_validate(text: &[u8]) -> u64
     ensures { λ r. ⌜ r ≡ validateCode (admitted textLimit (now (text .entry))) ⌝ }
 {
-    let a = utf8::admit_text(text);
+    let a = utf8::admit(text, utf8::TEXT_LIMIT);
     let Admission::Admitted(count) = a else {
         return packing::packed(utf8::not_admitted(a));
     };

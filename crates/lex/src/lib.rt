@@ -303,7 +303,7 @@ fn refused_in(query: &[u8], t: Tally) -> Refusal
 pub fn measure(query: &[u8]) -> Lexing
     ensures { λ r. ⌜ r ≡ measured (now (query .entry)) ⌝ }
 {
-    let a = utf8::admit_text(query);
+    let a = utf8::admit(query, utf8::TEXT_LIMIT);
     let Admission::Admitted(_) = a else {
         return Lexing::Refused(utf8::not_admitted(a));
     };
@@ -440,7 +440,7 @@ pub fn lexer(query: &[u8], kinds: &mut [u16], starts: &mut [u32], lengths: &mut 
 {
     let leads = munch::leads();
     let words = token::words();
-    let a = utf8::admit_text(query);
+    let a = utf8::admit(query, utf8::TEXT_LIMIT);
     let Admission::Admitted(_) = a else {
         return Lexing::Refused(utf8::not_admitted(a));
     };

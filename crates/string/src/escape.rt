@@ -95,7 +95,7 @@ pub fn escape_string(text: &[u8], out: &mut [u8]) -> Writing
     ensures { λ r. ⌜ r ≡ escapingOf (length (now (out .entry))) (now (text .entry)) ⌝ }
     ensures { λ r. ⌜ now (out .exit) ≡ leftBy r (escaped (now (text .entry))) (now (out .entry)) ⌝ }
 {
-    let a = utf8::admit_text(text);
+    let a = utf8::admit(text, utf8::TEXT_LIMIT);
     let Admission::Admitted(_) = a else {
         return Writing::Refused(utf8::not_admitted(a));
     };

@@ -322,7 +322,7 @@ pub fn unquote_string(literal: &[u8], reading: Reading, text: &mut [u8]) -> Unqu
     ensures { λ r. ⌜ r ≡ unquotingOf reading (length (now (text .entry))) (now (literal .entry)) ⌝ }
     ensures { λ r. ⌜ now (text .exit) ≡ textBy r (unquoted reading (now (literal .entry))) (now (text .entry)) ⌝ }
 {
-    let a = utf8::admit_text(literal);
+    let a = utf8::admit(literal, utf8::TEXT_LIMIT);
     let Admission::Admitted(_) = a else {
         return Unquoting::Refused(utf8::not_admitted(a));
     };

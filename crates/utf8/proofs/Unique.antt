@@ -7,8 +7,6 @@ use Rattle.utf8.proofs.validate.Kinds as validate
 use Rattle.utf8.proofs.validate.Reads as validate-reads
 use Rattle.utf8.proofs.admit.Kinds as admit
 use Rattle.utf8.proofs.admit.Reads as admit-reads
-use Rattle.utf8.proofs.admit_text.Kinds as admit-text
-use Rattle.utf8.proofs.admit_text.Reads as admit-text-reads
 use Rattle.utf8.proofs.not_admitted.Kinds as not-admitted
 use Rattle.utf8.proofs.not_admitted.Reads as not-admitted-reads
 use Rattle.utf8.proofs.not_written.Kinds as not-written
@@ -28,9 +26,6 @@ same-validate κs a x y e f p q = p ∙ sym q
 
 pub same-admit : OneAnswer admit.ps admit.r admit-reads.Post
 same-admit κs a x y e f p q = p ∙ sym q
-
-pub same-admit-text : OneAnswer admit-text.ps admit-text.r admit-text-reads.Post
-same-admit-text κs a x y e f p q = p ∙ sym q
 
 pub same-not-admitted : OneAnswer not-admitted.ps not-admitted.r not-admitted-reads.Post
 same-not-admitted κs a x y e f p q = p ∙ sym q

@@ -22,7 +22,7 @@ use Rattle.utf8.specs.Code.{codeOf}
 use Rattle.utf8.specs.Text.{charsPast, sizeOf, begunIn, charNumber}
 use Rattle.utf8.specs.declared.Writing.{Writing}
 use Rattle.utf8.specs.declared.Writing.the-variants as writing
-use Rattle.utf8.specs.Answers.{count, place, validityOf, atStart, textLimit, admitted, characterAt, notUtf8, notAdmitted}
+use Rattle.utf8.specs.Answers.{count, place, validityOf, atStart, admitted, characterAt, notUtf8, notAdmitted}
 use Rattle.utf8.specs.Writing.{notWritten}
 use Rattle.utf8.specs.laws.Ascii.{isAscii}
 use Rattle.utf8.proofs.is_ascii.Kinds as is-ascii
@@ -37,8 +37,6 @@ use Rattle.utf8.proofs.char_number.Kinds as char-number
 use Rattle.utf8.proofs.char_number.Reads as char-number-reads
 use Rattle.utf8.proofs.char_at.Kinds as char-at
 use Rattle.utf8.proofs.char_at.Reads as char-at-reads
-use Rattle.utf8.proofs.admit_text.Kinds as admit-text
-use Rattle.utf8.proofs.admit_text.Reads as admit-text-reads
 use Rattle.utf8.proofs.not_admitted.Kinds as not-admitted
 use Rattle.utf8.proofs.not_admitted.Reads as not-admitted-reads
 use Rattle.utf8.proofs.not_written.Kinds as not-written
@@ -122,21 +120,6 @@ text-past-the-limit-is-refused-as-1 = admit-at _ _
 pub text-that-is-not-utf8-is-refused-as-2 : admit-gives (code "a" ∷ 0xff ∷ []) 2 (Refused (record { number = 2; place = place 1 1 }))
 unfolding admit-at
 text-that-is-not-utf8-is-refused-as-2 = admit-at _ _
-
-abbrev admit-text-gives : List ℕ → Admission → Type 0
-admit-text-gives xs v = Answers admit-text.ps admit-text.r admit-text-reads.Post (λ κs a. now (a .0) ≡ xs) (λ κs. v)
-
-admit-text-at : (xs : List ℕ) → admit-text-gives xs (admitted textLimit xs)
-unfolding admitted validate-at
-admit-text-at xs κs a x e p h = p ∙ ap (admitted textLimit) h
-
-pub two-bytes-of-one-character-count-once : admit-text-gives (0xc3 ∷ 0xa9 ∷ []) (Admitted (count 1))
-unfolding admit-text-at
-two-bytes-of-one-character-count-once = admit-text-at _
-
-pub character-cut-off-is-refused-as-2 : admit-text-gives (code "a" ∷ 0xc3 ∷ []) (Refused (record { number = 2; place = place 1 1 }))
-unfolding admit-text-at
-character-cut-off-is-refused-as-2 = admit-text-at _
 
 -- of a text and an offset
 abbrev char-number-gives : List ℕ → ℕ → CharNumber → Type 0

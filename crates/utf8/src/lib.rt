@@ -11,7 +11,7 @@ ghost use Rattle.utf8.specs.Table.{isTail, charLength};
 ghost use Rattle.utf8.specs.steps.Lead.{sizeBy, lowSecond, highSecond, withTails};
 ghost use Rattle.utf8.specs.Text.{charNumber};
 ghost use Rattle.utf8.specs.Code.{codeOf};
-ghost use Rattle.utf8.specs.Answers.{count, nextStart, validityOf, atStart, notUtf8By, admitted, notAdmitted, characterAt, textLimit};
+ghost use Rattle.utf8.specs.Answers.{count, nextStart, validityOf, atStart, notUtf8By, admitted, notAdmitted, characterAt};
 ghost use Rattle.utf8.specs.Writing.{notWritten};
 ghost use Rattle.utf8.specs.laws.Ascii.{isAscii};
 
@@ -314,8 +314,8 @@ fn not_utf8(v: Validity) -> Refusal
     }
 }
 
-// Takes up a text of at most `limit` bytes: refusals 1 and 2 of every reader.
-pub fn admit(text: &[u8], limit: usize) -> Admission
+// Takes up a text of at most `limit` bytes, by its characters.
+fn admit_other(text: &[u8], limit: usize) -> Admission
     ensures { λ r. ⌜ r ≡ admitted limit (now (text .entry)) ⌝ }
 {
     if limit < text.len() {
@@ -328,16 +328,16 @@ pub fn admit(text: &[u8], limit: usize) -> Admission
     Admission::Admitted(n)
 }
 
-// Takes up a query, a literal or a text. Whether it is ASCII is asked first, which is quicker for a long one.
-pub fn admit_text(text: &[u8]) -> Admission
-    ensures { λ r. ⌜ r ≡ admitted textLimit (now (text .entry)) ⌝ }
+// Takes up a text of at most `limit` bytes: refusals 1 and 2 of every reader. Whether it is ASCII is asked first, which is quicker.
+pub fn admit(text: &[u8], limit: usize) -> Admission
+    ensures { λ r. ⌜ r ≡ admitted limit (now (text .entry)) ⌝ }
 {
-    if text.len() <= TEXT_LIMIT {
+    if text.len() <= limit {
         if is_ascii(text) {
             return Admission::Admitted(CharNumber(text.len()));
         }
     }
-    admit(text, TEXT_LIMIT)
+    admit_other(text, limit)
 }
 
 // Why a text is not taken up; where it is, a refusal of no number.

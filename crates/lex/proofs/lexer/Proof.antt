@@ -18,8 +18,8 @@ leads-requires c κs = search needs
 words-requires : tie.Need-words-requires
 words-requires c κs = search needs
 
-admit-text-requires : tie.Need-admit-text-requires
-admit-text-requires c κs = search needs
+admit-requires : tie.Need-admit-requires
+admit-requires c κs = search needs
 
 enum-told : tie.Need-enum-told
 enum-told c = search needs
@@ -34,7 +34,7 @@ returns : tie.Need-returns
 unfolding lexed measured
 returns c =
     let e = c .before .enum-told2 .given .1 in
-    rw (← c .before .before .before .admit-text .ensures, e) (ap Refused (c .not-admitted .ensures ∙ ap notAdmitted e), (refl, (refl, refl)))
+    rw (← c .before .before .before .admit .ensures, e) (ap Refused (c .not-admitted .ensures ∙ ap notAdmitted e), (refl, (refl, refl)))
 
 slice-aggregate-lex-text : tie.Need-slice-aggregate-lex-text
 slice-aggregate-lex-text c = search needs
@@ -50,7 +50,7 @@ slice-aggregate-lex-text-4 c = search needs
 
 lex-text-requires : tie.Need-lex-text-requires
 lex-text-requires c κs =
-    let taken = admitted-text textLimit (now (c .before .before .before .before .before .before .before .before .before .before .before .before .before .before .before .before .before .before .args .query)) _ (sym (c .before .before .before .before .before .before .before .before .before .before .before .admit-text .ensures) ∙ c .before .before .before .before .before .before .before .before .before .enum-told .given .1) in
+    let taken = admitted-text textLimit (now (c .before .before .before .before .before .before .before .before .before .before .before .before .before .before .before .before .before .before .args .query)) _ (sym (c .before .before .before .before .before .before .before .before .before .before .before .admit .ensures) ∙ c .before .before .before .before .before .before .before .before .before .enum-told .given .1) in
     ((c .before .before .before .before .before .before .before .before .before .before .before .before .before .leads .ensures, c .before .before .before .before .before .before .before .before .before .before .before .before .words .ensures), (omega (arith, taken .0), (refl, refl)))
 
 same-length : tie.Need-same-length
@@ -66,7 +66,7 @@ returns-2 : tie.Need-returns-2
 unfolding lexed
 returns-2 c =
     let w = c .before .before .before .before .before .before .before .before .before .lex-text .ensures in
-    let m = tally-measured (now (c .before .before .before .before .before .before .before .before .before .before .before .before .before .before .before .before .before .before .before .before .before .before .before .before .before .before .before .before .args .query)) (sym (c .before .before .before .before .before .before .before .before .before .before .before .before .before .before .before .before .before .before .before .before .before .admit-text .ensures) ∙ c .before .before .before .before .before .before .before .before .before .before .before .before .before .before .before .before .before .before .before .enum-told .given .1) in
+    let m = tally-measured (now (c .before .before .before .before .before .before .before .before .before .before .before .before .before .before .before .before .before .before .before .before .before .before .before .before .before .before .before .before .args .query)) (sym (c .before .before .before .before .before .before .before .before .before .before .before .before .before .before .before .before .before .before .before .before .before .admit .ensures) ∙ c .before .before .before .before .before .before .before .before .before .before .before .before .before .before .before .before .before .before .before .enum-told .given .1) in
     (w .0 ∙ ap (roomed _) m, w .1)
 
 slice-aggregate-lex-text-5 : tie.Need-slice-aggregate-lex-text-5
@@ -83,7 +83,7 @@ slice-aggregate-lex-text-8 c = search needs
 
 lex-text-requires-2 : tie.Need-lex-text-requires-2
 lex-text-requires-2 c κs =
-    let taken = admitted-text textLimit (now (c .before .before .before .before .before .before .before .before .before .before .before .before .before .before .before .before .before .before .args .query)) _ (sym (c .before .before .before .before .before .before .before .before .before .before .before .admit-text .ensures) ∙ c .before .before .before .before .before .before .before .before .before .enum-told .given .1) in
+    let taken = admitted-text textLimit (now (c .before .before .before .before .before .before .before .before .before .before .before .before .before .before .before .before .before .before .args .query)) _ (sym (c .before .before .before .before .before .before .before .before .before .before .before .admit .ensures) ∙ c .before .before .before .before .before .before .before .before .before .enum-told .given .1) in
     ((c .before .before .before .before .before .before .before .before .before .before .before .before .before .leads .ensures, c .before .before .before .before .before .before .before .before .before .before .before .before .words .ensures), (omega (arith, taken .0), (refl, refl)))
 
 same-length-4 : tie.Need-same-length-4
@@ -99,7 +99,7 @@ returns-3 : tie.Need-returns-3
 unfolding lexed
 returns-3 c =
     let w = c .before .before .before .before .before .before .before .before .before .lex-text2 .ensures in
-    let m = tally-measured (now (c .before .before .before .before .before .before .before .before .before .before .before .before .before .before .before .before .before .before .before .before .before .before .before .before .before .before .before .before .args .query)) (sym (c .before .before .before .before .before .before .before .before .before .before .before .before .before .before .before .before .before .before .before .before .before .admit-text .ensures) ∙ c .before .before .before .before .before .before .before .before .before .before .before .before .before .before .before .before .before .before .before .enum-told .given .1) in
+    let m = tally-measured (now (c .before .before .before .before .before .before .before .before .before .before .before .before .before .before .before .before .before .before .before .before .before .before .before .before .before .before .before .before .args .query)) (sym (c .before .before .before .before .before .before .before .before .before .before .before .before .before .before .before .before .before .before .before .before .before .admit .ensures) ∙ c .before .before .before .before .before .before .before .before .before .before .before .before .before .before .before .before .before .before .before .enum-told .given .1) in
     (w .0 ∙ ap (roomed _) m, w .1)
 
 pub lexer-spec : {M : Type 1} → statement M
@@ -108,7 +108,7 @@ lexer-spec =
     (tie.spec
     leads-requires
     words-requires
-    admit-text-requires
+    admit-requires
     enum-told
     enum-told-2
     not-admitted-requires

@@ -13,8 +13,8 @@ use Rattle.lex.proofs.Tallies.{tally-measured}
 use Rattle.lex.proofs.measure.Statement.{statement}
 use Rattle.lex.proofs.measure.Tie as tie
 
-admit-text-requires : tie.Need-admit-text-requires
-admit-text-requires c κs = search needs
+admit-requires : tie.Need-admit-requires
+admit-requires c κs = search needs
 
 enum-told : tie.Need-enum-told
 enum-told c = search needs
@@ -29,7 +29,7 @@ returns : tie.Need-returns
 unfolding measured
 returns c =
     let e = c .before .enum-told2 .given .1 in
-    rw (← c .before .before .before .admit-text .ensures, e) (ap Refused (c .not-admitted .ensures ∙ ap notAdmitted e))
+    rw (← c .before .before .before .admit .ensures, e) (ap Refused (c .not-admitted .ensures ∙ ap notAdmitted e))
 
 leads-requires : tie.Need-leads-requires
 leads-requires c κs = search needs
@@ -51,14 +51,14 @@ slice-aggregate-pass-4 c = search needs
 
 pass-requires : tie.Need-pass-requires
 pass-requires c κs =
-    let taken = admitted-text textLimit (now (c .before .before .before .before .before .before .before .before .before .before .before .args .query)) _ (sym (c .before .before .before .before .before .before .before .before .before .admit-text .ensures) ∙ c .before .before .before .before .before .before .before .enum-told .given .1) in
+    let taken = admitted-text textLimit (now (c .before .before .before .before .before .before .before .before .before .before .before .args .query)) _ (sym (c .before .before .before .before .before .before .before .before .before .admit .ensures) ∙ c .before .before .before .before .before .before .before .enum-told .given .1) in
     ((c .before .before .before .before .before .before .leads .ensures, c .before .before .before .before .before .words .ensures), (omega (arith, taken .0), (refl, refl)))
 
 -- what the pass counts is the measure
 counts : (c : tie.After-pass) (t : Tally) → c .pass .result ≡ t → let q = now (c .before .before .before .before .before .before .before .before .before .before .before .before .args .query) in answerIn q t ≡ measured q
 counts c t e =
     let q = now (c .before .before .before .before .before .before .before .before .before .before .before .before .args .query) in
-    ap (answerIn q) (sym e ∙ c .pass .ensures .0) ∙ tally-measured q (sym (c .before .before .before .before .before .before .before .before .before .before .admit-text .ensures) ∙ c .before .before .before .before .before .before .before .before .enum-told .given .1)
+    ap (answerIn q) (sym e ∙ c .pass .ensures .0) ∙ tally-measured q (sym (c .before .before .before .before .before .before .before .before .before .before .admit .ensures) ∙ c .before .before .before .before .before .before .before .before .enum-told .given .1)
 
 enum-known-t : tie.Need-enum-known-t
 enum-known-t c = search needs
@@ -81,7 +81,7 @@ pub measure-spec : {M : Type 1} → statement M
 measure-spec =
     tie.close
     (tie.spec
-    admit-text-requires
+    admit-requires
     enum-told
     enum-told-2
     not-admitted-requires

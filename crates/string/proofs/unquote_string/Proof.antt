@@ -25,8 +25,8 @@ use Rattle.string.proofs.Literals as literals
 use Rattle.string.proofs.unquote_string.Statement.{statement}
 use Rattle.string.proofs.unquote_string.Tie as tie
 
-admit-text-requires : tie.Need-admit-text-requires
-admit-text-requires c κs = search needs
+admit-requires : tie.Need-admit-requires
+admit-requires c κs = search needs
 
 enum-told : tie.Need-enum-told
 enum-told c = search needs
@@ -41,7 +41,7 @@ returns : tie.Need-returns
 returns c =
     let a = c .before .before .before .before .before .before .args in
     let e = c .before .enum-told2 .given .1 in
-    (ap Refused (c .not-admitted .ensures ∙ ap notAdmitted e) ∙ literals.refused-first (a .reading) (length (now (a .text))) (now (a .literal)) _ (sym (c .before .before .before .admit-text .ensures) ∙ e), refl)
+    (ap Refused (c .not-admitted .ensures ∙ ap notAdmitted e) ∙ literals.refused-first (a .reading) (length (now (a .text))) (now (a .literal)) _ (sym (c .before .before .before .admit .ensures) ∙ e), refl)
 
 is-enclosed-requires : tie.Need-is-enclosed-requires
 is-enclosed-requires c κs = search needs
@@ -61,7 +61,7 @@ module _ (c : tie.After-is-enclosed) where
   room = length (now (a .args .text))
 
   taken : admitted textLimit xs ≡ admission.Admitted (c .before .enum-told .given .0 .0)
-  taken = sym (c .before .before .before .admit-text .ensures) ∙ c .before .enum-told .given .1
+  taken = sym (c .before .before .before .admit .ensures) ∙ c .before .enum-told .given .1
 
   well : WellFormed xs
   well = admitted-text textLimit xs _ taken .1
@@ -190,7 +190,7 @@ pub unquote-string-spec : {M : Type 1} → statement M
 unquote-string-spec =
     tie.close
     (tie.spec
-    admit-text-requires
+    admit-requires
     enum-told
     enum-told-2
     not-admitted-requires

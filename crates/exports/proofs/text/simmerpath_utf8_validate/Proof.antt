@@ -7,8 +7,8 @@ use Rattle.exports.specs.Utf8.{validateCode}
 use Rattle.exports.proofs.text.simmerpath_utf8_validate.Statement.{statement}
 use Rattle.exports.proofs.text.simmerpath_utf8_validate.Tie as tie
 
-admit-text-requires : tie.Need-admit-text-requires
-admit-text-requires c κs = search needs
+admit-requires : tie.Need-admit-requires
+admit-requires c κs = search needs
 
 enum-known-a : tie.Need-enum-known-a
 enum-known-a c = search needs
@@ -27,12 +27,12 @@ returns c =
     let e = c .before .before .enum-told .given .1 in
     c .packed .ensures
     ∙ ap packedOf (c .before .not-admitted .ensures ∙ ap notAdmitted e)
-    ∙ ap validateCode (sym e ∙ c .before .before .before .before .admit-text .ensures)
+    ∙ ap validateCode (sym e ∙ c .before .before .before .before .admit .ensures)
 
 returns-2 : tie.Need-returns-2
-returns-2 c = ap validateCode (sym (c .before .a .given .1) ∙ c .before .before .before .admit-text .ensures)
+returns-2 c = ap validateCode (sym (c .before .a .given .1) ∙ c .before .before .before .admit .ensures)
 
 pub simmerpath-utf8-validate-spec : {M : Type 1} → statement M
 simmerpath-utf8-validate-spec =
     tie.close
-    (tie.spec admit-text-requires enum-known-a enum-told not-admitted-requires packed-requires returns returns-2)
+    (tie.spec admit-requires enum-known-a enum-told not-admitted-requires packed-requires returns returns-2)

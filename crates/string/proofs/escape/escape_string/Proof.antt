@@ -10,8 +10,8 @@ use Rattle.string.proofs.escape.Escapes.{refused-first, not-fitted, wri
 use Rattle.string.proofs.escape.escape_string.Statement.{statement}
 use Rattle.string.proofs.escape.escape_string.Tie as tie
 
-admit-text-requires : tie.Need-admit-text-requires
-admit-text-requires c κs = search needs
+admit-requires : tie.Need-admit-requires
+admit-requires c κs = search needs
 
 enum-told : tie.Need-enum-told
 enum-told c = search needs
@@ -26,18 +26,18 @@ returns : tie.Need-returns
 returns c =
     let d = now (c .before .before .before .before .before .before .args .out) in
     let e = c .before .enum-told2 .given .1 in
-    (ap Refused (c .not-admitted .ensures ∙ ap notAdmitted e) ∙ refused-first _ d _ (sym (c .before .before .before .admit-text .ensures) ∙ e), refl)
+    (ap Refused (c .not-admitted .ensures ∙ ap notAdmitted e) ∙ refused-first _ d _ (sym (c .before .before .before .admit .ensures) ∙ e), refl)
 
 escaped-length-requires : tie.Need-escaped-length-requires
 escaped-length-requires c κs =
-    let n = admitted-text textLimit (now (c .before .before .before .before .before .args .text)) _ (sym (c .before .before .admit-text .ensures) ∙ c .enum-told .given .1) .0 in omega arith
+    let n = admitted-text textLimit (now (c .before .before .before .before .before .args .text)) _ (sym (c .before .before .admit .ensures) ∙ c .enum-told .given .1) .0 in omega arith
 
 at-start-requires : tie.Need-at-start-requires
 at-start-requires c κs = search needs
 
 returns-2 : tie.Need-returns-2
 returns-2 c =
-    let a = sym (c .before .before .before .before .before .admit-text .ensures) ∙ c .before .before .before .enum-told .given .1 in
+    let a = sym (c .before .before .before .before .before .admit .ensures) ∙ c .before .before .before .enum-told .given .1 in
     let d = now (c .before .before .before .before .before .before .before .before .args .out) in
     (ap Refused (c .at-start .ensures) ∙ not-fitted _ d _ a (omega (arith, c .before .before .escaped-length .ensures)), refl)
 
@@ -49,7 +49,7 @@ same-length c = search needs
 
 returns-3 : tie.Need-returns-3
 returns-3 c =
-    let a = sym (c .before .before .before .before .before .before .before .before .admit-text .ensures) ∙ c .before .before .before .before .before .before .enum-told .given .1 in
+    let a = sym (c .before .before .before .before .before .before .before .before .admit .ensures) ∙ c .before .before .before .before .before .before .enum-told .given .1 in
     let n = c .before .before .before .before .before .escaped-length .ensures in
     let d = now (c .before .before .before .before .before .before .before .before .before .before .before .args .out) in
     rw n (written _ d _ a (omega (arith, n)), c .before .before .write-escaped .ensures ∙ left _ d _ a (omega (arith, n)))
@@ -58,7 +58,7 @@ pub escape-string-spec : {M : Type 1} → statement M
 escape-string-spec =
     tie.close
     (tie.spec
-    admit-text-requires
+    admit-requires
     enum-told
     enum-told-2
     not-admitted-requires
