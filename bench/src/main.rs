@@ -31,6 +31,11 @@ const BRIEF_PLAN: Plan = Plan {
     rounds: 3,
     slot: Duration::from_micros(100),
 };
+/// How long each query is timed by itself.
+const SINGLE_PLAN: Plan = Plan {
+    rounds: 7,
+    slot: Duration::from_micros(100),
+};
 
 fn main() -> io::Result<()> {
     let words: Vec<String> = env::args().skip(1).collect();
@@ -74,6 +79,8 @@ fn measure(plan: Plan, with_counts: bool) -> io::Result<()> {
     table::table(&growing);
     println!();
     table::plot(&growing);
+    println!();
+    table::least_gain(&rows(operations::single(), SINGLE_PLAN, false)?);
     Ok(())
 }
 

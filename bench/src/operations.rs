@@ -114,6 +114,12 @@ pub fn usual() -> Vec<Operation> {
     operations
 }
 
+/// Lexing each query by itself.
+pub fn single() -> Vec<Operation> {
+    let operation = |query: String| Operation::new(&query, Byte, vec![query.clone()], LEXING);
+    queries().into_iter().map(operation).collect()
+}
+
 /// What is timed of strings: those of the queries, which are escaped as they stand, and long ones.
 fn strings(queries: &[String]) -> [Operation; 6] {
     let literals = of_kind(T_STRING, queries);

@@ -62,3 +62,16 @@ pub fn plot(rows: &[Row]) {
         }
     }
 }
+
+/// Writes which of some operations has the highest ratio.
+pub fn least_gain(rows: &[Row]) {
+    let ratio = |row: &Row| row.times.ratio().median;
+    let highest = rows.iter().max_by(|a, b| ratio(a).total_cmp(&ratio(b)));
+    let row = highest.expect("an operation at least");
+    println!(
+        "of {} queries, each by itself, the highest ratio is {:.3}, of {:?}",
+        rows.len(),
+        ratio(row),
+        row.operation.name,
+    );
+}

@@ -10,10 +10,10 @@ use mathlib.Core.Path.{_≡_, refl, sym, ap, _∙_}
 use lib.ListN.{length, take, drop, set, getD, drop-of-length-le, length-set, length-map}
 use lib.Seq.{sets, take-nil, take-all, take-at, length-take-le, paste-suc}
 use Rattle.token.specs.Kinds.{eofKind}
-use Rattle.lex.specs.declared.Tally.the-variants as tallying
+use Rattle.lex.specs.declared.Run.the-variants as run
 use Rattle.lex.specs.Outcome.{Entry, Outcome, reads, ends, refuses, outcomeOf}
 use Rattle.lex.specs.Lex.{entries, entriesOf, listed, kindOf, startsAt, lengthOf}
-use Rattle.lex.specs.steps.Tally.{tallied, tallyOf}
+use Rattle.lex.specs.steps.Tally.{refusedBy, tallied, tallyOf}
 use Rattle.lex.specs.steps.Pass.{filled, Alike, State, state, ending, Kept, Leads}
 
 -- stores behind the head, and in no list
@@ -71,13 +71,13 @@ fill f q d₀ h = sym h ∙ sets-fit (map f (entriesOf q)) d₀ ∙ rw length-ma
 module _ (q : List ℕ) {ks₀ ss₀ ls₀ ks ss ls : List ℕ} {i : ℕ} where
   -- where it refuses
   pub leads-refused : {n o : ℕ} → Leads (state ks₀ ss₀ ls₀ 0 (outcomeOf q)) (state ks ss ls i (refuses n o))
-      → (tallying.Refused n (record { 0 = o }) ≡ tallyOf q) × Filled q ks₀ ss₀ ls₀ ks ss ls
+      → (refusedBy n o ≡ tallyOf q) × Filled q ks₀ ss₀ ls₀ ks ss ls
   unfolding tallied
   leads-refused w = (sym (w .tally), (fill kindOf q ks₀ (w .kinds .goes), (fill startsAt q ss₀ (w .starts .goes), fill lengthOf q ls₀ (w .lengths .goes))))
 
   -- where it ends, behind the writing of the end's lexeme
   pub leads-end : {o : ℕ} {ks′ ss′ ls′ : List ℕ} → Leads (state ks₀ ss₀ ls₀ 0 (outcomeOf q)) (state ks ss ls i (ends o))
-      → (ks′ ≡ set ks i eofKind) × ((ss′ ≡ set ss i o) × (ls′ ≡ set ls i 0)) → (tallying.Count (i + 1) ≡ tallyOf q) × Filled q ks₀ ss₀ ls₀ ks′ ss′ ls′
+      → (ks′ ≡ set ks i eofKind) × ((ss′ ≡ set ss i o) × (ls′ ≡ set ls i 0)) → (run.To o (i + 1) ≡ tallyOf q) × Filled q ks₀ ss₀ ls₀ ks′ ss′ ls′
   unfolding tallied
   leads-end w p = (sym (w .tally), (fill kindOf q ks₀ (w .kinds .goes ∙ sym (p .0)), (fill startsAt q ss₀ (w .starts .goes ∙ sym (p .1 .0)), fill lengthOf q ls₀ (w .lengths .goes ∙ sym (p .1 .1)))))
 

@@ -8,7 +8,7 @@ use lib.ListN.{length}
 use Rattle.utf8.specs.declared.Admission.the-variants.{Admitted}
 use Rattle.utf8.specs.declared.CharNumber.{CharNumber}
 use Rattle.utf8.specs.Answers.{textLimit, admitted}
-use Rattle.lex.specs.declared.Tally.the-variants as tallying
+use Rattle.lex.specs.declared.Run.the-variants as run
 use Rattle.lex.specs.Outcome.{Outcome, reads, ends, refuses, outcomeOf}
 use Rattle.lex.specs.Lex.{entries, entriesOf, answerBy, measured}
 use Rattle.lex.specs.steps.Tally.{tallied, tallyOf, answerIn}
@@ -23,14 +23,14 @@ pub tally-answer : (q : List ℕ) → answerIn q (tallyOf q) ≡ answerBy q (len
 tally-answer q = tally-answers q (outcomeOf q) 0 ∙ ap (λ (k : ℕ). answerBy q k (outcomeOf q)) (zero-add (length (entriesOf q)))
 
 -- a count is that of the lexemes
-counts : (r : Outcome) (k n : ℕ) → tallied k r ≡ tallying.Count n → n ≡ k + length (entries r)
+counts : (r : Outcome) (k at n : ℕ) → tallied k r ≡ run.To at n → n ≡ k + length (entries r)
 unfolding tallied
-counts (reads e r) k n h = counts r (k + 1) n h ∙ omega arith
-counts (ends at) k n h = let z : k + 1 ≡ n = cc in omega arith
-counts (refuses r o) k n h = let z : _≡_ {A = ℕ} 0 1 = cc in absurd (omega arith)
+counts (reads e r) k at n h = counts r (k + 1) at n h ∙ omega arith
+counts (ends o) k at n h = let z : k + 1 ≡ n = cc in omega arith
+counts (refuses r o) k at n h = let z : _≡_ {A = ℕ} 0 1 = cc in absurd (omega arith)
 
-pub tally-counts : (q : List ℕ) (n : ℕ) → tallyOf q ≡ tallying.Count n → n ≡ length (entriesOf q)
-tally-counts q n h = counts (outcomeOf q) 0 n h ∙ zero-add (length (entriesOf q))
+pub tally-counts : (q : List ℕ) (at n : ℕ) → tallyOf q ≡ run.To at n → n ≡ length (entriesOf q)
+tally-counts q at n h = counts (outcomeOf q) 0 at n h ∙ zero-add (length (entriesOf q))
 
 -- so a text that is admitted is measured by its tally
 pub tally-measured : (q : List ℕ) {k : CharNumber} → admitted textLimit q ≡ Admitted k → answerIn q (tallyOf q) ≡ measured q

@@ -20,8 +20,8 @@ ghost use Rattle.munch.specs.Munch.{mode};
 ghost use Rattle.munch.specs.laws.Modes.{Opens};
 ghost use Rattle.munch.specs.steps.Leads.{leadTable};
 ghost use Rattle.lex.specs.Lex.{entriesOf, refusedAt, measured, notLexed, roomed, lexed, listed, leftAfter, kindOf, startsAt, lengthOf, shortest};
-ghost use Rattle.lex.specs.steps.Tally.{tallyOf, refusedIn, answerIn};
-ghost use Rattle.lex.specs.steps.Pass.{filled, outcomeAt, state, stateBehind, Leads, Alike, Reached};
+ghost use Rattle.lex.specs.steps.Tally.{refusedBy, tallyOf, refusedIn, answerIn};
+ghost use Rattle.lex.specs.steps.Pass.{filled, outcomeAt, spanOf, state, stateBehind, Leads, Alike, Reached};
 
 // How many lexemes a query has, or why it has none.
 pub enum Lexing {
@@ -29,13 +29,7 @@ pub enum Lexing {
     Refused(Refusal),
 }
 
-// The same, where the place is a byte offset alone.
-enum Tally {
-    Count(usize),
-    Refused { number: usize, at: ByteOffset },
-}
-
-// How far braces or brackets were read: to a place behind them, with so many lexemes before it; or why they are refused, and where.
+// How far a text was read: to a place, with so many lexemes before it; or why it is refused, and where.
 enum Run {
     To { at: usize, count: usize },
     Refused { number: usize, at: ByteOffset },
@@ -63,6 +57,22 @@ fn put(kinds: &mut [u16], starts: &mut [u32], lengths: &mut [u32], i: usize, kin
     }
 }
 
+// Where a lexeme of so many bytes stands that begins at an offset.
+fn placed(at: usize, length: usize) -> Span
+    ensures { λ r. ⌜ r ≡ spanOf at length ⌝ }
+{
+    let start = ByteOffset(at);
+    Span { start, length }
+}
+
+// A text is refused at an offset.
+fn refused_by(number: usize, at: usize) -> Run
+    ensures { λ r. ⌜ r ≡ refusedBy number at ⌝ }
+{
+    let at = ByteOffset(at);
+    Run::Refused { number, at }
+}
+
 // Reads on in braces from a place, through the brace that closes them, and writes the lexemes that have room, the first of them at place `first`.
 fn braces(
     leads: &[u8; munch::BYTES],
@@ -83,37 +93,20 @@ fn braces(
     let mut i = first;
     loop {
         let s = munch::brace_step(leads, &query[at..], depth);
-        let start = ByteOffset(at);
         match s {
-            Step::Lexeme {
-                kind,
-                length,
-                mode: next,
-            } => {
-                put(kinds, starts, lengths, i, kind, Span { start, length });
+            Step::Lexeme { kind, length, mode } => {
+                put(kinds, starts, lengths, i, kind, placed(at, length));
                 at += length;
                 i += 1;
-                let inside = next.inside;
+                let inside = mode.inside;
                 if let Inside::Nothing = inside {
                     return Run::To { at, count: i };
                 }
             }
-            Step::Space { mode: _ } => {
-                at += 1;
-            }
-            Step::Comment { length } => {
-                at += length;
-            }
-            Step::Refused { number, at: offset } => {
-                let place = at + offset;
-                return Run::Refused {
-                    number,
-                    at: ByteOffset(place),
-                };
-            }
-            Step::Finished => {
-                return Run::To { at, count: i };
-            }
+            Step::Space { mode: _ } => at += 1,
+            Step::Comment { length } => at += length,
+            Step::Refused { number, at: offset } => return refused_by(number, at + offset),
+            Step::Finished => return Run::To { at, count: i },
         }
     }
 }
@@ -139,44 +132,25 @@ fn brackets(
     let mut fresh = true;
     loop {
         let s = munch::bracket_step(&query[at..], depth, seen, fresh);
-        let start = ByteOffset(at);
         match s {
-            Step::Lexeme {
-                kind,
-                length,
-                mode: next,
-            } => {
-                put(kinds, starts, lengths, i, kind, Span { start, length });
+            Step::Lexeme { kind, length, mode } => {
+                put(kinds, starts, lengths, i, kind, placed(at, length));
                 at += length;
                 i += 1;
-                let inside = next.inside;
-                let Inside::Brackets {
-                    seen: colon,
-                    fresh: _,
-                } = inside
-                else {
+                let inside = mode.inside;
+                let Inside::Brackets { seen: c, fresh: _ } = inside else {
                     return Run::To { at, count: i };
                 };
-                seen = colon;
+                seen = c;
                 fresh = false;
             }
             Step::Space { mode: _ } => {
                 at += 1;
                 fresh = false;
             }
-            Step::Comment { length } => {
-                at += length;
-            }
-            Step::Refused { number, at: offset } => {
-                let place = at + offset;
-                return Run::Refused {
-                    number,
-                    at: ByteOffset(place),
-                };
-            }
-            Step::Finished => {
-                return Run::To { at, count: i };
-            }
+            Step::Comment { length } => at += length,
+            Step::Refused { number, at: offset } => return refused_by(number, at + offset),
+            Step::Finished => return Run::To { at, count: i },
         }
     }
 }
@@ -216,7 +190,7 @@ fn pass(
     kinds: &mut [u16],
     starts: &mut [u32],
     lengths: &mut [u32],
-) -> Tally
+) -> Run
     requires { ⌜ (now leads ≡ leadTable) × (now words ≡ wordTable) ⌝ ∗ ⌜ length (now query) ≤ textLimit ⌝ ∗ ⌜ Alike (now kinds) (now starts) (now lengths) ⌝ }
     ensures { λ r. ⌜ r ≡ tallyOf (now (query .entry)) ⌝ }
     ensures { λ _. ⌜ now (kinds .exit) ≡ filled kindOf (now (query .entry)) (now (kinds .entry)) ⌝ }
@@ -228,53 +202,26 @@ fn pass(
     let mut depth = 0;
     loop {
         let s = munch::outside_step(leads, words, &query[at..], depth);
-        let start = ByteOffset(at);
         match s {
-            Step::Lexeme {
-                kind,
-                length,
-                mode: next,
-            } => {
-                put(kinds, starts, lengths, i, kind, Span { start, length });
-                depth = next.depth;
-                let r = opened(
-                    leads,
-                    query,
-                    kinds,
-                    starts,
-                    lengths,
-                    next,
-                    at + length,
-                    i + 1,
-                );
-                match r {
-                    Run::To { at: end, count } => {
-                        at = end;
-                        i = count;
-                    }
-                    Run::Refused { number, at: place } => {
-                        return Tally::Refused { number, at: place };
-                    }
-                }
-            }
-            Step::Space { mode: _ } => {
-                at += 1;
-            }
-            Step::Comment { length } => {
+            Step::Lexeme { kind, length, mode } => {
+                put(kinds, starts, lengths, i, kind, placed(at, length));
                 at += length;
-            }
-            Step::Refused { number, at: offset } => {
-                let place = at + offset;
-                return Tally::Refused {
-                    number,
-                    at: ByteOffset(place),
+                i += 1;
+                depth = mode.depth;
+                let r = opened(leads, query, kinds, starts, lengths, mode, at, i);
+                let Run::To { at: end, count } = r else {
+                    return r;
                 };
+                at = end;
+                i = count;
             }
+            Step::Space { mode: _ } => at += 1,
+            Step::Comment { length } => at += length,
+            Step::Refused { number, at: offset } => return refused_by(number, at + offset),
             Step::Finished => {
-                let end = Span { start, length: 0 };
-                put(kinds, starts, lengths, i, kinds::T_EOF, end);
+                put(kinds, starts, lengths, i, kinds::T_EOF, placed(at, 0));
                 let count = i + 1;
-                return Tally::Count(count);
+                return Run::To { at, count };
             }
         }
     }
@@ -290,10 +237,10 @@ fn refused_at(query: &[u8], number: usize, byte: ByteOffset) -> Refusal
 }
 
 // Why a text is refused, by the count of its lexemes.
-fn refused_in(query: &[u8], t: Tally) -> Refusal
-    ensures { λ r. ⌜ r ≡ refusedIn (now (query .entry)) t ⌝ }
+fn refused_in(query: &[u8], run: Run) -> Refusal
+    ensures { λ r. ⌜ r ≡ refusedIn (now (query .entry)) run ⌝ }
 {
-    let Tally::Refused { number, at } = t else {
+    let Run::Refused { number, at } = run else {
         return utf8::at_start(utf8::NO_REFUSAL);
     };
     refused_at(query, number, at)
@@ -312,9 +259,9 @@ pub fn measure(query: &[u8]) -> Lexing
     let mut kinds = [0u16; 0];
     let mut starts = [0u32; 0];
     let mut lengths = [0u32; 0];
-    let t = pass(&leads, &words, query, &mut kinds, &mut starts, &mut lengths);
-    let Tally::Count(n) = t else {
-        return Lexing::Refused(refused_in(query, t));
+    let r = pass(&leads, &words, query, &mut kinds, &mut starts, &mut lengths);
+    let Run::To { at: _, count: n } = r else {
+        return Lexing::Refused(refused_in(query, r));
     };
     Lexing::Count(n)
 }
@@ -409,9 +356,9 @@ fn lex_text(
     ensures { λ r. ⌜ now (starts .exit) ≡ leftAfter r (listed startsAt (now (query .entry)) (now (starts .entry))) (now (starts .entry)) ⌝ }
     ensures { λ r. ⌜ now (lengths .exit) ≡ leftAfter r (listed lengthOf (now (query .entry)) (now (lengths .entry))) (now (lengths .entry)) ⌝ }
 {
-    let t = pass(leads, words, query, ks, ss, ls);
-    let Tally::Count(n) = t else {
-        return Lexing::Refused(refused_in(query, t));
+    let r = pass(leads, words, query, ks, ss, ls);
+    let Run::To { at: _, count: n } = r else {
+        return Lexing::Refused(refused_in(query, r));
     };
     if shortest(kinds.len(), starts.len(), lengths.len()) < n {
         return Lexing::Refused(utf8::at_start(utf8::NO_ROOM));

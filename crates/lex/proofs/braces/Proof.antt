@@ -93,17 +93,20 @@ brace-step-requires c κs = search needs
 enum-known-s : tie.Need-enum-known-s Inv-loop μ-loop
 enum-known-s c = search needs
 
+placed-requires : tie.Need-placed-requires Inv-loop μ-loop
+placed-requires c κs = search needs
+
 put-requires : tie.Need-put-requires Inv-loop μ-loop
 put-requires c κs =
-    let t = c .before .before .before .before in
+    let t = c .before .before .before .before .before in
     let p = t .before .before in
     let g = lexeme-further (bytes p) (at p) (here p) (inside-query p) (told p (t .s .given .1)) in
     let q = start p .pre .1 .0 in
-    (alike p, omega arith)
+    (alike p, rw (c .placed .ensures) (omega arith, omega arith))
 
 -- behind `put`: where the step was seen to be a lexeme, and what that has led to
 abbrev seen : tie.After-slice-known6 Inv-loop μ-loop → tie.After-s Inv-loop μ-loop
-seen c = c .before .before .before .before .before .before .before .before .before .before .before
+seen c = c .before .before .before .before .before .before .before .before .before .before .before .before
 
 further : (c : tie.After-slice-known6 Inv-loop μ-loop) → let p = seen c .before .before in let n = seen c .s .given .0 .1 .0 in (1 ≤ n) × (at p + n ≤ length (bytes p))
 further c = let p = seen c .before .before in lexeme-further (bytes p) (at p) (here p) (inside-query p) (told p (seen c .s .given .1))
@@ -129,7 +132,7 @@ behind : (c : tie.After-slice-known6 Inv-loop μ-loop) →
 behind c =
     let t = seen c in
     let p = t .before .before in
-    turn-lexeme (bytes p) (at p) (here p) (inside-query p) (p .before .before .loop .inv .3) (told p (t .s .given .1)) (c .before .before .before .before .before .before .put .ensures)
+    turn-lexeme (bytes p) (at p) (here p) (inside-query p) (p .before .before .loop .inv .3) (told p (t .s .given .1)) (rw (c .before .before .before .before .before .before .before .placed .ensures) at (c .before .before .before .before .before .before .put .ensures))
 
 same-length : tie.Need-same-length Inv-loop μ-loop
 same-length c = behind (c .before .before) .kinds .same
@@ -195,20 +198,25 @@ loop-again-3 c =
 enum-known-s-3 : tie.Need-enum-known-s-3 Inv-loop μ-loop
 enum-known-s-3 c = search needs
 
-add-place : tie.Need-add-place Inv-loop μ-loop
-add-place c = let p = c .before .before .before in omega (arith, refused-within (bytes p) (at p) (here p) (inside-query p) (told p (c .before .s3 .given .1)), start p .pre .1 .0)
+add-refused-by : tie.Need-add-refused-by Inv-loop μ-loop
+add-refused-by c = let p = c .before .before .before in omega (arith, refused-within (bytes p) (at p) (here p) (inside-query p) (told p (c .before .s3 .given .1)), start p .pre .1 .0)
+
+refused-by-requires : tie.Need-refused-by-requires Inv-loop μ-loop
+refused-by-requires c κs = search needs
 
 same-length-4 : tie.Need-same-length-4 Inv-loop μ-loop
-same-length-4 c = c .before .before .before .before .before .loop .inv .3 .kinds .same
+same-length-4 c = c .before .before .before .before .before .before .loop .inv .3 .kinds .same
 
 same-length-5 : tie.Need-same-length-5 Inv-loop μ-loop
-same-length-5 c = c .before .before .before .before .before .loop .inv .3 .starts .same
+same-length-5 c = c .before .before .before .before .before .before .loop .inv .3 .starts .same
 
 same-length-6 : tie.Need-same-length-6 Inv-loop μ-loop
-same-length-6 c = c .before .before .before .before .before .loop .inv .3 .lengths .same
+same-length-6 c = c .before .before .before .before .before .before .loop .inv .3 .lengths .same
 
 returns-2 : tie.Need-returns-2 Inv-loop μ-loop
-returns-2 c = let p = c .before .before .before in (tt, turn-refused (bytes p) (at p) (here p) (inside-query p) (p .before .before .loop .inv .3) (told p (c .before .s3 .given .1)))
+returns-2 c =
+    let p = c .before .before .before .before in
+    rw (c .refused-by .ensures) (tt, turn-refused (bytes p) (at p) (here p) (inside-query p) (p .before .before .loop .inv .3) (told p (c .before .before .s3 .given .1)))
 
 enum-told-3 : tie.Need-enum-told-3 Inv-loop μ-loop
 enum-told-3 c = search needs
@@ -241,6 +249,7 @@ braces-spec =
     part-brace-step-end
     brace-step-requires
     enum-known-s
+    placed-requires
     put-requires
     add-at
     add-i
@@ -260,7 +269,8 @@ braces-spec =
     loop-less-3
     loop-again-3
     enum-known-s-3
-    add-place
+    add-refused-by
+    refused-by-requires
     same-length-4
     same-length-5
     same-length-6

@@ -7,7 +7,7 @@ use mathlib.Core.Path.{_≡_, refl, sym, ap, _∙_}
 use lib.ListN.{length}
 use denote.Ref.{now}
 use borrow.Author.Needs.{needs}
-use Rattle.lex.specs.declared.Tally.the-variants.{Count}
+use Rattle.lex.specs.declared.Run.the-variants.{To}
 use Rattle.lex.specs.declared.Lexing.the-variants as lexing
 use Rattle.lex.specs.Lex.{entriesOf, kindOf, startsAt, lengthOf}
 use Rattle.lex.specs.steps.Tally.{tallyOf, refusedIn, answerIn}
@@ -26,19 +26,19 @@ module _ (c : tie.After-shortest) where
   bytes = now (start .args .query)
 
   abbrev number : ℕ
-  number = c .before .before .t .given .0 .0
+  number = c .before .before .r .given .0 .1 .0
 
-  tallied : tallyOf bytes ≡ Count number
-  tallied = sym (c .before .before .before .before .before .before .before .before .before .before .pass .ensures .0) ∙ c .before .before .t .given .1
+  tallied : tallyOf bytes ≡ To (c .before .before .r .given .0 .0) number
+  tallied = sym (c .before .before .before .before .before .before .before .before .before .before .pass .ensures .0) ∙ c .before .before .r .given .1
 
   all : number ≡ length (entriesOf bytes)
-  all = tally-counts bytes number tallied
+  all = tally-counts bytes _ number tallied
 
 pass-requires : tie.Need-pass-requires
 pass-requires c κs = search needs
 
-enum-known-t : tie.Need-enum-known-t
-enum-known-t c = search needs
+enum-known-r : tie.Need-enum-known-r
+enum-known-r c = search needs
 
 enum-told : tie.Need-enum-told
 enum-told c = search needs
@@ -164,7 +164,7 @@ lex-text-spec =
     tie.close
     (tie.spec
     pass-requires
-    enum-known-t
+    enum-known-r
     enum-told
     refused-in-requires
     same-length

@@ -5,7 +5,7 @@ use denote.Ref.{now}
 use borrow.Author.Needs.{needs}
 use Rattle.utf8.specs.Answers.{textLimit, notAdmitted}
 use Rattle.utf8.proofs.Given.{admitted-text}
-use Rattle.lex.specs.declared.Tally.{Tally}
+use Rattle.lex.specs.declared.Run.{Run}
 use Rattle.lex.specs.declared.Lexing.the-variants.{Refused}
 use Rattle.lex.specs.Lex.{measured}
 use Rattle.lex.specs.steps.Tally.{refusedIn, answerIn}
@@ -55,13 +55,13 @@ pass-requires c κs =
     ((c .before .before .before .before .before .before .leads .ensures, c .before .before .before .before .before .words .ensures), (omega (arith, taken .0), (refl, refl)))
 
 -- what the pass counts is the measure
-counts : (c : tie.After-pass) (t : Tally) → c .pass .result ≡ t → let q = now (c .before .before .before .before .before .before .before .before .before .before .before .before .args .query) in answerIn q t ≡ measured q
-counts c t e =
+counts : (c : tie.After-pass) (r : Run) → c .pass .result ≡ r → let q = now (c .before .before .before .before .before .before .before .before .before .before .before .before .args .query) in answerIn q r ≡ measured q
+counts c r e =
     let q = now (c .before .before .before .before .before .before .before .before .before .before .before .before .args .query) in
     ap (answerIn q) (sym e ∙ c .pass .ensures .0) ∙ tally-measured q (sym (c .before .before .before .before .before .before .before .before .before .before .admit .ensures) ∙ c .before .before .before .before .before .before .before .before .enum-told .given .1)
 
-enum-known-t : tie.Need-enum-known-t
-enum-known-t c = search needs
+enum-known-r : tie.Need-enum-known-r
+enum-known-r c = search needs
 
 enum-told-3 : tie.Need-enum-told-3
 enum-told-3 c = search needs
@@ -75,7 +75,7 @@ returns-2 c =
     ap Refused (c .refused-in .ensures ∙ ap (refusedIn (now (c .before .before .before .before .before .before .before .before .before .before .before .before .before .before .before .before .before .before .args .query))) e) ∙ counts (c .before .before .before .before .before .before) _ e
 
 returns-3 : tie.Need-returns-3
-returns-3 c = counts (c .before .before .before .before .before .before) _ (c .before .t .given .1)
+returns-3 c = counts (c .before .before .before .before .before .before) _ (c .before .r .given .1)
 
 pub measure-spec : {M : Type 1} → statement M
 measure-spec =
@@ -93,7 +93,7 @@ measure-spec =
     slice-aggregate-pass-3
     slice-aggregate-pass-4
     pass-requires
-    enum-known-t
+    enum-known-r
     enum-told-3
     refused-in-requires
     returns-2

@@ -87,57 +87,64 @@ outside-step-requires c κs = search needs
 enum-known-s : tie.Need-enum-known-s Inv-loop μ-loop
 enum-known-s c = search needs
 
+placed-requires : tie.Need-placed-requires Inv-loop μ-loop
+placed-requires c κs = search needs
+
 put-requires : tie.Need-put-requires Inv-loop μ-loop
 put-requires c κs =
-    let t = c .before .before .before .before in
+    let t = c .before .before .before .before .before in
     let p = t .before .before in
     let g = lexeme-further (bytes p) (at p) (here p) (inside-query p) (told p (t .s .given .1)) in
     let q = start p .pre .1 .0 in
-    (alike p, omega arith)
+    (alike p, rw (c .placed .ensures) (omega arith, omega arith))
 
--- before `opened`: where the step was seen to be a lexeme, and how far it goes
-abbrev seen : tie.After-opened-arg3 Inv-loop μ-loop → tie.After-s Inv-loop μ-loop
-seen c = c .before .before .before .before .before .before .before .before .before .before .before .before .before .before
+-- behind `put`: where the step was seen to be a lexeme, and how far it goes
+abbrev seen : tie.After-slice-known6 Inv-loop μ-loop → tie.After-s Inv-loop μ-loop
+seen c = c .before .before .before .before .before .before .before .before .before .before .before .before
 
-further : (c : tie.After-opened-arg3 Inv-loop μ-loop) → let p = seen c .before .before in let n = seen c .s .given .0 .1 .0 in (1 ≤ n) × (at p + n ≤ length (bytes p))
+further : (c : tie.After-slice-known6 Inv-loop μ-loop) → let p = seen c .before .before in let n = seen c .s .given .0 .1 .0 in (1 ≤ n) × (at p + n ≤ length (bytes p))
 further c = let p = seen c .before .before in lexeme-further (bytes p) (at p) (here p) (inside-query p) (told p (seen c .s .given .1))
 
 -- the lexeme is written, and what is behind it is still to come
-behind : (c : tie.After-opened-arg3 Inv-loop μ-loop) →
+behind : (c : tie.After-slice-known6 Inv-loop μ-loop) →
     let t = seen c in
     let p = t .before .before in
     let a = start p .args in
     let l = p .before .before .loop in
-    let w = c .before .before .before .before .before .before .before .before .before .put .last in
+    let w = c .before .before .before .before .before .before .put .last in
     Leads (state (now (a .kinds)) (now (a .starts)) (now (a .lengths)) 0 (outcomeOf (bytes p)))
     (state (w .0) (w .1 .0) (w .1 .1 .0) (l .i + 1) (outcomeAt (bytes p) (at p + t .s .given .0 .1 .0) (t .s .given .0 .1 .1 .0)))
 behind c =
     let t = seen c in
     let p = t .before .before in
-    turn-lexeme (bytes p) (at p) (here p) (inside-query p) (p .before .before .loop .inv .2) (told p (t .s .given .1)) (c .before .before .before .before .before .before .before .before .before .put .ensures)
+    turn-lexeme (bytes p) (at p) (here p) (inside-query p) (p .before .before .loop .inv .2) (told p (t .s .given .1)) (rw (c .before .before .before .before .before .before .before .placed .ensures) at (c .before .before .before .before .before .before .put .ensures))
 
-add-opened : tie.Need-add-opened Inv-loop μ-loop
-add-opened c = let g = further c in omega (arith, start (seen c .before .before) .pre .1 .0)
+add-at : tie.Need-add-at Inv-loop μ-loop
+add-at c = let g = further c in omega (arith, start (seen c .before .before) .pre .1 .0)
 
-add-opened-2 : tie.Need-add-opened-2 Inv-loop μ-loop
-add-opened-2 c = let v = seen c .before .before .before .before .loop .inv in omega (arith, start (seen c .before .before) .pre .1 .0)
+add-i : tie.Need-add-i Inv-loop μ-loop
+add-i c = let v = seen c .before .before .before .before .loop .inv in omega (arith, start (seen c .before .before) .pre .1 .0)
 
 opened-requires : tie.Need-opened-requires Inv-loop μ-loop
 opened-requires c κs =
-    let t = seen c in
+    let d = c .before .before .before in
+    let t = seen d in
     let p = t .before .before in
-    let g = further c in
+    let g = further d in
     let v = p .before .before .loop .inv in
     let h = start p .pre in
-    (h .0 .0, (h .1 .0, (leads-alike (behind c) (h .1 .1), (leads-to p (t .s .given .1), (g .1, omega arith)))))
+    (h .0 .0, (h .1 .0, (leads-alike (behind d) (h .1 .1), (leads-to p (t .s .given .1), (g .1, omega arith)))))
 
 enum-known-r : tie.Need-enum-known-r Inv-loop μ-loop
 enum-known-r c = search needs
 
 -- behind `opened`: what the lexeme and what it has opened have led to
 module _ (c : tie.After-opened Inv-loop μ-loop) where
+  abbrev put : tie.After-slice-known6 Inv-loop μ-loop
+  put = c .before .before .before .before
+
   abbrev lexed : tie.After-s Inv-loop μ-loop
-  lexed = seen (c .before)
+  lexed = seen put
 
   abbrev query : List ℕ
   query = bytes (lexed .before .before)
@@ -150,13 +157,31 @@ module _ (c : tie.After-opened Inv-loop μ-loop) where
       × Leads (state (now (a .kinds)) (now (a .starts)) (now (a .lengths)) 0 (outcomeOf query)) (stateBehind query (l .0) (l .1 .0) (l .1 .1 .0) (lexed .s .given .0 .1 .1 .0 .depth) r)
 
   passed : {r : Run} → c .opened .result ≡ r → Passed r
-  passed e = subst Passed e (c .opened .ensures .0, leads-on (behind (c .before)) (c .opened .ensures .1))
+  passed e = subst Passed e (c .opened .ensures .0, leads-on (behind put) (c .opened .ensures .1))
+
+enum-told : tie.Need-enum-told Inv-loop μ-loop
+enum-told c = search needs
+
+same-length : tie.Need-same-length Inv-loop μ-loop
+same-length c = passed (c .before .before .before .before .before .before .before .before) (c .enum-told .given .1) .1 .kinds .same
+
+same-length-2 : tie.Need-same-length-2 Inv-loop μ-loop
+same-length-2 c = passed (c .before .before .before .before .before .before .before .before) (c .enum-told .given .1) .1 .starts .same
+
+same-length-3 : tie.Need-same-length-3 Inv-loop μ-loop
+same-length-3 c = passed (c .before .before .before .before .before .before .before .before) (c .enum-told .given .1) .1 .lengths .same
+
+returns : tie.Need-returns Inv-loop μ-loop
+returns c =
+    let o = c .before .before .before .before .before .before .before .before in
+    let e = c .enum-told .given .1 in
+    rw e (leads-refused (query o) (passed o e .1))
 
 loop-less : tie.Need-loop-less Inv-loop μ-loop
 loop-less c =
-    let p = c .before .before .before .before .before .before .before .before .before in
-    let g = further (p .before) in
-    let b = passed p (c .before .r .given .1) .0 in
+    let o = c .before .before .before .before .before .before .before .before .before in
+    let g = further (put o) in
+    let b = passed o (c .before .r .given .1) .0 in
     omega arith
 
 loop-again : tie.Need-loop-again Inv-loop μ-loop
@@ -164,44 +189,27 @@ loop-again c =
     let w = passed (c .before .before .before .before .before .before .before .before .before) (c .before .r .given .1) in
     (w .0 .1, w .0 .2, w .1)
 
-enum-known-r-2 : tie.Need-enum-known-r-2 Inv-loop μ-loop
-enum-known-r-2 c = search needs
+enum-told-2 : tie.Need-enum-told-2 Inv-loop μ-loop
+enum-told-2 c = search needs
 
-same-length : tie.Need-same-length Inv-loop μ-loop
-same-length c = passed (c .before .before .before .before .before .before .before .before .before) (c .before .r2 .given .1) .1 .kinds .same
-
-same-length-2 : tie.Need-same-length-2 Inv-loop μ-loop
-same-length-2 c = passed (c .before .before .before .before .before .before .before .before .before) (c .before .r2 .given .1) .1 .starts .same
-
-same-length-3 : tie.Need-same-length-3 Inv-loop μ-loop
-same-length-3 c = passed (c .before .before .before .before .before .before .before .before .before) (c .before .r2 .given .1) .1 .lengths .same
-
-returns : tie.Need-returns Inv-loop μ-loop
-returns c =
-    let o = c .before .before .before .before .before .before .before .before .before in
-    leads-refused (query o) (passed o (c .before .r2 .given .1) .1)
-
-enum-told : tie.Need-enum-told Inv-loop μ-loop
-enum-told c = search needs
-
-add-at : tie.Need-add-at Inv-loop μ-loop
-add-at c = let p = c .before .before in let g = space-further (bytes p) (at p) (here p) (inside-query p) (told p (c .enum-told .given .1)) in omega (arith, start p .pre .1 .0)
+add-at-2 : tie.Need-add-at-2 Inv-loop μ-loop
+add-at-2 c = let p = c .before .before in let g = space-further (bytes p) (at p) (here p) (inside-query p) (told p (c .enum-told2 .given .1)) in omega (arith, start p .pre .1 .0)
 
 loop-less-2 : tie.Need-loop-less-2 Inv-loop μ-loop
-loop-less-2 c = let p = c .before .before in let g = space-further (bytes p) (at p) (here p) (inside-query p) (told p (c .enum-told .given .1)) in omega arith
+loop-less-2 c = let p = c .before .before in let g = space-further (bytes p) (at p) (here p) (inside-query p) (told p (c .enum-told2 .given .1)) in omega arith
 
 loop-again-2 : tie.Need-loop-again-2 Inv-loop μ-loop
 loop-again-2 c =
     let p = c .before .before in
-    let e = c .enum-told .given .1 in
+    let e = c .enum-told2 .given .1 in
     let v = p .before .before .loop .inv in
     (space-further (bytes p) (at p) (here p) (inside-query p) (told p e), omega arith, in-mode _ _ (leads-to p e) (turn-space (bytes p) (at p) (here p) (inside-query p) (v .2) (told p e)))
 
 enum-known-s-2 : tie.Need-enum-known-s-2 Inv-loop μ-loop
 enum-known-s-2 c = search needs
 
-add-at-2 : tie.Need-add-at-2 Inv-loop μ-loop
-add-at-2 c = let p = c .before .before .before in let g = comment-further (bytes p) (at p) (here p) (inside-query p) (told p (c .before .s2 .given .1)) in omega (arith, start p .pre .1 .0)
+add-at-3 : tie.Need-add-at-3 Inv-loop μ-loop
+add-at-3 c = let p = c .before .before .before in let g = comment-further (bytes p) (at p) (here p) (inside-query p) (told p (c .before .s2 .given .1)) in omega (arith, start p .pre .1 .0)
 
 loop-less-3 : tie.Need-loop-less-3 Inv-loop μ-loop
 loop-less-3 c = let p = c .before .before .before in let g = comment-further (bytes p) (at p) (here p) (inside-query p) (told p (c .before .s2 .given .1)) in omega arith
@@ -217,47 +225,55 @@ loop-again-3 c =
 enum-known-s-3 : tie.Need-enum-known-s-3 Inv-loop μ-loop
 enum-known-s-3 c = search needs
 
-add-place : tie.Need-add-place Inv-loop μ-loop
-add-place c = let p = c .before .before .before in omega (arith, refused-within (bytes p) (at p) (here p) (inside-query p) (told p (c .before .s3 .given .1)), start p .pre .1 .0)
+add-refused-by : tie.Need-add-refused-by Inv-loop μ-loop
+add-refused-by c = let p = c .before .before .before in omega (arith, refused-within (bytes p) (at p) (here p) (inside-query p) (told p (c .before .s3 .given .1)), start p .pre .1 .0)
+
+refused-by-requires : tie.Need-refused-by-requires Inv-loop μ-loop
+refused-by-requires c κs = search needs
 
 same-length-4 : tie.Need-same-length-4 Inv-loop μ-loop
-same-length-4 c = c .before .before .before .before .before .loop .inv .2 .kinds .same
+same-length-4 c = c .before .before .before .before .before .before .loop .inv .2 .kinds .same
 
 same-length-5 : tie.Need-same-length-5 Inv-loop μ-loop
-same-length-5 c = c .before .before .before .before .before .loop .inv .2 .starts .same
+same-length-5 c = c .before .before .before .before .before .before .loop .inv .2 .starts .same
 
 same-length-6 : tie.Need-same-length-6 Inv-loop μ-loop
-same-length-6 c = c .before .before .before .before .before .loop .inv .2 .lengths .same
+same-length-6 c = c .before .before .before .before .before .before .loop .inv .2 .lengths .same
 
 returns-2 : tie.Need-returns-2 Inv-loop μ-loop
-returns-2 c = let p = c .before .before .before in leads-refused (bytes p) (turn-refused (bytes p) (at p) (here p) (inside-query p) (p .before .before .loop .inv .2) (told p (c .before .s3 .given .1)))
+returns-2 c =
+    let p = c .before .before .before .before in
+    rw (c .refused-by .ensures) (leads-refused (bytes p) (turn-refused (bytes p) (at p) (here p) (inside-query p) (p .before .before .loop .inv .2) (told p (c .before .before .s3 .given .1))))
 
-enum-told-2 : tie.Need-enum-told-2 Inv-loop μ-loop
-enum-told-2 c = search needs
+enum-told-3 : tie.Need-enum-told-3 Inv-loop μ-loop
+enum-told-3 c = search needs
+
+placed-requires-2 : tie.Need-placed-requires-2 Inv-loop μ-loop
+placed-requires-2 c κs = search needs
 
 put-requires-2 : tie.Need-put-requires-2 Inv-loop μ-loop
 put-requires-2 c κs =
-    let p = c .before .before .before .before .before in
+    let p = c .before .before .before .before .before .before in
     let v = p .before .before .loop .inv in
     let q = start p .pre .1 .0 in
-    (alike p, omega arith)
+    (alike p, rw (c .placed2 .ensures) (omega arith, omega arith))
 
 add-count : tie.Need-add-count Inv-loop μ-loop
-add-count c = let v = c .before .before .before .before .before .before .before .before .before .before .before .before .before .before .loop .inv in omega (arith, c .before .before .before .before .before .before .before .before .before .before .before .before .before .before .before .before .before .before .before .before .pre .1 .0)
+add-count c = let v = c .before .before .before .before .before .before .before .before .before .before .before .before .before .before .before .loop .inv in omega (arith, c .before .before .before .before .before .before .before .before .before .before .before .before .before .before .before .before .before .before .before .before .before .pre .1 .0)
 
 same-length-7 : tie.Need-same-length-7 Inv-loop μ-loop
-same-length-7 c = c .before .before .before .before .before .before .put2 .kept .0 ∙ c .before .before .before .before .before .before .before .before .before .before .before .before .before .before .loop .inv .2 .kinds .same
+same-length-7 c = c .before .before .before .before .before .before .put2 .kept .0 ∙ c .before .before .before .before .before .before .before .before .before .before .before .before .before .before .before .loop .inv .2 .kinds .same
 
 same-length-8 : tie.Need-same-length-8 Inv-loop μ-loop
-same-length-8 c = c .before .before .before .before .before .before .put2 .kept .1 .0 ∙ c .before .before .before .before .before .before .before .before .before .before .before .before .before .before .loop .inv .2 .starts .same
+same-length-8 c = c .before .before .before .before .before .before .put2 .kept .1 .0 ∙ c .before .before .before .before .before .before .before .before .before .before .before .before .before .before .before .loop .inv .2 .starts .same
 
 same-length-9 : tie.Need-same-length-9 Inv-loop μ-loop
-same-length-9 c = c .before .before .before .before .before .before .put2 .kept .1 .1 .0 ∙ c .before .before .before .before .before .before .before .before .before .before .before .before .before .before .loop .inv .2 .lengths .same
+same-length-9 c = c .before .before .before .before .before .before .put2 .kept .1 .1 .0 ∙ c .before .before .before .before .before .before .before .before .before .before .before .before .before .before .before .loop .inv .2 .lengths .same
 
 returns-3 : tie.Need-returns-3 Inv-loop μ-loop
 returns-3 c =
-    let p = c .before .before .before .before .before .before .before .before .before .before .before .before in
-    leads-end (bytes p) (turn-finished (bytes p) (at p) (here p) (inside-query p) (p .before .before .loop .inv .2) (told p (c .before .before .before .before .before .before .before .before .before .before .enum-told2 .given .1))) (c .before .before .before .before .before .before .put2 .ensures)
+    let p = c .before .before .before .before .before .before .before .before .before .before .before .before .before in
+    leads-end (bytes p) (turn-finished (bytes p) (at p) (here p) (inside-query p) (p .before .before .loop .inv .2) (told p (c .before .before .before .before .before .before .before .before .before .before .before .enum-told3 .given .1))) (rw (c .before .before .before .before .before .before .before .placed2 .ensures) at (c .before .before .before .before .before .before .put2 .ensures))
 
 pub pass-spec : {M : Type 1} → statement M
 pass-spec =
@@ -271,33 +287,36 @@ pass-spec =
     part-outside-step-end
     outside-step-requires
     enum-known-s
+    placed-requires
     put-requires
-    add-opened
-    add-opened-2
+    add-at
+    add-i
     opened-requires
     enum-known-r
-    loop-less
-    loop-again
-    enum-known-r-2
+    enum-told
     same-length
     same-length-2
     same-length-3
     returns
-    enum-told
-    add-at
+    loop-less
+    loop-again
+    enum-told-2
+    add-at-2
     loop-less-2
     loop-again-2
     enum-known-s-2
-    add-at-2
+    add-at-3
     loop-less-3
     loop-again-3
     enum-known-s-3
-    add-place
+    add-refused-by
+    refused-by-requires
     same-length-4
     same-length-5
     same-length-6
     returns-2
-    enum-told-2
+    enum-told-3
+    placed-requires-2
     put-requires-2
     add-count
     same-length-7

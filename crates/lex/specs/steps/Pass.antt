@@ -9,6 +9,7 @@ use Rattle.munch.specs.declared.Inside.the-variants.{Nothing}
 use Rattle.munch.specs.declared.Mode.{Mode}
 use Rattle.munch.specs.Munch.{mode}
 use Rattle.lex.specs.declared.Run.{Run}
+use Rattle.lex.specs.declared.Span.{Span}
 use Rattle.lex.specs.declared.Run.the-variants as run
 use Rattle.lex.specs.Outcome.{Entry, Outcome, refuses, stepsPast, readFrom}
 use Rattle.lex.specs.Lex.{entries, entriesOf, kindOf, startsAt, lengthOf}
@@ -21,6 +22,10 @@ filled f q d = take (length d) (map f (entriesOf q)) ++ drop (length (entriesOf 
 -- what comes of a query from an offset on, in a mode
 abbrev pub outcomeAt : List ℕ → ℕ → Mode → Outcome
 outcomeAt q at m = readFrom at (stepsPast 0 m (drop at q))
+
+-- where a lexeme stands
+abbrev pub spanOf : ℕ → ℕ → Span
+spanOf at n = record { start = record { 0 = at }; length = n }
 
 -- the three lists are equally long
 abbrev pub Alike : List ℕ → List ℕ → List ℕ → Type 0
