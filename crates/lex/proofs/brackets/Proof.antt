@@ -21,16 +21,15 @@ use Rattle.munch.specs.declared.Step.the-variants.{Lexeme, Space, Finished}
 use Rattle.munch.specs.Munch.{mode, munched}
 use Rattle.munch.specs.laws.Modes.{Behind, LeadsTo}
 use Rattle.munch.proofs.Modes.{step-leads}
-use Rattle.lex.specs.steps.Pass.{outcomeAt, state, Alike, Leads}
-use Rattle.lex.proofs.Lists.{leads-start, leads-alike}
-use Rattle.lex.proofs.Turns.{lexeme-further, space-further, comment-further, refused-within, turn-lexeme, turn-space, turn-comment, turn-refused, in-mode}
+use Rattle.lex.specs.steps.Pass.{outcomeAt, State, state, Alike}
+use Rattle.lex.proofs.Lists.{leads-alike}
+use Rattle.lex.proofs.Turns.{lexeme-further, space-further, comment-further, refused-within, turn-lexeme, turn-space, turn-comment, turn-refused, in-mode, Stands, stands-start}
 use Rattle.lex.proofs.brackets.Statement.{statement}
 use Rattle.lex.proofs.brackets.Tie as tie
 
 abbrev Inv-loop : tie.InvT-loop
 Inv-loop query kinds₀ starts₀ lengths₀ depth from first at₀ i₀ seen₀ fresh₀ kinds starts lengths at i seen fresh =
-    (from ≤ at) × (at ≤ length query) × (i ≤ at)
-    × Leads (state kinds₀ starts₀ lengths₀ first (outcomeAt query from (mode depth (Brackets false true)))) (state kinds starts lengths i (outcomeAt query at (mode depth (Brackets seen fresh))))
+    (from ≤ at) × (i ≤ at) × Stands (state kinds₀ starts₀ lengths₀ first (outcomeAt query from (mode depth (Brackets false true)))) query kinds starts lengths i at (mode depth (Brackets seen fresh))
 
 abbrev μ-loop : tie.MeasureT-loop
 μ-loop query kinds₀ starts₀ lengths₀ depth from first at₀ i₀ seen₀ fresh₀ kinds starts lengths at i seen fresh = length query - at
@@ -62,11 +61,14 @@ module _ (c : Place) {s : Step} (e : c .bracket-step .result ≡ s) where
   leads-to = rw told at (step-leads (start c .args .depth) (opened c) (drop (at c) (bytes c)))
 
 module _ (c : Place) where
-  inside-query : at c ≤ length (bytes c)
-  inside-query = c .before .before .loop .inv .1
+  abbrev begun : State
+  begun = let a = start c .args in state (now (a .kinds)) (now (a .starts)) (now (a .lengths)) (start c .args .first) (outcomeAt (bytes c) (start c .args .from) (mode (start c .args .depth) (Brackets false true)))
+
+  stand : let l = c .before .before .loop in Stands begun (bytes c) (l .kinds) (l .starts) (l .lengths) (l .i) (at c) (here c)
+  stand = c .before .before .loop .inv .2
 
   alike : let l = c .before .before .loop in Alike (l .kinds) (l .starts) (l .lengths)
-  alike = leads-alike (c .before .before .loop .inv .3) (start c .pre .1 .0)
+  alike = leads-alike (stand .leads) (start c .pre .1 .0)
 
 -- behind a lexeme that does not close the brackets they are open
 still-open : (d : ℕ) (i : Inside) (m : Mode) → ((m ≡ mode d Nothing) ⊎ ((now : Bool) × (m ≡ mode d (Brackets now false)))) → {seen fresh : Bool} → m .inside ≡ Brackets seen fresh → m ≡ mode d (Brackets seen false)
@@ -83,7 +85,7 @@ closed d m (inl e) t = e
 closed d m (inr (now, e)) t = let k = ap (λ (n : Mode). tagOf inside.the-type (n .inside)) e in absurd (⊎-elim (λ z. omega arith) (λ z. omega arith) t)
 
 loop-holds : tie.Need-loop-holds Inv-loop μ-loop
-loop-holds c = (omega arith, omega arith, omega arith, leads-start _)
+loop-holds c = (omega arith, omega arith, stands-start _ _ _ (omega arith))
 
 sub-bracket-step : tie.Need-sub-bracket-step Inv-loop μ-loop
 sub-bracket-step c = search needs
@@ -107,7 +109,7 @@ put-requires : tie.Need-put-requires Inv-loop μ-loop
 put-requires c κs =
     let t = c .before .before .before .before .before in
     let p = t .before .before in
-    let g = lexeme-further (bytes p) (at p) (here p) (inside-query p) (told p (t .s .given .1)) in
+    let g = lexeme-further (stand p) (told p (t .s .given .1)) in
     let q = start p .pre .0 in
     (alike p, rw (c .placed .ensures) (omega arith, omega arith))
 
@@ -116,7 +118,7 @@ abbrev seen : tie.After-slice-known6 Inv-loop μ-loop → tie.After-s Inv-loop �
 seen c = c .before .before .before .before .before .before .before .before .before .before .before .before
 
 further : (c : tie.After-slice-known6 Inv-loop μ-loop) → let p = seen c .before .before in let n = seen c .s .given .0 .1 .0 in (1 ≤ n) × (at p + n ≤ length (bytes p))
-further c = let p = seen c .before .before in lexeme-further (bytes p) (at p) (here p) (inside-query p) (told p (seen c .s .given .1))
+further c = let p = seen c .before .before in lexeme-further (stand p) (told p (seen c .s .given .1))
 
 add-at : tie.Need-add-at Inv-loop μ-loop
 add-at c = let g = further c in omega (arith, start (seen c .before .before) .pre .0)
@@ -131,24 +133,22 @@ enum-known-inside c = search needs
 behind : (c : tie.After-slice-known6 Inv-loop μ-loop) →
     let t = seen c in
     let p = t .before .before in
-    let a = start p .args in
     let l = p .before .before .loop in
     let w = c .before .before .before .before .before .before .put .last in
-    Leads (state (now (a .kinds)) (now (a .starts)) (now (a .lengths)) (a .first) (outcomeAt (bytes p) (a .from) (mode (a .depth) (Brackets false true))))
-    (state (w .0) (w .1 .0) (w .1 .1 .0) (l .i + 1) (outcomeAt (bytes p) (at p + t .s .given .0 .1 .0) (t .s .given .0 .1 .1 .0)))
+    Stands (begun p) (bytes p) (w .0) (w .1 .0) (w .1 .1 .0) (l .i + 1) (at p + t .s .given .0 .1 .0) (t .s .given .0 .1 .1 .0)
 behind c =
     let t = seen c in
     let p = t .before .before in
-    turn-lexeme (bytes p) (at p) (here p) (inside-query p) (p .before .before .loop .inv .3) (told p (t .s .given .1)) (rw (c .before .before .before .before .before .before .before .placed .ensures) at (c .before .before .before .before .before .before .put .ensures))
+    turn-lexeme (stand p) (told p (t .s .given .1)) (rw (c .before .before .before .before .before .before .before .placed .ensures) at (c .before .before .before .before .before .before .put .ensures))
 
 same-length : tie.Need-same-length Inv-loop μ-loop
-same-length c = behind (c .before) .kinds .same
+same-length c = behind (c .before) .leads .kinds .same
 
 same-length-2 : tie.Need-same-length-2 Inv-loop μ-loop
-same-length-2 c = behind (c .before) .starts .same
+same-length-2 c = behind (c .before) .leads .starts .same
 
 same-length-3 : tie.Need-same-length-3 Inv-loop μ-loop
-same-length-3 c = behind (c .before) .lengths .same
+same-length-3 c = behind (c .before) .leads .lengths .same
 
 returns : tie.Need-returns Inv-loop μ-loop
 returns c =
@@ -156,7 +156,7 @@ returns c =
     let t = seen d in
     let g = further d in
     let v = t .before .before .before .before .loop .inv in
-    ((omega arith, g .1, omega arith), in-mode _ _ (closed _ _ (leads-to (t .before .before) (t .s .given .1)) (c .match2 .keys2)) (behind d))
+    ((omega arith, g .1, omega arith), in-mode (closed _ _ (leads-to (t .before .before) (t .s .given .1)) (c .match2 .keys2)) (behind d) .leads)
 
 loop-less : tie.Need-loop-less Inv-loop μ-loop
 loop-less c = let g = further (c .before .before .before) in omega arith
@@ -167,75 +167,75 @@ loop-again c =
     let t = seen d in
     let g = further d in
     let v = t .before .before .before .before .loop .inv in
-    (omega arith, g .1, omega arith, in-mode _ _ (still-open _ (opened (t .before .before)) _ (leads-to (t .before .before) (t .s .given .1)) (c .before .inside .given .1)) (behind d))
+    (omega arith, omega arith, in-mode (still-open _ (opened (t .before .before)) _ (leads-to (t .before .before) (t .s .given .1)) (c .before .inside .given .1)) (behind d))
 
 enum-told : tie.Need-enum-told Inv-loop μ-loop
 enum-told c = search needs
 
 add-at-2 : tie.Need-add-at-2 Inv-loop μ-loop
-add-at-2 c = let p = c .before .before in let g = space-further (bytes p) (at p) (here p) (inside-query p) (told p (c .enum-told .given .1)) in omega (arith, start p .pre .0)
+add-at-2 c = let p = c .before .before in let g = space-further (stand p) (told p (c .enum-told .given .1)) in omega (arith, start p .pre .0)
 
 loop-less-2 : tie.Need-loop-less-2 Inv-loop μ-loop
-loop-less-2 c = let p = c .before .before in let g = space-further (bytes p) (at p) (here p) (inside-query p) (told p (c .enum-told .given .1)) in omega arith
+loop-less-2 c = let p = c .before .before in let g = space-further (stand p) (told p (c .enum-told .given .1)) in omega arith
 
 loop-again-2 : tie.Need-loop-again-2 Inv-loop μ-loop
 loop-again-2 c =
     let p = c .before .before in
     let e = c .enum-told .given .1 in
     let v = p .before .before .loop .inv in
-    (omega arith, space-further (bytes p) (at p) (here p) (inside-query p) (told p e), omega arith, in-mode _ _ (leads-to p e) (turn-space (bytes p) (at p) (here p) (inside-query p) (v .3) (told p e)))
+    (omega arith, omega arith, in-mode (leads-to p e) (turn-space (stand p) (told p e)))
 
 enum-known-s-2 : tie.Need-enum-known-s-2 Inv-loop μ-loop
 enum-known-s-2 c = search needs
 
 add-at-3 : tie.Need-add-at-3 Inv-loop μ-loop
-add-at-3 c = let p = c .before .before .before in let g = comment-further (bytes p) (at p) (here p) (inside-query p) (told p (c .before .s2 .given .1)) in omega (arith, start p .pre .0)
+add-at-3 c = let p = c .before .before .before in let g = comment-further (stand p) (told p (c .before .s2 .given .1)) in omega (arith, start p .pre .0)
 
 loop-less-3 : tie.Need-loop-less-3 Inv-loop μ-loop
-loop-less-3 c = let p = c .before .before .before in let g = comment-further (bytes p) (at p) (here p) (inside-query p) (told p (c .before .s2 .given .1)) in omega arith
+loop-less-3 c = let p = c .before .before .before in let g = comment-further (stand p) (told p (c .before .s2 .given .1)) in omega arith
 
 loop-again-3 : tie.Need-loop-again-3 Inv-loop μ-loop
 loop-again-3 c =
     let p = c .before .before .before in
     let e = told p (c .before .s2 .given .1) in
     let v = p .before .before .loop .inv in
-    let g = comment-further (bytes p) (at p) (here p) (inside-query p) e in
-    (omega arith, g .1, omega arith, turn-comment (bytes p) (at p) (here p) (inside-query p) (v .3) e)
+    let g = comment-further (stand p) e in
+    (omega arith, omega arith, turn-comment (stand p) e)
 
 enum-known-s-3 : tie.Need-enum-known-s-3 Inv-loop μ-loop
 enum-known-s-3 c = search needs
 
 add-refused-by : tie.Need-add-refused-by Inv-loop μ-loop
-add-refused-by c = let p = c .before .before .before in omega (arith, refused-within (bytes p) (at p) (here p) (inside-query p) (told p (c .before .s3 .given .1)), start p .pre .0)
+add-refused-by c = let p = c .before .before .before in omega (arith, refused-within (stand p) (told p (c .before .s3 .given .1)), start p .pre .0)
 
 refused-by-requires : tie.Need-refused-by-requires Inv-loop μ-loop
 refused-by-requires c κs = search needs
 
 same-length-4 : tie.Need-same-length-4 Inv-loop μ-loop
-same-length-4 c = c .before .before .before .before .before .before .loop .inv .3 .kinds .same
+same-length-4 c = c .before .before .before .before .before .before .loop .inv .2 .leads .kinds .same
 
 same-length-5 : tie.Need-same-length-5 Inv-loop μ-loop
-same-length-5 c = c .before .before .before .before .before .before .loop .inv .3 .starts .same
+same-length-5 c = c .before .before .before .before .before .before .loop .inv .2 .leads .starts .same
 
 same-length-6 : tie.Need-same-length-6 Inv-loop μ-loop
-same-length-6 c = c .before .before .before .before .before .before .loop .inv .3 .lengths .same
+same-length-6 c = c .before .before .before .before .before .before .loop .inv .2 .leads .lengths .same
 
 returns-2 : tie.Need-returns-2 Inv-loop μ-loop
 returns-2 c =
     let p = c .before .before .before .before in
-    rw (c .refused-by .ensures) (tt, turn-refused (bytes p) (at p) (here p) (inside-query p) (p .before .before .loop .inv .3) (told p (c .before .before .s3 .given .1)))
+    rw (c .refused-by .ensures) (tt, turn-refused (stand p) (told p (c .before .before .s3 .given .1)))
 
 enum-told-2 : tie.Need-enum-told-2 Inv-loop μ-loop
 enum-told-2 c = search needs
 
 same-length-7 : tie.Need-same-length-7 Inv-loop μ-loop
-same-length-7 c = c .before .before .before .before .loop .inv .3 .kinds .same
+same-length-7 c = c .before .before .before .before .loop .inv .2 .leads .kinds .same
 
 same-length-8 : tie.Need-same-length-8 Inv-loop μ-loop
-same-length-8 c = c .before .before .before .before .loop .inv .3 .starts .same
+same-length-8 c = c .before .before .before .before .loop .inv .2 .leads .starts .same
 
 same-length-9 : tie.Need-same-length-9 Inv-loop μ-loop
-same-length-9 c = c .before .before .before .before .loop .inv .3 .lengths .same
+same-length-9 c = c .before .before .before .before .loop .inv .2 .leads .lengths .same
 
 -- in brackets a query does not end
 never : (seen fresh : Bool) → Brackets seen fresh ≡ Nothing → ⊥

@@ -19,15 +19,15 @@ use Rattle.munch.proofs.Modes.{step-leads}
 use Rattle.munch.proofs.Tables.{outside-by-tables}
 use Rattle.lex.specs.declared.Run.{Run}
 use Rattle.lex.specs.Outcome.{outcomeOf}
-use Rattle.lex.specs.steps.Pass.{outcomeAt, state, stateBehind, Alike, Leads, Reached}
-use Rattle.lex.proofs.Lists.{leads-start, leads-on, leads-alike, leads-refused, leads-end}
-use Rattle.lex.proofs.Turns.{lexeme-further, space-further, comment-further, refused-within, turn-lexeme, turn-space, turn-comment, turn-refused, turn-finished, in-mode}
+use Rattle.lex.specs.steps.Pass.{outcomeAt, State, state, stateBehind, Alike, Leads, Reached}
+use Rattle.lex.proofs.Lists.{leads-on, leads-alike, leads-refused, leads-end}
+use Rattle.lex.proofs.Turns.{lexeme-further, space-further, comment-further, refused-within, turn-lexeme, turn-space, turn-comment, turn-refused, turn-finished, in-mode, Stands, stands-start}
 use Rattle.lex.proofs.pass.Statement.{statement}
 use Rattle.lex.proofs.pass.Tie as tie
 
 abbrev Inv-loop : tie.InvT-loop
 Inv-loop leads words query kinds₀ starts₀ lengths₀ at₀ i₀ depth₀ kinds starts lengths at i depth =
-    (at ≤ length query) × (i ≤ at) × Leads (state kinds₀ starts₀ lengths₀ 0 (outcomeOf query)) (state kinds starts lengths i (outcomeAt query at (mode depth Nothing)))
+    (i ≤ at) × Stands (state kinds₀ starts₀ lengths₀ 0 (outcomeOf query)) query kinds starts lengths i at (mode depth Nothing)
 
 abbrev μ-loop : tie.MeasureT-loop
 μ-loop leads words query kinds₀ starts₀ lengths₀ at₀ i₀ depth₀ kinds starts lengths at i depth = length query - at
@@ -63,14 +63,17 @@ module _ (c : Place) {s : Step} (e : c .outside-step .result ≡ s) where
   leads-to = rw told at (step-leads (depth c) Nothing (drop (at c) (bytes c)))
 
 module _ (c : Place) where
-  inside-query : at c ≤ length (bytes c)
-  inside-query = c .before .before .loop .inv .0
+  abbrev begun : State
+  begun = let a = start c .args in state (now (a .kinds)) (now (a .starts)) (now (a .lengths)) 0 (outcomeOf (bytes c))
+
+  stand : let l = c .before .before .loop in Stands begun (bytes c) (l .kinds) (l .starts) (l .lengths) (l .i) (at c) (here c)
+  stand = c .before .before .loop .inv .1
 
   alike : let l = c .before .before .loop in Alike (l .kinds) (l .starts) (l .lengths)
-  alike = leads-alike (c .before .before .loop .inv .2) (start c .pre .1 .1)
+  alike = leads-alike (stand .leads) (start c .pre .1 .1)
 
 loop-holds : tie.Need-loop-holds Inv-loop μ-loop
-loop-holds c = (omega arith, omega arith, leads-start _)
+loop-holds c = (omega arith, stands-start _ _ _ (omega arith))
 
 sub-outside-step : tie.Need-sub-outside-step Inv-loop μ-loop
 sub-outside-step c = search needs
@@ -94,7 +97,7 @@ put-requires : tie.Need-put-requires Inv-loop μ-loop
 put-requires c κs =
     let t = c .before .before .before .before .before in
     let p = t .before .before in
-    let g = lexeme-further (bytes p) (at p) (here p) (inside-query p) (told p (t .s .given .1)) in
+    let g = lexeme-further (stand p) (told p (t .s .given .1)) in
     let q = start p .pre .1 .0 in
     (alike p, rw (c .placed .ensures) (omega arith, omega arith))
 
@@ -103,21 +106,19 @@ abbrev seen : tie.After-slice-known6 Inv-loop μ-loop → tie.After-s Inv-loop �
 seen c = c .before .before .before .before .before .before .before .before .before .before .before .before
 
 further : (c : tie.After-slice-known6 Inv-loop μ-loop) → let p = seen c .before .before in let n = seen c .s .given .0 .1 .0 in (1 ≤ n) × (at p + n ≤ length (bytes p))
-further c = let p = seen c .before .before in lexeme-further (bytes p) (at p) (here p) (inside-query p) (told p (seen c .s .given .1))
+further c = let p = seen c .before .before in lexeme-further (stand p) (told p (seen c .s .given .1))
 
 -- the lexeme is written, and what is behind it is still to come
 behind : (c : tie.After-slice-known6 Inv-loop μ-loop) →
     let t = seen c in
     let p = t .before .before in
-    let a = start p .args in
     let l = p .before .before .loop in
     let w = c .before .before .before .before .before .before .put .last in
-    Leads (state (now (a .kinds)) (now (a .starts)) (now (a .lengths)) 0 (outcomeOf (bytes p)))
-    (state (w .0) (w .1 .0) (w .1 .1 .0) (l .i + 1) (outcomeAt (bytes p) (at p + t .s .given .0 .1 .0) (t .s .given .0 .1 .1 .0)))
+    Stands (begun p) (bytes p) (w .0) (w .1 .0) (w .1 .1 .0) (l .i + 1) (at p + t .s .given .0 .1 .0) (t .s .given .0 .1 .1 .0)
 behind c =
     let t = seen c in
     let p = t .before .before in
-    turn-lexeme (bytes p) (at p) (here p) (inside-query p) (p .before .before .loop .inv .2) (told p (t .s .given .1)) (rw (c .before .before .before .before .before .before .before .placed .ensures) at (c .before .before .before .before .before .before .put .ensures))
+    turn-lexeme (stand p) (told p (t .s .given .1)) (rw (c .before .before .before .before .before .before .before .placed .ensures) at (c .before .before .before .before .before .before .put .ensures))
 
 add-at : tie.Need-add-at Inv-loop μ-loop
 add-at c = let g = further c in omega (arith, start (seen c .before .before) .pre .1 .0)
@@ -133,7 +134,7 @@ opened-requires c κs =
     let g = further d in
     let v = p .before .before .loop .inv in
     let h = start p .pre in
-    (h .0 .0, (h .1 .0, (leads-alike (behind d) (h .1 .1), (leads-to p (t .s .given .1), (g .1, omega arith)))))
+    (h .0 .0, (h .1 .0, (leads-alike (behind d .leads) (h .1 .1), (leads-to p (t .s .given .1), (g .1, omega arith)))))
 
 enum-known-r : tie.Need-enum-known-r Inv-loop μ-loop
 enum-known-r c = search needs
@@ -157,7 +158,7 @@ module _ (c : tie.After-opened Inv-loop μ-loop) where
       × Leads (state (now (a .kinds)) (now (a .starts)) (now (a .lengths)) 0 (outcomeOf query)) (stateBehind query (l .0) (l .1 .0) (l .1 .1 .0) (lexed .s .given .0 .1 .1 .0 .depth) r)
 
   passed : {r : Run} → c .opened .result ≡ r → Passed r
-  passed e = subst Passed e (c .opened .ensures .0, leads-on (behind put) (c .opened .ensures .1))
+  passed e = subst Passed e (c .opened .ensures .0, leads-on (behind put .leads) (c .opened .ensures .1))
 
 enum-told : tie.Need-enum-told Inv-loop μ-loop
 enum-told c = search needs
@@ -187,63 +188,63 @@ loop-less c =
 loop-again : tie.Need-loop-again Inv-loop μ-loop
 loop-again c =
     let w = passed (c .before .before .before .before .before .before .before .before .before) (c .before .r .given .1) in
-    (w .0 .1, w .0 .2, w .1)
+    (w .0 .2, record { inside = w .0 .1; leads = w .1 })
 
 enum-told-2 : tie.Need-enum-told-2 Inv-loop μ-loop
 enum-told-2 c = search needs
 
 add-at-2 : tie.Need-add-at-2 Inv-loop μ-loop
-add-at-2 c = let p = c .before .before in let g = space-further (bytes p) (at p) (here p) (inside-query p) (told p (c .enum-told2 .given .1)) in omega (arith, start p .pre .1 .0)
+add-at-2 c = let p = c .before .before in let g = space-further (stand p) (told p (c .enum-told2 .given .1)) in omega (arith, start p .pre .1 .0)
 
 loop-less-2 : tie.Need-loop-less-2 Inv-loop μ-loop
-loop-less-2 c = let p = c .before .before in let g = space-further (bytes p) (at p) (here p) (inside-query p) (told p (c .enum-told2 .given .1)) in omega arith
+loop-less-2 c = let p = c .before .before in let g = space-further (stand p) (told p (c .enum-told2 .given .1)) in omega arith
 
 loop-again-2 : tie.Need-loop-again-2 Inv-loop μ-loop
 loop-again-2 c =
     let p = c .before .before in
     let e = c .enum-told2 .given .1 in
     let v = p .before .before .loop .inv in
-    (space-further (bytes p) (at p) (here p) (inside-query p) (told p e), omega arith, in-mode _ _ (leads-to p e) (turn-space (bytes p) (at p) (here p) (inside-query p) (v .2) (told p e)))
+    (omega arith, in-mode (leads-to p e) (turn-space (stand p) (told p e)))
 
 enum-known-s-2 : tie.Need-enum-known-s-2 Inv-loop μ-loop
 enum-known-s-2 c = search needs
 
 add-at-3 : tie.Need-add-at-3 Inv-loop μ-loop
-add-at-3 c = let p = c .before .before .before in let g = comment-further (bytes p) (at p) (here p) (inside-query p) (told p (c .before .s2 .given .1)) in omega (arith, start p .pre .1 .0)
+add-at-3 c = let p = c .before .before .before in let g = comment-further (stand p) (told p (c .before .s2 .given .1)) in omega (arith, start p .pre .1 .0)
 
 loop-less-3 : tie.Need-loop-less-3 Inv-loop μ-loop
-loop-less-3 c = let p = c .before .before .before in let g = comment-further (bytes p) (at p) (here p) (inside-query p) (told p (c .before .s2 .given .1)) in omega arith
+loop-less-3 c = let p = c .before .before .before in let g = comment-further (stand p) (told p (c .before .s2 .given .1)) in omega arith
 
 loop-again-3 : tie.Need-loop-again-3 Inv-loop μ-loop
 loop-again-3 c =
     let p = c .before .before .before in
     let e = told p (c .before .s2 .given .1) in
     let v = p .before .before .loop .inv in
-    let g = comment-further (bytes p) (at p) (here p) (inside-query p) e in
-    (g .1, omega arith, turn-comment (bytes p) (at p) (here p) (inside-query p) (v .2) e)
+    let g = comment-further (stand p) e in
+    (omega arith, turn-comment (stand p) e)
 
 enum-known-s-3 : tie.Need-enum-known-s-3 Inv-loop μ-loop
 enum-known-s-3 c = search needs
 
 add-refused-by : tie.Need-add-refused-by Inv-loop μ-loop
-add-refused-by c = let p = c .before .before .before in omega (arith, refused-within (bytes p) (at p) (here p) (inside-query p) (told p (c .before .s3 .given .1)), start p .pre .1 .0)
+add-refused-by c = let p = c .before .before .before in omega (arith, refused-within (stand p) (told p (c .before .s3 .given .1)), start p .pre .1 .0)
 
 refused-by-requires : tie.Need-refused-by-requires Inv-loop μ-loop
 refused-by-requires c κs = search needs
 
 same-length-4 : tie.Need-same-length-4 Inv-loop μ-loop
-same-length-4 c = c .before .before .before .before .before .before .loop .inv .2 .kinds .same
+same-length-4 c = c .before .before .before .before .before .before .loop .inv .1 .leads .kinds .same
 
 same-length-5 : tie.Need-same-length-5 Inv-loop μ-loop
-same-length-5 c = c .before .before .before .before .before .before .loop .inv .2 .starts .same
+same-length-5 c = c .before .before .before .before .before .before .loop .inv .1 .leads .starts .same
 
 same-length-6 : tie.Need-same-length-6 Inv-loop μ-loop
-same-length-6 c = c .before .before .before .before .before .before .loop .inv .2 .lengths .same
+same-length-6 c = c .before .before .before .before .before .before .loop .inv .1 .leads .lengths .same
 
 returns-2 : tie.Need-returns-2 Inv-loop μ-loop
 returns-2 c =
     let p = c .before .before .before .before in
-    rw (c .refused-by .ensures) (leads-refused (bytes p) (turn-refused (bytes p) (at p) (here p) (inside-query p) (p .before .before .loop .inv .2) (told p (c .before .before .s3 .given .1))))
+    rw (c .refused-by .ensures) (leads-refused (bytes p) (turn-refused (stand p) (told p (c .before .before .s3 .given .1))))
 
 enum-told-3 : tie.Need-enum-told-3 Inv-loop μ-loop
 enum-told-3 c = search needs
@@ -262,18 +263,18 @@ add-count : tie.Need-add-count Inv-loop μ-loop
 add-count c = let v = c .before .before .before .before .before .before .before .before .before .before .before .before .before .before .before .loop .inv in omega (arith, c .before .before .before .before .before .before .before .before .before .before .before .before .before .before .before .before .before .before .before .before .before .pre .1 .0)
 
 same-length-7 : tie.Need-same-length-7 Inv-loop μ-loop
-same-length-7 c = c .before .before .before .before .before .before .put2 .kept .0 ∙ c .before .before .before .before .before .before .before .before .before .before .before .before .before .before .before .loop .inv .2 .kinds .same
+same-length-7 c = c .before .before .before .before .before .before .put2 .kept .0 ∙ c .before .before .before .before .before .before .before .before .before .before .before .before .before .before .before .loop .inv .1 .leads .kinds .same
 
 same-length-8 : tie.Need-same-length-8 Inv-loop μ-loop
-same-length-8 c = c .before .before .before .before .before .before .put2 .kept .1 .0 ∙ c .before .before .before .before .before .before .before .before .before .before .before .before .before .before .before .loop .inv .2 .starts .same
+same-length-8 c = c .before .before .before .before .before .before .put2 .kept .1 .0 ∙ c .before .before .before .before .before .before .before .before .before .before .before .before .before .before .before .loop .inv .1 .leads .starts .same
 
 same-length-9 : tie.Need-same-length-9 Inv-loop μ-loop
-same-length-9 c = c .before .before .before .before .before .before .put2 .kept .1 .1 .0 ∙ c .before .before .before .before .before .before .before .before .before .before .before .before .before .before .before .loop .inv .2 .lengths .same
+same-length-9 c = c .before .before .before .before .before .before .put2 .kept .1 .1 .0 ∙ c .before .before .before .before .before .before .before .before .before .before .before .before .before .before .before .loop .inv .1 .leads .lengths .same
 
 returns-3 : tie.Need-returns-3 Inv-loop μ-loop
 returns-3 c =
     let p = c .before .before .before .before .before .before .before .before .before .before .before .before .before in
-    leads-end (bytes p) (turn-finished (bytes p) (at p) (here p) (inside-query p) (p .before .before .loop .inv .2) (told p (c .before .before .before .before .before .before .before .before .before .before .before .enum-told3 .given .1))) (rw (c .before .before .before .before .before .before .before .placed2 .ensures) at (c .before .before .before .before .before .before .put2 .ensures))
+    leads-end (bytes p) (turn-finished (stand p) (told p (c .before .before .before .before .before .before .before .before .before .before .before .enum-told3 .given .1))) (rw (c .before .before .before .before .before .before .before .placed2 .ensures) at (c .before .before .before .before .before .before .put2 .ensures))
 
 pub pass-spec : {M : Type 1} → statement M
 pass-spec =
