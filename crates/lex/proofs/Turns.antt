@@ -72,3 +72,6 @@ module _ {a : State} {q ks ss ls : List ℕ} {i at : ℕ} {m : Mode} (here : Sta
 -- a mode that is said otherwise
 pub in-mode : {a : State} {q ks ss ls : List ℕ} {i at : ℕ} {m m′ : Mode} → m ≡ m′ → Stands a q ks ss ls i at m → Stands a q ks ss ls i at m′
 in-mode {a} {q} {ks} {ss} {ls} {i} {at} e s = subst (Stands a q ks ss ls i at) e s
+
+pub same-mode : (q : List ℕ) (at : ℕ) {m m′ : Mode} {ks ss ls : List ℕ} {i : ℕ} → m ≡ m′ → Leads (state ks ss ls i (outcomeAt q at m)) (state ks ss ls i (outcomeAt q at m′))
+same-mode q at {m} {ks = ks} {ss} {ls} {i} e = subst (λ (n : Mode). Leads (state ks ss ls i (outcomeAt q at m)) (state ks ss ls i (outcomeAt q at n))) e (leads-start _)
