@@ -71,9 +71,9 @@ module _ (c : Place) where
   alike = leads-alike (stand .leads) (start c .pre .1 .0)
 
 -- behind a lexeme that does not close the brackets they are open
-still-open : (d : ℕ) (i : Inside) (m : Mode) → ((m ≡ mode d Nothing) ⊎ ((now : Bool) × (m ≡ mode d (Brackets now false)))) → {seen fresh : Bool} → m .inside ≡ Brackets seen fresh → m ≡ mode d (Brackets seen false)
-still-open d i m (inl e) b = let k = ap (λ (n : Mode). tagOf inside.the-type (n .inside)) e in let z = ap (tagOf inside.the-type) b in absurd (omega arith)
-still-open d i m (inr (now, e)) b = e ∙ ap (λ (x : Inside). mode d (reopened x)) (sym (ap (λ (n : Mode). n .inside) e) ∙ b)
+still-open : (d : ℕ) (m : Mode) → ((m ≡ mode d Nothing) ⊎ ((now : Bool) × (m ≡ mode d (Brackets now false)))) → {seen fresh : Bool} → m .inside ≡ Brackets seen fresh → m ≡ mode d (Brackets seen false)
+still-open d m (inl e) b = let k = ap (λ (n : Mode). tagOf inside.the-type (n .inside)) e in let z = ap (tagOf inside.the-type) b in absurd (omega arith)
+still-open d m (inr (now, e)) b = e ∙ ap (λ (x : Inside). mode d (reopened x)) (sym (ap (λ (n : Mode). n .inside) e) ∙ b)
   where
     reopened : Inside → Inside
     reopened Nothing = Nothing
@@ -167,7 +167,7 @@ loop-again c =
     let t = seen d in
     let g = further d in
     let v = t .before .before .before .before .loop .inv in
-    (omega arith, omega arith, in-mode (still-open _ (opened (t .before .before)) _ (leads-to (t .before .before) (t .s .given .1)) (c .before .inside .given .1)) (behind d))
+    (omega arith, omega arith, in-mode (still-open _ _ (leads-to (t .before .before) (t .s .given .1)) (c .before .inside .given .1)) (behind d))
 
 enum-told : tie.Need-enum-told Inv-loop μ-loop
 enum-told c = search needs
