@@ -18,6 +18,7 @@ use Rattle.munch.specs.steps.Lent.{outsideBy}
 use Rattle.munch.proofs.Modes.{step-leads}
 use Rattle.munch.proofs.Tables.{outside-by-tables}
 use Rattle.lex.specs.declared.Run.{Run}
+use Rattle.lex.specs.declared.Run.the-variants.{To}
 use Rattle.lex.specs.Outcome.{outcomeOf}
 use Rattle.lex.specs.steps.Pass.{outcomeAt, State, state, stateBehind, Alike, Leads, Reached}
 use Rattle.lex.proofs.Lists.{leads-on, leads-alike, leads-refused, leads-end}
@@ -274,7 +275,8 @@ same-length-9 c = c .before .before .before .before .before .before .put2 .kept 
 returns-3 : tie.Need-returns-3 Inv-loop μ-loop
 returns-3 c =
     let p = c .before .before .before .before .before .before .before .before .before .before .before .before .before in
-    leads-end (bytes p) (turn-finished (stand p) (told p (c .before .before .before .before .before .before .before .before .before .before .before .enum-told3 .given .1))) (rw (c .before .before .before .before .before .before .before .placed2 .ensures) at (c .before .before .before .before .before .before .put2 .ensures))
+    let w = leads-end (bytes p) (turn-finished (stand p) (told p (c .before .before .before .before .before .before .before .before .before .before .before .enum-told3 .given .1))) (rw (c .before .before .before .before .before .before .before .placed2 .ensures) at (c .before .before .before .before .before .before .put2 .ensures)) in
+    (ap (To (at p)) (omega arith) ∙ w .0, w .1)
 
 pub pass-spec : {M : Type 1} → statement M
 pass-spec =
