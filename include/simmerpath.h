@@ -8,7 +8,7 @@
  * the length is 0, as in Rust; a length is below 2^63 bytes. What is written to overlaps nothing else that the same call is lent.
  *
  * Answers. Each function answers one number of 64 bits: its result, or a refusal. A refusal has bit 63, which no result has, the
- * number of the refusal from bit 32, and its place: the byte from bit 16, and from bit 0 how many characters stand before it.
+ * number of the refusal from bit 32, and its place: the byte from bit 16, and from bit 0 how many characters begin before it.
  * simmerpath_is_refusal and the functions behind it take an answer apart.
  *
  * A refused call has written nothing. An accepted one has written what is said of it here, and left all else as it was, the rest
@@ -190,6 +190,7 @@ enum simmerpath_refusal {
     SIMMERPATH_REFUSED_OTHER_IN_BRACKETS = 31,           /* a character that begins nothing in brackets */
     SIMMERPATH_REFUSED_END_IN_BRACKETS = 32,             /* the end, in brackets */
 
+    /* Of a string literal: where it goes wrong, by simmerpath_unquote_string. Of a code point: no place. */
     SIMMERPATH_REFUSED_BAD_LITERAL = 40,                 /* a bad string literal, or a code point that is no character's */
 
     SIMMERPATH_REFUSED_EMPTY_DURATION = 50,              /* an empty text is no duration */
@@ -227,7 +228,7 @@ static inline unsigned simmerpath_refusal_byte(uint64_t refusal)
     return (uint16_t)(refusal >> SIMMERPATH_BIT_BYTE);
 }
 
-/* How many characters stand before the byte that a refusal names. */
+/* How many characters begin before the byte that a refusal names. */
 static inline unsigned simmerpath_refusal_character(uint64_t refusal)
 {
     return (uint16_t)refusal;
@@ -270,6 +271,10 @@ uint64_t simmerpath_is_label(const uint8_t *text, size_t text_length);
  * it in itself, behind the first byte (simmerpath_is_inner), and nothing is written. Else it is written to the front of the
  * buffer; it is never longer than the literal. `documented` is the reading: any number but 0 is SIMMERPATH_READING_DOCUMENTED,
  * whose text need not be UTF-8. Refuses with TOO_LONG, NOT_UTF8, BAD_LITERAL, NO_ROOM.
+ *
+ * The place of BAD_LITERAL is the first of these that there is: byte 0 of a literal of fewer than two bytes; the last byte, where
+ * it differs from the first; byte 0, where both are no quote; the first line feed, unless the quotes are backquotes; else the
+ * literal's own quote, bare inside it, or the backslash of a bad escape, whichever reading meets first.
  */
 uint64_t simmerpath_unquote_string(const uint8_t *literal, size_t literal_length, uint32_t documented, uint8_t *text,
                                    size_t text_length);

@@ -4,6 +4,7 @@ use std::fmt::{self, Display, Formatter};
 
 #[cfg(feature = "promql")]
 pub mod duration;
+pub mod fault;
 #[cfg(feature = "go")]
 pub mod go;
 #[cfg(feature = "promql")]

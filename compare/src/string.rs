@@ -81,8 +81,7 @@ fn read_back(text: &[u8]) -> Option<Difference> {
     let escaped = ffi::escape_string(&mut Lent::new(text, BLANK), &mut out);
     let front = escaped.written.get(..escaped.answer as usize);
     let bytes = literals::quoted(b'"', front.unwrap_or(&[]));
-    let literal = Literal::new(&bytes, |_| Some(text.to_vec()));
-    literal::difference(&bytes, &literal, BOTH)
+    literal::difference(&bytes, &Literal::of_text(&bytes, text), BOTH)
 }
 
 /// Where the crate reading differs.

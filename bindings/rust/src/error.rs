@@ -1,8 +1,9 @@
 //! A refusal as an error: its number, its place, and its sentence.
 
+use crate::fault::Fault;
 use crate::ffi;
 use crate::message::Message;
-use crate::refusal::{self, NEITHER_NUMBER_NOR_DURATION};
+use crate::refusal::{self, BAD_LITERAL, NEITHER_NUMBER_NOR_DURATION};
 use core::fmt;
 
 /// An answer with this bit is a refusal.
@@ -14,7 +15,8 @@ const BYTE_AT: u32 = 16;
 
 /// Why a call was refused: the refusal's number, and its place where it has one.
 ///
-/// It shows itself as a sentence with the byte. [`message`](Error::message) has the sentence as promql-parser has it.
+/// It shows itself as a sentence with the byte; of a bad literal, with what is wrong there. [`message`](Error::message) has the
+/// sentence as promql-parser has it.
 ///
 /// ```
 /// let error = simmerpath::lexer("up / .x").unwrap_err();
@@ -22,6 +24,9 @@ const BYTE_AT: u32 = 16;
 /// assert_eq!((error.byte(), error.character()), (6, 6));
 /// assert_eq!(error.found(), Some('x'));
 /// assert_eq!(error.to_string(), "unexpected character after '.': 'x', at byte 6");
+///
+/// let error = simmerpath::unquote_str(r#""C:\queries""#).unwrap_err();
+/// assert_eq!(error.to_string(), r"unknown escape '\q', at byte 3");
 /// ```
 #[derive(Clone, Copy, Debug, PartialEq, Eq, Hash)]
 pub struct Error {
@@ -29,6 +34,7 @@ pub struct Error {
     byte: u16,
     character: u16,
     found: Option<char>,
+    fault: Option<Fault>,
 }
 
 /// The result of a call that answered this on a text.
@@ -44,11 +50,24 @@ pub(crate) fn result(answer: u64, text: &[u8]) -> Result<u64, Error> {
         byte,
         character: answer as u16,
         found: found.flatten(),
+        fault: None,
+    })
+}
+
+/// The result of a call that answered this on a literal: where that is bad, the refusal has a place, and something is wrong there.
+pub(crate) fn literal_result(answer: u64, literal: &[u8]) -> Result<u64, Error> {
+    result(answer, literal).map_err(|error| match error.number {
+        BAD_LITERAL => Error {
+            found: char_at(literal, error.byte()),
+            fault: Some(Fault::of(literal, error.byte())),
+            ..error
+        },
+        _ => error,
     })
 }
 
 /// The character that begins at a byte of a text.
-fn char_at(text: &[u8], at: usize) -> Option<char> {
+pub(crate) fn char_at(text: &[u8], at: usize) -> Option<char> {
     let mut code = ffi::NO_CHARACTER;
     ffi::utf8_char_at(text, at, &mut code);
     char::from_u32(code)
@@ -65,17 +84,18 @@ impl Error {
         usize::from(self.byte)
     }
 
-    /// How many characters stand before the refusal's place; 0 where it has none.
+    /// How many characters begin before the refusal's place; 0 where it has none.
     pub fn character(&self) -> usize {
         usize::from(self.character)
     }
 
     /// Whether the refusal has a place.
     pub fn has_place(&self) -> bool {
-        refusal::has_place(self.number)
+        self.fault.is_some() || refusal::has_place(self.number)
     }
 
-    /// The character at the refusal's place; none where it has no place, at the end, and where there is no UTF-8.
+    /// The character at the refusal's place; none where it has no place, and where no character begins there: at the end, at the
+    /// last byte of a longer character, and where there is no UTF-8.
     pub fn found(&self) -> Option<char> {
         self.found
     }
@@ -112,7 +132,10 @@ impl Error {
 
 impl fmt::Display for Error {
     fn fmt(&self, f: &mut fmt::Formatter<'_>) -> fmt::Result {
-        self.write_sentence(f)?;
+        match self.fault {
+            Some(fault) => fault.fmt(f)?,
+            None => self.write_sentence(f)?,
+        }
         if self.number == NEITHER_NUMBER_NOR_DURATION {
             match self.found {
                 Some(found) => write!(f, ", found '{found}'")?,

@@ -37,6 +37,7 @@ extern crate std;
 mod begin;
 mod duration;
 mod error;
+mod fault;
 #[allow(unsafe_code)]
 mod ffi;
 mod lex;

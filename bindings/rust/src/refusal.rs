@@ -1,6 +1,7 @@
 //! The numbers of the refusals, and what is said of each.
 //!
-//! Those of a query, 10 to 32, and [`NOT_UTF8`] have a place: a byte and a character. The others have none.
+//! Those of a query, 10 to 32, [`NOT_UTF8`], and [`BAD_LITERAL`] of a literal have a place: a byte and a character. The others have
+//! none.
 
 /// Makes a constant of each refusal, and of all of them the table of sentences.
 macro_rules! refusals {
@@ -65,7 +66,10 @@ refusals! {
     OTHER_IN_BRACKETS = 31, "unexpected character inside brackets: '{}'";
     /// The query ends in brackets.
     END_IN_BRACKETS = 32, "unexpected end of input inside brackets";
-    /// A string literal that cannot be read; or a code point that is no character's.
+    /// A string literal that cannot be read; or, with no place, a code point that is no character's. The place is byte 0 of a
+    /// literal that has fewer than two bytes; its last byte, where that differs from its first; byte 0, where both are no quote; the
+    /// first line feed, unless the quotes are backquotes; else the literal's own quote, bare inside it, or the backslash of a bad
+    /// escape, whichever comes first.
     BAD_LITERAL = 40, "invalid syntax";
     /// An empty text for a duration.
     EMPTY = 50, "empty duration string";
@@ -92,7 +96,7 @@ pub(crate) fn sentence(number: u16) -> &'static str {
     row.map_or(UNKNOWN, |row| row.1)
 }
 
-/// Whether a refusal has a place.
+/// Whether a refusal has a place, whatever was refused. [`BAD_LITERAL`] has one of a literal alone.
 pub(crate) fn has_place(number: u16) -> bool {
     number == NOT_UTF8 || (UNCLOSED_PAREN..=END_IN_BRACKETS).contains(&number)
 }

@@ -1,6 +1,6 @@
 //! Reading string literals, in two readings, and escaping texts.
 
-use crate::error::{result, Error};
+use crate::error::{literal_result, result, Error};
 use crate::ffi;
 #[cfg(feature = "alloc")]
 use crate::TEXT_LIMIT;
@@ -29,8 +29,8 @@ pub enum Reading {
 ///
 /// # Errors
 ///
-/// [`BAD_LITERAL`](crate::refusal::BAD_LITERAL), [`TOO_LONG`](crate::refusal::TOO_LONG) and
-/// [`NOT_UTF8`](crate::refusal::NOT_UTF8).
+/// [`BAD_LITERAL`](crate::refusal::BAD_LITERAL), with the place where the literal goes wrong,
+/// [`TOO_LONG`](crate::refusal::TOO_LONG) and [`NOT_UTF8`](crate::refusal::NOT_UTF8).
 ///
 /// ```
 /// use simmerpath::{unquote_string, Reading};
@@ -43,7 +43,8 @@ pub enum Reading {
 /// assert_eq!(*unquote_string(literal, Reading::Crate)?, *"Ã©".as_bytes());
 /// assert_eq!(*unquote_string(literal, Reading::Documented)?, *"é".as_bytes());
 ///
-/// assert_eq!(unquote_string(r#""\q""#, Reading::Crate).unwrap_err().number(), 40);
+/// let error = unquote_string(r#""é\q""#, Reading::Crate).unwrap_err();
+/// assert_eq!((error.number(), error.byte(), error.character()), (40, 3, 2));
 /// # Ok::<(), simmerpath::Error>(())
 /// ```
 #[cfg(feature = "alloc")]
@@ -72,11 +73,15 @@ where
 ///
 /// # Errors
 ///
-/// [`BAD_LITERAL`](crate::refusal::BAD_LITERAL) and [`TOO_LONG`](crate::refusal::TOO_LONG).
+/// [`BAD_LITERAL`](crate::refusal::BAD_LITERAL), with the place where the literal goes wrong, and
+/// [`TOO_LONG`](crate::refusal::TOO_LONG).
 ///
 /// ```
 /// assert_eq!(simmerpath::unquote_str(r"'it\'s'")?, "it's");
-/// assert_eq!(simmerpath::unquote_str("`a`b`").unwrap_err().to_string(), "invalid syntax");
+///
+/// let error = simmerpath::unquote_str("`a`b`").unwrap_err();
+/// assert_eq!(error.to_string(), "unexpected quote ` inside the literal, at byte 2");
+/// assert_eq!(error.message("`a`b`").to_string(), "invalid syntax");
 /// # Ok::<(), simmerpath::Error>(())
 /// ```
 #[cfg(feature = "alloc")]
@@ -131,7 +136,7 @@ fn unquoted<'t>(
     text: &mut [u8],
 ) -> Result<Unquoted<'t>, Error> {
     let documented = u32::from(reading == Reading::Documented);
-    let answer = result(ffi::unquote_string(literal, documented, text), literal)?;
+    let answer = literal_result(ffi::unquote_string(literal, documented, text), literal)?;
     let length = (answer % INNER) as usize;
     Ok(if answer < INNER {
         Unquoted::Written(length)

@@ -55,14 +55,17 @@ pub fn char_at<T: AsRef<[u8]> + ?Sized>(text: &T, at: usize) -> Result<Option<ch
 ///
 /// # Errors
 ///
-/// [`BAD_LITERAL`](crate::refusal::BAD_LITERAL) where it is no character's code point, and [`NO_ROOM`](crate::refusal::NO_ROOM).
+/// [`BAD_LITERAL`](crate::refusal::BAD_LITERAL), with no place, where it is no character's code point, and
+/// [`NO_ROOM`](crate::refusal::NO_ROOM).
 ///
 /// ```
 /// use simmerpath::utf8::encode;
 /// let mut out = [b'.'; 4];
 /// assert_eq!(encode(0xe9, &mut out, 1), Ok(2));
 /// assert_eq!(&out, b".\xc3\xa9.");
-/// assert_eq!(encode(0xd800, &mut out, 0).unwrap_err().number(), 40);
+///
+/// let error = encode(0xd800, &mut out, 0).unwrap_err();
+/// assert_eq!((error.number(), error.has_place()), (40, false));
 /// ```
 pub fn encode(code: u32, out: &mut [u8], at: usize) -> Result<usize, Error> {
     result(ffi::utf8_encode(code, out, at), &[]).map(|length| length as usize)

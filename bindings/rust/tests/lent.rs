@@ -41,6 +41,18 @@ fn texts_in_lent_buffers() {
 }
 
 #[test]
+fn a_bad_literal_has_a_place_and_a_bad_code_point_none() {
+    let mut text = [b'.'; 4];
+    let error = unquote_string_into("'é\\q'", Reading::Crate, &mut text).unwrap_err();
+    assert_eq!((error.number(), error.has_place()), (40, true));
+    assert_eq!((error.byte(), error.character()), (3, 2));
+    let error = utf8::encode(0xd800, &mut text, 3).unwrap_err();
+    assert_eq!((error.number(), error.has_place()), (40, false));
+    assert_eq!((error.byte(), error.character()), (0, 0));
+    assert_eq!(text, [b'.'; 4]);
+}
+
+#[test]
 fn what_needs_no_room() {
     assert_eq!(parse_duration("1m").unwrap(), Duration::from_secs(60));
     assert_eq!(display_duration(&Duration::from_secs(60)).as_str(), "1m");

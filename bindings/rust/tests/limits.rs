@@ -28,6 +28,14 @@ fn a_place_at_the_limit_is_told() {
         (error.number(), error.byte(), error.character()),
         (23, 65_533, 16_384)
     );
+    let literal = format!("\"{query}\\\"");
+    let error = unquote_str(&literal).unwrap_err();
+    assert_eq!(literal.len(), TEXT_LIMIT);
+    assert_eq!(
+        (error.number(), error.byte(), error.character()),
+        (40, 65_533, 16_384)
+    );
+    assert_eq!(error.found(), Some('\\'));
 }
 
 #[test]
@@ -121,7 +129,7 @@ fn a_buffer_that_is_too_short_stays_as_it_was() {
     let error = unquote_string_into(r"'\n\n\n\n'", Reading::Crate, &mut out).unwrap_err();
     assert_eq!(error.number(), NO_ROOM);
     let error = unquote_string_into(r"'\n\q'", Reading::Crate, &mut out).unwrap_err();
-    assert_eq!(error.number(), 40);
+    assert_eq!((error.number(), error.byte()), (40, 3));
     assert_eq!(out, [b'.'; 3]);
 }
 

@@ -1,7 +1,9 @@
 //! What is said of each refusal: by promql-parser, and by the error itself, which adds the place.
 #![cfg(feature = "alloc")]
 
-use simmerpath::{lexer, parse_duration, parse_str_radix, unquote_str, Error};
+use simmerpath::utf8::encode;
+use simmerpath::{lexer, parse_duration, parse_str_radix, unquote_string, unquote_string_into};
+use simmerpath::{Error, Reading};
 
 /// A query, the number and byte of its refusal, and what promql-parser says of it.
 const QUERIES: [(&str, u16, usize, &str); 30] = [
@@ -52,6 +54,42 @@ const QUERIES: [(&str, u16, usize, &str); 30] = [
     ("`\\`1` '1y2y", 23, 11, "unterminated quoted string '"),
 ];
 
+/// A literal, the byte and the character of its refusal, and what the error says of it.
+const LITERALS: [(&str, usize, usize, &str); 27] = [
+    ("", 0, 0, "not between quotes"),
+    ("a", 0, 0, "not between quotes"),
+    ("aa", 0, 0, "not between quotes"),
+    ("a\"", 1, 1, "not between quotes"),
+    ("é", 1, 1, "not between quotes"),
+    ("'", 0, 0, "the closing quote is missing"),
+    ("\"é", 2, 2, "the closing quote is missing"),
+    ("'é\n", 3, 2, "the closing quote is missing"),
+    (
+        "'é\"",
+        3,
+        2,
+        "the closing quote differs from the opening one",
+    ),
+    ("'é\n'", 3, 2, "newline in a quoted literal"),
+    ("\"\\q\n\"", 3, 3, "newline in a quoted literal"),
+    ("'a\\\n\n'", 3, 3, "newline in a quoted literal"),
+    ("\"a\"b\"", 2, 2, "unexpected quote \" inside the literal"),
+    ("'\\'é'\\q'", 5, 4, "unexpected quote ' inside the literal"),
+    ("`a`b`", 2, 2, "unexpected quote ` inside the literal"),
+    ("`\\``", 2, 2, "unexpected quote ` inside the literal"),
+    ("\"\\\"", 1, 1, "escape sequence not terminated"),
+    ("'\\\\\\'", 3, 3, "escape sequence not terminated"),
+    ("\"\\q\\n\"", 1, 1, "unknown escape '\\q'"),
+    ("\"é\\q\"", 3, 2, "unknown escape '\\q'"),
+    ("'\\é'", 1, 1, "unknown escape '\\é'"),
+    ("\"\\'\"", 1, 1, "unknown escape '\\''"),
+    ("'\\8'", 1, 1, "unknown escape '\\8'"),
+    ("\"\\400\"", 1, 1, "wrong digits in escape '\\4'"),
+    ("\"\\x8\"", 1, 1, "wrong digits in escape '\\x'"),
+    ("'\\ud800'", 1, 1, "wrong digits in escape '\\u'"),
+    ("'\\t\\U00110000'", 3, 3, "wrong digits in escape '\\U'"),
+];
+
 /// What promql-parser says of a text that is refused so, and what the error itself says.
 fn said(text: &str, error: Error) -> (String, String) {
     (error.message(text).to_string(), error.to_string())
@@ -86,11 +124,45 @@ fn with_the_place() {
 
 #[test]
 fn of_literals() {
-    let invalid = ("invalid syntax".into(), "invalid syntax".into());
-    for literal in ["", "'", "a", "'a\"", "`a`b`", r"'\q'", r"'\é'"] {
-        let error = unquote_str(literal).unwrap_err();
-        assert_eq!(said(literal, error), invalid, "{literal}");
+    for (literal, byte, character, sentence) in LITERALS {
+        let must = (
+            "invalid syntax".into(),
+            format!("{sentence}, at byte {byte}"),
+        );
+        for reading in [Reading::Crate, Reading::Documented] {
+            let error = unquote_string(literal, reading).unwrap_err();
+            assert_eq!(error.number(), 40, "{literal}");
+            assert_eq!((error.byte(), error.character()), (byte, character));
+            assert_eq!(error.found(), found(literal, byte), "{literal}");
+            assert_eq!(said(literal, error), must, "{literal}");
+        }
     }
+}
+
+/// The character that begins at a byte of a text.
+fn found(text: &str, at: usize) -> Option<char> {
+    text.get(at..)?.chars().next()
+}
+
+#[test]
+fn of_a_literal_that_is_no_bad_one() {
+    let mut text = [0; 1];
+    let error = unquote_string_into(r"'\n\n'", Reading::Crate, &mut text).unwrap_err();
+    assert_eq!(
+        error.to_string(),
+        "the result needs more room than was lent"
+    );
+    let error = unquote_string(b"'\xff'", Reading::Crate).unwrap_err();
+    assert_eq!(error.to_string(), "not UTF-8, at byte 1");
+}
+
+#[test]
+fn of_code_points() {
+    let error = encode(0xd800, &mut [0; 4], 1).unwrap_err();
+    assert_eq!((error.number(), error.has_place()), (40, false));
+    assert_eq!((error.byte(), error.character()), (0, 0));
+    assert_eq!(error.found(), None);
+    assert_eq!(error.to_string(), "invalid syntax");
 }
 
 #[test]

@@ -1,4 +1,5 @@
-//! The values that document 01 gives, its misreadings to catch, and the worked examples of promql-parser.
+//! The values that document 01 gives, its misreadings to catch, the places of document 02, and the worked examples of
+//! promql-parser.
 #![cfg(feature = "alloc")]
 
 use simmerpath::token::*;
@@ -49,6 +50,34 @@ fn literals_in_both_readings() {
     let read = |reading| unquote_string(literal, reading).unwrap();
     assert_eq!(*read(Reading::Crate), [0xc3, 0x83, 0xc2, 0xa9]);
     assert_eq!(*read(Reading::Documented), [0xc3, 0xa9]);
+}
+
+#[test]
+fn literals_that_are_refused() {
+    let places = [
+        (r#""\""#, 1, 1),
+        (r#""a"b""#, 2, 2),
+        (r#""\q\n""#, 1, 1),
+        ("\"\\q\n\"", 3, 3),
+        ("`a`b`", 2, 2),
+        (r#""\400""#, 1, 1),
+        (r#""\x8""#, 1, 1),
+        ("\"é", 2, 2),
+        ("a\"", 1, 1),
+        ("aa", 0, 0),
+        (r#""é\q""#, 3, 2),
+    ];
+    for (literal, byte, character) in places {
+        for reading in [Reading::Crate, Reading::Documented] {
+            let error = unquote_string(literal, reading).unwrap_err();
+            let place = (error.byte(), error.character());
+            assert_eq!(
+                (error.number(), place),
+                (40, (byte, character)),
+                "{literal}"
+            );
+        }
+    }
 }
 
 #[test]

@@ -1,7 +1,8 @@
-//! String literals: what a reading makes of one, and the refusals of document 01 around it.
+//! String literals: what a reading makes of one, and the refusals of document 01 around it, with the place that document 02 has
+//! for a bad one.
 
 use super::utf8::admitted;
-use super::{write, Answer, BAD_LITERAL, NO_ROOM};
+use super::{fault, write, Answer, BAD_LITERAL, NO_ROOM};
 
 /// Added to the length of a text that is handed back as the part of the literal behind its first sign.
 pub const INNER: u64 = 1 << 32;
@@ -15,8 +16,13 @@ pub struct Literal<'a> {
 impl<'a> Literal<'a> {
     /// The literal of these bytes. A reading tells what it stands for, none for a bad one, where it is UTF-8 within the limit.
     pub fn new(bytes: &'a [u8], read: impl FnOnce(&str) -> Option<Vec<u8>>) -> Self {
-        let text =
-            admitted(bytes).and_then(|literal| read(literal).ok_or(Answer::refused(BAD_LITERAL)));
+        let text = admitted(bytes).and_then(|literal| judged(literal, read(literal)));
+        Literal { bytes, text }
+    }
+
+    /// The literal of these bytes, which must stand for a text where it is UTF-8 within the limit.
+    pub fn of_text(bytes: &'a [u8], text: &[u8]) -> Self {
+        let text = admitted(bytes).map(|_| text.to_vec());
         Literal { bytes, text }
     }
 
@@ -53,5 +59,14 @@ impl<'a> Literal<'a> {
     /// Whether the literal has an escape: a backslash, and not between backquotes.
     fn has_escape(&self) -> bool {
         self.bytes.contains(&b'\\') && self.bytes[0] != b'`'
+    }
+}
+
+/// The text that a reading has for a literal, or the refusal of a bad one. It must have none just where something is wrong.
+fn judged(literal: &str, text: Option<Vec<u8>>) -> Result<Vec<u8>, Answer> {
+    match (text, fault::place(literal)) {
+        (Some(text), None) => Ok(text),
+        (None, Some((byte, character))) => Err(Answer::Refused(BAD_LITERAL, byte, character)),
+        (text, place) => panic!("{literal:?} is read as {text:?}, and goes wrong at {place:?}"),
     }
 }

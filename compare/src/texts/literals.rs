@@ -141,23 +141,37 @@ fn code_escapes() -> impl Iterator<Item = Vec<u8>> {
     four.chain(eight)
 }
 
-/// Literals as long as the limit, nearly and more: without escapes, all escapes, and with a mistake in their last bytes.
+/// Literals of some hundred bytes, of some thousand, and as long as the limit, nearly and more: without escapes, all escapes, and
+/// with mistakes.
 fn long() -> impl Iterator<Item = Vec<u8>> {
-    (MOST_BYTES - 1..=MOST_BYTES + 2).flat_map(|length| {
-        let plain = of_length(length - 2);
+    let lengths = (127..=130)
+        .chain(4095..=4098)
+        .chain(MOST_BYTES - 3..=MOST_BYTES);
+    lengths.flat_map(|length| {
+        let plain = of_length(length);
         let escapes = ["\\n", "\\xff", "\\U0010ffff"].map(|escape| {
             let mut text = escape.repeat(plain.len() / escape.len()).into_bytes();
             text.resize(plain.len(), b'a');
             text
         });
-        let end = plain.len() - 1..plain.len();
-        let mistakes =
-            [&b"\\"[..], b"\n", b"\xff"].map(|piece| replaced(&plain, end.clone(), piece));
+        let mistakes = mistaken(&plain);
         iter::once(plain)
             .chain(escapes)
             .chain(mistakes)
             .flat_map(between_signs)
     })
+}
+
+/// A text with a mistake in its last byte, and with one in its middle and another behind that.
+fn mistaken(plain: &[u8]) -> Vec<Vec<u8>> {
+    let (half, end) = (plain.len() / 2, plain.len() - 1);
+    let last = [&b"\\"[..], b"\n", b"\xff"].map(|piece| replaced(plain, end..end + 1, piece));
+    let middle = (half..end).find(|&at| plain[at].is_ascii()).unwrap_or(end);
+    let pieces = [&b"\\q"[..], b"\\n\\", b"\"", b"'", b"`", b"\n"];
+    let twice = last
+        .iter()
+        .flat_map(|text| pieces.map(|piece| replaced(text, middle..middle + 1, piece)));
+    twice.chain(last.clone()).collect()
 }
 
 /// Random literals without end.

@@ -17,7 +17,7 @@ use Rattle.utf8.specs.declared.Reading.{Reading}
 use Rattle.utf8.specs.declared.Writing.{Writing}
 use Rattle.utf8.specs.declared.Writing.the-variants.{Written}
 use Rattle.utf8.specs.Writing.{leftBy}
-use Rattle.utf8.specs.Answers.{textLimit}
+use Rattle.utf8.specs.Answers.{textLimit, refusedAt}
 use Rattle.utf8.specs.laws.Ascii.{isAscii}
 use Rattle.utf8.proofs.Ascii.{ascii-text}
 use Rattle.string.specs.laws.ReadBack.{isRead}
@@ -39,7 +39,7 @@ use Rattle.duration.proofs.display.Given.{displaying-given}
 use Rattle.duration.proofs.display.display_duration.Kinds as display
 use Rattle.duration.proofs.display.display_duration.Reads as display-reads
 use Rattle.lex.specs.declared.Lexing.the-variants as lexing
-use Rattle.lex.specs.Lex.{refusedAt, roomed, lexed}
+use Rattle.lex.specs.Lex.{roomed, lexed}
 use Rattle.join.specs.laws.Calls.{LexCall, roomIn, kindsLeft}
 use Rattle.join.proofs.Calls.{answered, writes}
 use Rattle.cases.specs.laws.Cases.{Case, lexes, refuses, literal, timed, written, queries, texts, cases, Shown, Each}

@@ -8,7 +8,7 @@ use Rattle.utf8.specs.declared.Refusal.{Refusal}
 use Rattle.utf8.specs.declared.Admission.{Admission}
 use Rattle.utf8.specs.declared.Admission.the-variants as admission
 use Rattle.token.specs.Kinds.{eofKind}
-use Rattle.utf8.specs.Answers.{textLimit, placeAt, noRoom, noRefusal, admitted}
+use Rattle.utf8.specs.Answers.{textLimit, refusedAt, noRoom, noRefusal, admitted}
 use Rattle.lex.specs.declared.Lexing.{Lexing}
 use Rattle.lex.specs.declared.Lexing.the-variants.{Count, Refused}
 use Rattle.lex.specs.Outcome.{Entry, entry, Outcome, reads, ends, refuses, outcomeOf}
@@ -24,10 +24,6 @@ entries (refuses r o) = []
 
 abbrev pub entriesOf : List ℕ → List Entry
 entriesOf q = entries (outcomeOf q)
-
--- a refusal "returns number and place only": the byte offset, and how many characters begin before it
-abbrev pub refusedAt : List ℕ → ℕ → ℕ → Refusal
-refusedAt q r o = record { number = r; place = placeAt q o }
 
 -- the refusal that the reading came to, else so many lexemes
 unfoldable pub answerBy : List ℕ → ℕ → Outcome → Lexing

@@ -6,7 +6,6 @@ use munch::Step;
 use token::kinds;
 use utf8::Admission;
 use utf8::ByteOffset;
-use utf8::Place;
 use utf8::Refusal;
 ghost use mathlib.Core.Path.{_≡_};
 ghost use mathlib.Core.List.{_++_};
@@ -19,7 +18,7 @@ ghost use Rattle.munch.specs.declared.Inside.the-variants.{Braces, Brackets};
 ghost use Rattle.munch.specs.Munch.{mode};
 ghost use Rattle.munch.specs.laws.Modes.{Opens};
 ghost use Rattle.munch.specs.steps.Leads.{leadTable};
-ghost use Rattle.lex.specs.Lex.{entriesOf, refusedAt, measured, notLexed, roomed, lexed, listed, leftAfter, kindOf, startsAt, lengthOf, shortest};
+ghost use Rattle.lex.specs.Lex.{entriesOf, measured, notLexed, roomed, lexed, listed, leftAfter, kindOf, startsAt, lengthOf, shortest};
 ghost use Rattle.lex.specs.steps.Tally.{refusedBy, tallyOf, refusedIn, answerIn};
 ghost use Rattle.lex.specs.steps.Pass.{filled, outcomeAt, spanOf, state, stateBehind, Leads, Alike, Reached};
 
@@ -227,15 +226,6 @@ fn pass(
     }
 }
 
-// A refusal at an offset of a text.
-fn refused_at(query: &[u8], number: usize, byte: ByteOffset) -> Refusal
-    ensures { λ r. ⌜ r ≡ refusedAt (now (query .entry)) number (byte .0) ⌝ }
-{
-    let character = utf8::char_number(query, byte);
-    let place = Place { byte, character };
-    Refusal { number, place }
-}
-
 // Why a text is refused, by the count of its lexemes.
 fn refused_in(query: &[u8], run: Run) -> Refusal
     ensures { λ r. ⌜ r ≡ refusedIn (now (query .entry)) run ⌝ }
@@ -243,7 +233,7 @@ fn refused_in(query: &[u8], run: Run) -> Refusal
     let Run::Refused { number, at } = run else {
         return utf8::at_start(utf8::NO_REFUSAL);
     };
-    refused_at(query, number, at)
+    utf8::refused_at(query, number, at)
 }
 
 // How many lexemes a query has, its end included, or why it is refused: a pass that has no room.

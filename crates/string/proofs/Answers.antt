@@ -1,13 +1,13 @@
 -- What each answer of reading a literal tells: what is not taken up is refused first, then a bad literal, then what has no room; and a
 -- literal stands for no more bytes than it has (`bytes-few`).
-use Prim.Native.Nat.{ℕ, _-_, _≤_}
+use Prim.Native.Nat.{ℕ, _<_, _≤_}
 use native.Mathlib.Omega.{arith}
 use mathlib.Core.Bool.{Bool, true, false, cond}
 use mathlib.Core.List.{List}
-use mathlib.Core.Logic.{inl, inr}
+use mathlib.Core.Logic.{_⊎_, inl, inr}
 use mathlib.Core.Path.{_≡_, refl}
 use lib.Dec.{leb}
-use lib.ListN.{length, drop, length-take}
+use lib.ListN.{length}
 use Rattle.proving.proofs.Choice.{either}
 use Rattle.utf8.specs.declared.Admission.{Admission}
 use Rattle.utf8.specs.declared.Admission.the-variants as admission
@@ -15,26 +15,31 @@ use Rattle.utf8.specs.Answers.{textLimit, admitted}
 use Rattle.utf8.specs.laws.Refusals.{Taken}
 use Rattle.utf8.proofs.Given.{admitted-text}
 use Rattle.string.specs.declared.Extent.the-variants as extent
-use Rattle.string.specs.Literal.{signOf, innerOf, isBadLiteral, hasEscape, unquoted, extentOf, unquotingBy, unquotingAs, unquotingOf}
+use Rattle.string.specs.Literal.{signOf, innerOf, isBadLiteral, faultOf, hasEscape, unquoted, extentOf, unquotingBy, unquotingAs, unquotingOf}
 use Rattle.string.specs.laws.Refusals.{LiteralTells, LiteralAnswers}
 use Rattle.string.proofs.Contents.{bytes-few}
-use Rattle.string.proofs.Literals.{sound, sign-ascii}
-
-inner-few : (xs : List ℕ) → length (innerOf xs) ≤ length xs
-inner-few xs = omega (arith, length-take (length xs - 2) (drop 1 xs))
+use Rattle.string.proofs.Literals.{sound, sign-ascii, inner-few}
+use Rattle.string.proofs.Given.{tests-literal}
+use Rattle.string.proofs.Faults.{tells, faults-bad, fault-within}
 
 pub literal-answers : LiteralAnswers
 unfolding unquotingOf extentOf
 literal-answers r room xs = go (admitted textLimit xs) refl
   where
+    within : {p : ℕ} → p ≡ faultOf xs → (p < length xs) ⊎ (p ≡ 0) → faultOf xs ≤ length xs
+    within e (inl l) = omega arith
+    within e (inr z) = omega arith
+
     by : Taken textLimit xs → (s : Bool) → isBadLiteral xs ≡ s → (t : Bool)
-        → LiteralTells r xs (unquotingBy room (cond s extent.Bad (cond t (extent.Text true (length (unquoted r xs))) (extent.Text false (length (innerOf xs))))))
-    by t true b e = inr (inl refl)
+        → LiteralTells r xs (unquotingBy room xs (cond s (extent.Bad (faultOf xs)) (cond t (extent.Text true (length (unquoted r xs))) (extent.Text false (length (innerOf xs))))))
+    by t true b e =
+        let (f, (p, a)) = faults-bad xs (t .1) .0 (tests-literal xs .0 b) in
+        inr (inl (t, (faultOf xs, within (tells xs f p a .1) (fault-within xs f p a), refl)))
     by t false b true =
         let l = sign-ascii xs (sound xs b .enclosed) in
         either (LiteralTells r xs) (leb (length (unquoted r xs)) room)
         (λ f. (t, refl, omega (arith, bytes-few (signOf xs) l r (innerOf xs), inner-few xs))) (λ f. inr (inr refl))
-    by t false b false = (t, refl, inner-few xs)
+    by t false b false = (t, refl, omega (arith, inner-few xs))
 
     go : (a : Admission) → admitted textLimit xs ≡ a → LiteralTells r xs (unquotingAs r room xs a)
     go (admission.Admitted n) e = by (admitted-text textLimit xs n e) (isBadLiteral xs) refl (hasEscape (signOf xs) (innerOf xs))

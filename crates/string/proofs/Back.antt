@@ -1,6 +1,6 @@
 -- Reading the escape of a text gives the text. Character by character: what is escaped is a tile of two bytes that stands for it (one test of
 -- all ASCII bytes), and what is copied is neither the sign nor a backslash, so it is a tile as it is. No LF is copied.
-use Prim.Native.Nat.{ℕ, suc, _-_, _<_, _≤_}
+use Prim.Native.Nat.{ℕ, _<_, _≤_}
 use native.Mathlib.Omega.{arith}
 use native.Mathlib.Decide.{decLt}
 use mathlib.Core.Bool.{Bool, true, false, _&&_, not, true≢false}
@@ -8,11 +8,10 @@ use mathlib.Core.List.{List, [], _∷_, _++_, append-nil}
 use mathlib.Core.Option.{Option, none, some}
 use mathlib.Core.Path.{_≡_, refl, sym, ap, _∙_}
 use lib.Dec.{eqb}
-use lib.ListN.{length, length-append}
-use lib.Seq.{take-append-seam, getD-append-seam}
+use lib.ListN.{length}
 use borrow.Author.Tests.{ne-eqb, eqb-true, eqb-false, le-leb, not-true}
 use Rattle.scan.specs.Text.{has}
-use Rattle.scan.specs.Byte.{end, peekAt, backslash, doubleQuote, isQuote}
+use Rattle.scan.specs.Byte.{peekAt, backslash, doubleQuote, isQuote}
 use Rattle.proving.proofs.Below.{below}
 use Rattle.proving.proofs.Choice.{and-left, and-right}
 use Rattle.utf8.specs.declared.Reading.{Reading}
@@ -29,9 +28,10 @@ use Rattle.string.specs.Tile.{beginsEscape, escapeOf, tileOf}
 use Rattle.string.specs.Escape.{escaped}
 use Rattle.string.specs.steps.Bytes.{escapedBytes}
 use Rattle.string.specs.Tiles.{tilesOf, hasBad, pieceBytes, bytesOf}
-use Rattle.string.specs.Literal.{lineFeed, innerOf, isEnclosed, hasNewline}
+use Rattle.string.specs.Literal.{lineFeed, isEnclosed, hasNewline}
 use Rattle.string.specs.laws.ReadBack.{quoted, ReadBack, ReadBackJoin, ReadBackPart}
 use Rattle.string.proofs.escape.Escapes.{copied, lettered, high-copied, empty-escaped, bytes-join, by-characters-escaped, escape-join, escaped-text}
+use Rattle.string.proofs.Literals.{closed-is}
 use Rattle.string.proofs.Readings.{part-is-text, good-read}
 use Rattle.string.proofs.Contents.{tiles-none, first-piece}
 use Rattle.string.proofs.Plain.{plain-bad, plain-bytes, has-join, has-not}
@@ -140,28 +140,17 @@ module _ (r : Reading) where
       (λ xs e w. rw (none-empty xs e w) at-end)
       (λ bs ys o ih w. one bs ys o (ih (rest-well bs ys o w)))
 
--- a content between double quotes
-module _ (ys : List ℕ) where
-  inner-is : innerOf (quoted ys) ≡ ys
-  inner-is =
-      let k : length (quoted ys) - 2 ≡ length ys = omega (arith, length-append ys (doubleQuote ∷ [])) in
-      rw k (take-append-seam ys (doubleQuote ∷ []))
-
-  last-is : peekAt (quoted ys) (length (quoted ys) - 1) ≡ doubleQuote
-  last-is =
-      let k : length (quoted ys) - 1 ≡ suc (length ys) = omega (arith, length-append ys (doubleQuote ∷ [])) in
-      rw k (getD-append-seam ys doubleQuote [] end)
-
-  enclosed : isEnclosed (quoted ys) ≡ true
-  unfolding isEnclosed isQuote
-  enclosed = rw (le-leb 2 (length (quoted ys)) (omega (arith, length-append ys (doubleQuote ∷ []))), last-is)
+-- a content between double quotes is enclosed
+enclosed : (ys : List ℕ) → isEnclosed (quoted ys) ≡ true
+unfolding isEnclosed isQuote
+enclosed ys = let c = closed-is doubleQuote ys in rw (le-leb 2 (length (quoted ys)) (c .two), c .last)
 
 pub read-back : ReadBack
 unfolding hasNewline
 read-back r xs w =
     let b = back r xs w in
     let e = by-characters-escaped xs w in
-    rw (e, inner-is (escapedBytes xs), enclosed (escapedBytes xs), b .whole, b .good) (refl, b .text)
+    rw (e, closed-is doubleQuote (escapedBytes xs) .inner, enclosed (escapedBytes xs), b .whole, b .good) (refl, b .text)
 
 pub read-back-join : ReadBackJoin
 read-back-join r xs ys w v = rw (← escape-join xs ys w v) (read-back r (xs ++ ys) (text-join xs ys w v))

@@ -24,11 +24,8 @@ use Rattle.string.specs.declared.tile.Tile.the-variants.{Piece, Bad}
 use Rattle.string.specs.Tile.{beginsEscape, tileOf}
 use Rattle.string.proofs.tile.Tiles.{Fair, FairTile, each-fair}
 use Rattle.string.specs.declared.Extent.the-variants as extent
-use Rattle.string.specs.declared.Unquoting.the-variants.{Written, Refused}
-use Rattle.string.specs.Literal.{badLiteral}
-use Rattle.utf8.specs.Answers.{noRoom}
-use Rattle.string.specs.Tiles.{tileSize, tilesPast, tilesOf, hasBad, givesByte, pieceBytes, tileBytes, bytesOf}
-use Rattle.string.specs.steps.Measure.{isPlain, GivesOne, isSingle, tilesExtent, tilesUnquoting}
+use Rattle.string.specs.Tiles.{tileSize, tilesPast, tilesOf, isBad, hasBad, goodSize, givesByte, pieceBytes, tileBytes, bytesOf}
+use Rattle.string.specs.steps.Measure.{isPlain, GivesOne, isSingle, tilesExtent, leftIn}
 
 piece-few : (r : Reading) {room : ℕ} {f : Form} {v n : ℕ} → Fair room f v n → length (pieceBytes r f v) ≤ n
 unfolding pieceBytes
@@ -113,9 +110,9 @@ module _ (q : ℕ) (h : q < 0x80) where
   pub first-piece : (xs : List ℕ) (f : Form) (v n : ℕ) → 0 < length xs → tileOf q xs ≡ Piece f v n → tilesOf q xs ≡ Piece f v n ∷ tilesOf q (drop n xs)
   first-piece xs f v n l e = tiles-some xs l ∙ rw e
 
-  pub first-bad : (xs : List ℕ) → 0 < length xs → tileOf q xs ≡ Bad → hasBad (tilesOf q xs) ≡ true
-  unfolding hasBad
-  first-bad xs l e = rw (tiles-some xs l, e)
+  pub first-bad : (xs : List ℕ) → 0 < length xs → tileOf q xs ≡ Bad → (hasBad (tilesOf q xs) ≡ true) × (goodSize (tilesOf q xs) ≡ 0)
+  unfolding hasBad goodSize
+  first-bad xs l e = rw (tiles-some xs l, e) (refl, refl)
 
   -- from a place of a content on
   module _ (ys : List ℕ) (at : ℕ) (l : at < length ys) where
@@ -125,7 +122,7 @@ module _ (q : ℕ) (h : q < 0x80) where
     left : 0 < length rest
     left = omega (arith, length-drop at ys)
 
-    pub bad-here : tileOf q rest ≡ Bad → hasBad (tilesOf q rest) ≡ true
+    pub bad-here : tileOf q rest ≡ Bad → (hasBad (tilesOf q rest) ≡ true) × (goodSize (tilesOf q rest) ≡ 0)
     bad-here e = first-bad rest left e
 
     module _ (f : Form) (v n : ℕ) (e : tileOf q rest ≡ Piece f v n) where
@@ -138,6 +135,10 @@ module _ (q : ℕ) (h : q < 0x80) where
       pub bad-behind : hasBad (tilesOf q rest) ≡ hasBad (tilesOf q (drop (at + n) ys))
       unfolding hasBad
       bad-behind = rw tiles-here
+
+      pub good-behind : goodSize (tilesOf q rest) ≡ n + goodSize (tilesOf q (drop (at + n) ys))
+      unfolding goodSize
+      good-behind = rw tiles-here
 
       pub bytes-here : (r : Reading) → bytesOf r (tilesOf q rest) ≡ pieceBytes r f v ++ bytesOf r (tilesOf q (drop (at + n) ys))
       unfolding bytesOf
@@ -154,39 +155,63 @@ module _ (q : ℕ) (h : q < 0x80) where
       pub one-behind : hasBad (tilesOf q rest) ≡ hasBad (tilesOf q (drop (at + n) ys))
       one-behind = bad-behind (g .0) v n (g .1)
 
+      pub one-good : goodSize (tilesOf q rest) ≡ n + goodSize (tilesOf q (drop (at + n) ys))
+      one-good = good-behind (g .0) v n (g .1)
+
       pub one-bytes : (r : Reading) → bytesOf r (tilesOf q rest) ≡ v ∷ bytesOf r (tilesOf q (drop (at + n) ys))
       one-bytes r = bytes-here (g .0) v n (g .1) r ∙ ap (λ (bs : List ℕ). bs ++ bytesOf r (tilesOf q (drop (at + n) ys))) (single r (g .0) v (small r))
         where
           small : (r : Reading) → isSingle r (g .0) v ≡ true
           small r = unfold isSingle in rw (le-leb v 0x7f (g .2))
 
--- tiles give no more bytes than they have
-module _ (q : ℕ) (h : q < 0x80) (r : Reading) where
-  gives : (room : ℕ) (t : Tile) → 0 < room → FairTile room t → (0 < tileSize t) × (tileSize t ≤ room) × (length (tileBytes r t) ≤ tileSize t)
-  gives room (Piece f v n) l a = (a .some, a .within, piece-few r a)
-  gives room Bad l a = (omega arith, omega arith, omega arith)
+-- what holds of no bytes, and of bytes where it holds of those behind their first tile, holds of any
+module _ (q : ℕ) (h : q < 0x80) where
+  tile-moves : (room : ℕ) (t : Tile) → 0 < room → FairTile room t → (0 < tileSize t) × (tileSize t ≤ room)
+  tile-moves room (Piece f v n) l a = (a .some, a .within)
+  tile-moves room Bad l a = (omega arith, omega arith)
 
-  abbrev Few : List ℕ → Type 0
-  Few ys = length (bytesOf r (tilesOf q ys)) ≤ length ys
+  -- the first tile of some bytes has a byte at least, and no more than there are
+  pub first-moves : (ys : List ℕ) → 0 < length ys → let t = tileOf q ys in (0 < tileSize t) × (tileSize t ≤ length ys)
+  first-moves ys l = tile-moves (length ys) (tileOf q ys) l (each-fair q ys h)
 
-  up-to : (m : ℕ) (ys : List ℕ) → length ys ≤ m → Few ys
+  module _ (P : List ℕ → Type 0) (none : P []) (some : (ys : List ℕ) → 0 < length ys → P (drop (tileSize (tileOf q ys)) ys) → P ys) where
+    up-to : (m : ℕ) (ys : List ℕ) → length ys ≤ m → P ys
+    up-to zero [] l = none
+    up-to zero (y ∷ ys) l = let f : ⊥ = omega arith in absurd f
+    up-to (suc m) ys l = go ys l (up-to m)
+      where
+        go : (ys : List ℕ) → length ys ≤ suc m → ((zs : List ℕ) → length zs ≤ m → P zs) → P ys
+        go [] l ih = none
+        go (y ∷ ys) l ih =
+            let n = tileSize (tileOf q (y ∷ ys)) in
+            some (y ∷ ys) (omega arith) (ih (drop n (y ∷ ys)) (omega (arith, length-drop n (y ∷ ys), first-moves (y ∷ ys) (omega arith))))
+
+    pub by-tiles : (ys : List ℕ) → P ys
+    by-tiles ys = up-to (length ys) ys (omega arith)
+
+-- tiles give no more bytes than they have, and the good ones before a bad one have no more than there are
+module _ (q : ℕ) (h : q < 0x80) where
+  pub bytes-few : (r : Reading) (ys : List ℕ) → length (bytesOf r (tilesOf q ys)) ≤ length ys
   unfolding bytesOf
-  up-to zero [] l = rw (tiles-none q) (omega arith)
-  up-to zero (y ∷ ys) l = let f : ⊥ = omega arith in absurd f
-  up-to (suc m) ys l = go ys l (up-to m)
+  bytes-few r =
+      by-tiles q h (λ (ys : List ℕ). length (bytesOf r (tilesOf q ys)) ≤ length ys) (rw (tiles-none q) (omega arith))
+      (λ ys l ih.
+      let t = tileOf q ys in
+      rw (tiles-some q h ys l)
+      (omega (arith, length-append (tileBytes r t) (bytesOf r (tilesOf q (drop (tileSize t) ys))), few (length ys) t l (each-fair q ys h), first-moves q h ys l, length-drop (tileSize t) ys, ih)))
     where
-      go : (ys : List ℕ) → length ys ≤ suc m → ((zs : List ℕ) → length zs ≤ m → Few zs) → Few ys
-      go [] l ih = rw (tiles-none q) (omega arith)
-      go (y ∷ ys) l ih =
-          let t = tileOf q (y ∷ ys) in
-          let g = gives (length (y ∷ ys)) t (omega arith) (each-fair q (y ∷ ys) h) in
-          let k = length-drop (tileSize t) (y ∷ ys) in
-          let i = ih (drop (tileSize t) (y ∷ ys)) (omega (arith, k, g)) in
-          rw (tiles-some q h (y ∷ ys) (omega arith))
-          (omega (arith, length-append (tileBytes r t) (bytesOf r (tilesOf q (drop (tileSize t) (y ∷ ys)))), g, k, i))
+      few : (room : ℕ) (t : Tile) → 0 < room → FairTile room t → length (tileBytes r t) ≤ tileSize t
+      few room (Piece f v n) l a = piece-few r a
+      few room Bad l a = omega arith
 
-  pub bytes-few : (ys : List ℕ) → Few ys
-  bytes-few ys = up-to (length ys) ys (omega arith)
+  pub good-within : (ys : List ℕ) → goodSize (tilesOf q ys) ≤ length ys
+  unfolding goodSize
+  good-within =
+      by-tiles q h (λ (ys : List ℕ). goodSize (tilesOf q ys) ≤ length ys) (rw (tiles-none q) (omega arith))
+      (λ ys l ih.
+      let n = tileSize (tileOf q ys) in
+      rw (tiles-some q h ys l)
+      (either (λ (k : ℕ). k ≤ length ys) (isBad (tileOf q ys)) (λ e. omega arith) (λ e. omega (arith, first-moves q h ys l, length-drop n ys, ih))))
 
 -- past the last byte there is no tile
 module _ (q : ℕ) (ys : List ℕ) (at : ℕ) (l : length ys ≤ at) where
@@ -203,34 +228,27 @@ module _ (q : ℕ) (ys : List ℕ) (at : ℕ) (l : length ys ≤ at) where
 
 -- what the passes say
 module _ (r : Reading) (ts : List Tile) where
-  pub measured-bad : hasBad ts ≡ true → extent.Bad ≡ tilesExtent r ts
+  pub measured-bad : (at : ℕ) → hasBad ts ≡ true → at ≡ goodSize ts → extent.Bad at ≡ tilesExtent r ts
   unfolding tilesExtent
-  measured-bad e = rw e
+  measured-bad at e h = rw (e, h)
 
   pub measured-text : (n : ℕ) → hasBad ts ≡ false → n ≡ length (bytesOf r ts) → extent.Text true n ≡ tilesExtent r ts
   unfolding tilesExtent
   measured-text n e h = rw (e, h)
 
   -- and what it tells of the tiles
-  pub text-told : (b : Bool) (n : ℕ) → tilesExtent r ts ≡ extent.Text b n → (hasBad ts ≡ false) × (n ≡ length (bytesOf r ts))
+  pub text-told : (b : Bool) (n : ℕ) → tilesExtent r ts ≡ extent.Text b n → (hasBad ts ≡ false) × (b ≡ true) × (n ≡ length (bytesOf r ts))
   unfolding tilesExtent
   text-told b n = go (hasBad ts) refl
     where
-      go : (s : Bool) → hasBad ts ≡ s → cond s extent.Bad (extent.Text true (length (bytesOf r ts))) ≡ extent.Text b n → (hasBad ts ≡ false) × (n ≡ length (bytesOf r ts))
+      go : (s : Bool) → hasBad ts ≡ s → cond s (extent.Bad (goodSize ts)) (extent.Text true (length (bytesOf r ts))) ≡ extent.Text b n → (hasBad ts ≡ false) × (b ≡ true) × (n ≡ length (bytesOf r ts))
       go true a e = let z : _≡_ {A = ℕ} 0 1 = cc in absurd (omega arith)
-      go false a e = (a, cc)
+      go false a e = (a, cc, cc)
 
-  -- the answer then, by the room
-  module _ (room : ℕ) where
-    pub answer-bad : tilesExtent r ts ≡ extent.Bad → Refused badLiteral ≡ tilesUnquoting r room ts
-    answer-bad e = rw e
+  -- and what the buffer holds then, by the room
+  module _ (b : Bool) (n : ℕ) (e : tilesExtent r ts ≡ extent.Text b n) (d : List ℕ) where
+    pub left-small : length d < n → d ≡ leftIn (extent.Text b n) (bytesOf r ts) d
+    left-small h = rw (text-told b n e .1, lt-leb n (length d) h)
 
-    module _ (b : Bool) (n : ℕ) (e : tilesExtent r ts ≡ extent.Text b n) where
-      to-write : tilesExtent r ts ≡ extent.Text true n
-      to-write = sym (measured-text n (text-told b n e .0) (text-told b n e .1))
-
-      pub answer-small : room < n → Refused noRoom ≡ tilesUnquoting r room ts
-      answer-small h = rw (to-write, lt-leb n room h)
-
-      pub answer-fits : n ≤ room → Written n ≡ tilesUnquoting r room ts
-      answer-fits h = rw (to-write, le-leb n room h)
+    pub left-fits : n ≤ length d → bytesOf r ts ++ drop n d ≡ leftIn (extent.Text b n) (bytesOf r ts) d
+    left-fits h = rw (text-told b n e .1, le-leb n (length d) h)

@@ -1,16 +1,16 @@
 -- When each answer of reading a literal is given: of any literal and room one of the six rows holds, which gives its own answer, and no two
--- rows give the same (`exactly`). What makes a literal bad is read off the tests, in their order.
+-- rows give the same (`exactly`). What makes a literal bad is read off the tests, in their order, and where, off its cases (`Faults`).
 use Prim.Native.Nat.{ℕ, _-_}
 use native.Mathlib.Decide.{decLt, ℕ-discrete}
 use native.Mathlib.Omega.{arith}
-use mathlib.Core.Bool.{Bool, true, false, cond, _&&_, _||_, not, true≢false}
-use mathlib.Core.List.{List, [], _∷_}
-use mathlib.Core.Logic.{_⊎_, inl, inr}
-use mathlib.Core.Path.{_≡_, refl, sym, ap, subst}
+use mathlib.Core.Bool.{Bool, true, false, cond, _&&_, _||_, not}
+use mathlib.Core.List.{List}
+use mathlib.Core.Logic.{_↔_, _⊎_, inl, inr}
+use mathlib.Core.Path.{_≡_, refl, sym, ap, subst, _∙_}
 use lib.Dec.{eqb, leb}
 use lib.ListN.{length}
 use borrow.Author.Tests.{le-leb, lt-leb, leb-false, not-true}
-use Rattle.scan.specs.Byte.{peekAt, backslash, backquote, doubleQuote, singleQuote, isQuote}
+use Rattle.scan.specs.Byte.{peekAt, backslash, backquote, isQuote}
 use Rattle.proving.proofs.Choice.{exactly}
 use Rattle.proving.proofs.Tests.{Tests, affirmed, decided, tests-or, tests-and, tests-not, tests-eq}
 use Rattle.scan.proofs.Stands.{tests-has}
@@ -19,31 +19,18 @@ use Rattle.utf8.specs.Text.{prefixEnd, WellFormed}
 use Rattle.utf8.specs.Answers.{textLimit, placeAt, tooLong, notUtf8, noRoom}
 use Rattle.utf8.specs.laws.Refusals.{TooLong, NotUtf8, NoRoom, Taken}
 use Rattle.utf8.proofs.Given.{given-exactly}
-use Rattle.string.specs.declared.tile.Tile.{Tile}
-use Rattle.string.specs.declared.tile.Tile.the-variants.{Piece, Bad}
 use Rattle.string.specs.declared.Unquoting.{Unquoting}
 use Rattle.string.specs.declared.Unquoting.the-variants.{Inner, Written, Refused}
-use Rattle.string.specs.Tiles.{tilesOf, isBad, hasBad}
-use Rattle.string.specs.Literal.{lineFeed, signOf, innerOf, isEnclosed, hasNewline, isBadLiteral, hasEscape, unquoted, extentOf, badLiteral, unquotingOf}
-use Rattle.string.specs.laws.Refusals.{TooShort, SignsDiffer, NoQuoteSign, Newline, BadAmong, BadLiteral, WithEscape, UnquotingGiven}
-
-tests-bad : (ts : List Tile) → Tests (hasBad ts) (BadAmong ts)
-unfolding hasBad
-tests-bad [] = ((λ e. absurd (true≢false (sym e))), λ s. absurd s)
-tests-bad (t ∷ ts) = tests-or (one t) (tests-bad ts)
-  where
-    one : (t : Tile) → Tests (isBad t) (t ≡ Bad)
-    one (Piece f v n) = ((λ e. absurd (true≢false (sym e))), λ e. ap isBad e)
-    one Bad = ((λ e. refl), λ e. refl)
+use Rattle.string.specs.Tiles.{tilesOf}
+use Rattle.string.specs.Literal.{signOf, innerOf, isEnclosed, isBadLiteral, faultOf, hasEscape, unquoted, extentOf, badLiteral, unquotingOf}
+use Rattle.string.specs.laws.Refusals.{TooShort, SignsDiffer, NoQuoteSign, BadLiteral, Fault, FaultAt, WithEscape, UnquotingGiven}
+use Rattle.string.proofs.There.{tests-bad}
+use Rattle.string.proofs.Faults.{tests-quote, tests-newline, tells, faults-bad}
 
 -- what makes a literal bad
 module _ (xs : List ℕ) where
   abbrev q : ℕ
   q = signOf xs
-
-  tests-quote : Tests (isQuote q) ((q ≡ doubleQuote) ⊎ (q ≡ singleQuote) ⊎ (q ≡ backquote))
-  unfolding isQuote
-  tests-quote = tests-or (tests-eq q doubleQuote) (tests-or (tests-eq q singleQuote) (tests-eq q backquote))
 
   tests-short : Tests (not (leb 2 (length xs))) (TooShort xs)
   tests-short = ((λ e. leb-false 2 (length xs) (not-true (leb 2 (length xs)) e)), λ h. rw (lt-leb 2 (length xs) h))
@@ -52,24 +39,20 @@ module _ (xs : List ℕ) where
   unfolding isEnclosed
   tests-open =
       subst (λ (b : Bool). Tests b (TooShort xs ⊎ (SignsDiffer xs ⊎ NoQuoteSign xs))) (sym (morgan (leb 2 (length xs)) (eqb (peekAt xs (length xs - 1)) q) (isQuote q)))
-      (tests-or tests-short (tests-or (tests-not (tests-eq (peekAt xs (length xs - 1)) q)) (tests-not tests-quote)))
+      (tests-or tests-short (tests-or (tests-not (tests-eq (peekAt xs (length xs - 1)) q)) (tests-not (tests-quote xs))))
     where
       morgan : (a b c : Bool) → not (a && (b && c)) ≡ not a || (not b || not c)
       morgan true true c = refl
       morgan true false c = refl
       morgan false b c = refl
 
-  tests-newline : Tests (hasNewline q (innerOf xs)) (Newline xs)
-  unfolding hasNewline
-  tests-newline = tests-and (tests-not (tests-eq q backquote)) (tests-has lineFeed (innerOf xs))
-
   tests-escape : Tests (hasEscape q (innerOf xs)) (WithEscape xs)
   unfolding hasEscape
   tests-escape = tests-and (tests-not (tests-eq q backquote)) (tests-has backslash (innerOf xs))
 
-  tests-literal : Tests (isBadLiteral xs) (BadLiteral xs)
+  pub tests-literal : Tests (isBadLiteral xs) (BadLiteral xs)
   tests-literal =
-      let t = tests-or tests-open (tests-or tests-newline (tests-bad (tilesOf q (innerOf xs)))) in
+      let t = tests-or tests-open (tests-or (tests-newline xs) (tests-bad (tilesOf q (innerOf xs)))) in
       ((λ e. flat (t .0 e)), λ b. t .1 (nested b))
     where
       flat : {A B C D E : Type 0} → (A ⊎ (B ⊎ C)) ⊎ (D ⊎ E) → A ⊎ (B ⊎ (C ⊎ (D ⊎ E)))
@@ -109,7 +92,7 @@ module _ (r : Reading) (room : ℕ) (xs : List ℕ) where
   abbrev given : Row → Unquoting
   given long = Refused tooLong
   given broken = Refused (notUtf8 (placeAt xs (prefixEnd xs)))
-  given bad = Refused badLiteral
+  given bad = Refused (badLiteral xs (faultOf xs))
   given short = Refused noRoom
   given inner = Inner (length (innerOf xs))
   given written = Written (length (unquoted r xs))
@@ -142,16 +125,38 @@ module _ (r : Reading) (room : ℕ) (xs : List ℕ) where
   some (no l) (yes w) (no b) (yes e) (yes d) = (short, ((l, w), b, e, d))
   some (no l) (yes w) (no b) (yes e) (no d) = (written, ((l, w), b, e, d))
 
+  which : (w : Row) × Holds w
+  which =
+      some (decLt textLimit (length xs)) (ℕ-discrete (prefixEnd xs) (length xs)) (decided (tests-literal xs)) (decided (tests-escape xs)) (decLt room (length (unquoted r xs)))
+
   only : (w : Row) → unquotingOf r room xs ≡ given w → Holds w
-  only w e =
-      let v = some (decLt textLimit (length xs)) (ℕ-discrete (prefixEnd xs) (length xs)) (decided (tests-literal xs)) (decided (tests-escape xs)) (decLt room (length (unquoted r xs))) in
-      exactly rowOf given back Holds (v .0) (v .1) (gives (v .0) (v .1)) w e
+  only w e = exactly rowOf given back Holds (which .0) (which .1) (gives (which .0) (which .1)) w e
+
+  -- 40 is given at one place
+  abbrev byteOf : Unquoting → ℕ
+  byteOf (Inner n) = 0
+  byteOf (Written n) = 0
+  byteOf (Refused s) = s .place .byte .0
+
+  bad-given : (p : ℕ) → unquotingOf r room xs ≡ Refused (badLiteral xs p) ↔ Taken textLimit xs × ((f : Fault) × FaultAt f xs p)
+  bad-given p = (to, from)
+    where
+      to : unquotingOf r room xs ≡ Refused (badLiteral xs p) → Taken textLimit xs × ((f : Fault) × FaultAt f xs p)
+      to e =
+          let w = sym (back (which .0)) ∙ ap rowOf (sym (gives (which .0) (which .1)) ∙ e) in
+          let h = subst Holds w (which .1) in
+          let (f, (o, a)) = faults-bad xs (h .0 .1) .0 (h .1) in
+          let s : faultOf xs ≡ p = ap byteOf (sym (gives bad h) ∙ e) in
+          (h .0, (f, subst (FaultAt f xs) (tells xs f o a .1 ∙ s) a))
+
+      from : Taken textLimit xs × ((f : Fault) × FaultAt f xs p) → unquotingOf r room xs ≡ Refused (badLiteral xs p)
+      from (t, (f, a)) = gives bad (t, faults-bad xs (t .1) .1 (f, (p, a))) ∙ ap (λ (o : ℕ). Refused (badLiteral xs o)) (sym (tells xs f p a .1))
 
 pub unquoting-given : UnquotingGiven
 unquoting-given r room xs = (
   (only r room xs long, gives r room xs long),
   (only r room xs broken, gives r room xs broken),
-  (only r room xs bad, gives r room xs bad),
+  bad-given r room xs,
   (only r room xs short, gives r room xs short),
   (only r room xs inner, gives r room xs inner),
   (only r room xs written, gives r room xs written),

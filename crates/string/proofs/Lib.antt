@@ -3,6 +3,8 @@ pub mod Plain
 pub mod Literals
 pub mod Readings
 pub mod Back
+pub mod Faults
+pub mod Before
 pub mod There
 pub mod Given
 pub mod Answers

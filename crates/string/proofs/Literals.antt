@@ -1,16 +1,18 @@
 -- What a literal comes to, by the tests in their order. A literal of UTF-8 that its signs enclose has UTF-8 between them, since the signs
 -- are ASCII; so where it has no escape, the sign alone can be bad in it (`Plain`).
 use Prim.Native.Nat.{ℕ, suc, _-_, _<_, _≤_}
+use native.Mathlib.Numerals.{add-one}
 use native.Mathlib.Omega.{arith}
-use mathlib.Core.Bool.{Bool, true, false, _&&_, _||_, not}
-use mathlib.Core.List.{List, [], _∷_}
-use mathlib.Core.Path.{_≡_, refl}
+use mathlib.Core.Bool.{Bool, true, false, cond, _&&_, _||_, not}
+use mathlib.Core.List.{List, [], _∷_, _++_}
+use mathlib.Core.Path.{_≡_, refl, ap}
 use lib.Dec.{eqb, leb}
-use lib.ListN.{length, take, drop, getD}
-use borrow.Author.Tests.{eqb-true, leb-true, not-false}
+use lib.ListN.{length, take, drop, getD, length-take, length-append}
+use lib.Seq.{take-append-seam, getD-append-seam}
+use borrow.Author.Tests.{eqb-true, leb-true, not-false, lt-leb, le-leb, lt-ltb, le-ltb}
 use Rattle.scan.specs.Text.{has}
 use Rattle.scan.specs.Byte.{end, peekAt, backquote, doubleQuote, singleQuote, isQuote}
-use Rattle.proving.proofs.Choice.{and-left, and-right}
+use Rattle.proving.proofs.Choice.{either, and-left, and-right}
 use Rattle.scan.proofs.byte.Classes.{below-not}
 use Rattle.proving.proofs.Lists.{getD-any}
 use Rattle.utf8.specs.declared.CharNumber.{CharNumber}
@@ -24,9 +26,10 @@ use Rattle.utf8.proofs.Cuts.{text-cut, boundary}
 use Rattle.string.specs.declared.Extent.{Extent}
 use Rattle.string.specs.declared.Extent.the-variants as extent
 use Rattle.string.specs.declared.Unquoting.the-variants.{Refused}
-use Rattle.string.specs.Tiles.{tilesOf, hasBad}
-use Rattle.string.specs.Literal.{signOf, innerOf, isEnclosed, hasNewline, isBadLiteral, hasEscape, extentOf, unquotingBy, unquotingOf}
-use Rattle.string.specs.steps.Measure.{tilesExtent}
+use Rattle.string.specs.Tiles.{tilesOf, hasBad, goodSize}
+use Rattle.string.specs.Literal.{lineFeed, signOf, innerOf, isEnclosed, hasNewline, isBadLiteral, firstOf, faultOf, hasEscape, unquoted, extentOf, unquotingBy, unquotingOf}
+use Rattle.string.specs.steps.Measure.{tilesExtent, contentExtent, behindSign, faultIn, leftIn}
+use Rattle.string.proofs.Contents.{good-within}
 use Rattle.string.proofs.Plain.{neither, unescaped}
 
 pub quote-ascii : (c : ℕ) → isQuote c ≡ true → c < 0x80
@@ -37,6 +40,12 @@ quote-ascii c = go (eqb c doubleQuote) refl (eqb c singleQuote) refl
     go true a t b e = omega (arith, eqb-true c doubleQuote a)
     go false a true b e = omega (arith, eqb-true c singleQuote b)
     go false a false b e = omega (arith, eqb-true c backquote e)
+
+-- where a byte first stands is within the text
+first-within : (c : ℕ) (ys : List ℕ) → firstOf c ys ≤ length ys
+unfolding firstOf
+first-within c [] = omega arith
+first-within c (y ∷ ys) = either (λ (k : ℕ). k ≤ suc (length ys)) (eqb y c) (λ e. omega arith) (λ e. omega (arith, first-within c ys))
 
 -- what encloses a literal
 module _ (xs : List ℕ) (e : isEnclosed xs ≡ true) where
@@ -54,12 +63,21 @@ module _ (xs : List ℕ) (e : isEnclosed xs ≡ true) where
   last : peekAt xs (length xs - 1) ≡ signOf xs
   last = eqb-true (peekAt xs (length xs - 1)) (signOf xs) (and-left (eqb (peekAt xs (length xs - 1)) (signOf xs)) (isQuote (signOf xs)) signs)
 
-  -- the first byte and the part between, as the code takes them
-  pub sign-is : getD xs 0 0 ≡ signOf xs
-  sign-is = getD-any xs 0 0 end (omega (arith, two))
+-- what stands between two signs, or as it were
+pub record Closed (x : ℕ) (ys : List ℕ) : Type 0 where
+  pub two : 2 ≤ length (x ∷ ys ++ (x ∷ []))
+  pub inner : innerOf (x ∷ ys ++ (x ∷ [])) ≡ ys
+  pub last : peekAt (x ∷ ys ++ (x ∷ [])) (length (x ∷ ys ++ (x ∷ [])) - 1) ≡ x
 
-  pub cut-is : take (length xs - 1 - 1) (drop 1 xs) ≡ innerOf xs
-  cut-is = let k : length xs - 1 - 1 ≡ length xs - 2 = omega arith in rw k
+pub closed-is : (x : ℕ) (ys : List ℕ) → Closed x ys
+closed-is x ys =
+    let l = length-append ys (x ∷ []) in
+    let k : suc (length (ys ++ (x ∷ []))) - 2 ≡ length ys = omega arith in
+    let j : suc (length (ys ++ (x ∷ []))) - 1 ≡ suc (length ys) = omega arith in
+    record { two = omega arith; inner = rw k (take-append-seam ys (x ∷ [])); last = rw j (getD-append-seam ys x [] end) }
+
+pub inner-few : (xs : List ℕ) → length (innerOf xs) ≤ length xs - 2
+inner-few xs = omega (arith, length-take (length xs - 2) (drop 1 xs))
 
 -- the text between ASCII signs
 pub inner-well : (xs : List ℕ) → isEnclosed xs ≡ true → WellFormed xs → WellFormed (innerOf xs)
@@ -81,33 +99,82 @@ inner-well (x ∷ xs) e w =
         let j : suc (suc (length ys)) - 1 ≡ suc (length ys) = omega arith in
         rw k (rw j at p)
 
--- each way through the tests
+-- each way through the tests of a content
+module _ (r : Reading) (q : ℕ) (h : q < 0x80) (ys : List ℕ) where
+  pub newline : hasNewline q ys ≡ true → extent.Bad (firstOf lineFeed ys) ≡ contentExtent r q ys
+  unfolding contentExtent
+  newline b = rw b
+
+  module _ (b : hasNewline q ys ≡ false) where
+    pub measured-is : hasEscape q ys ≡ true → tilesExtent r (tilesOf q ys) ≡ contentExtent r q ys
+    unfolding contentExtent tilesExtent
+    measured-is s = rw (b, s)
+
+    module _ (s : hasEscape q ys ≡ false) (w : WellFormed ys) where
+      pub sign-inside : has q ys ≡ true → extent.Bad (firstOf q ys) ≡ contentExtent r q ys
+      unfolding contentExtent
+      sign-inside t = let u = unescaped q h r ys w s in rw (b, u .0, t, u .1)
+
+      pub as-it-stands : has q ys ≡ false → extent.Text false (length ys) ≡ contentExtent r q ys
+      unfolding contentExtent
+      as-it-stands t = let u = unescaped q h r ys w s in rw (b, u .0, t, s)
+
+  -- it goes wrong within it
+  pub fault-within : faultIn (contentExtent r q ys) ≤ length ys
+  unfolding contentExtent
+  fault-within =
+      let P : Extent → Type 0 = λ e. faultIn e ≤ length ys in
+      either P (hasNewline q ys) (λ e. first-within lineFeed ys)
+      (λ e. either P (hasBad (tilesOf q ys)) (λ e. good-within q h ys)
+      (λ e. either P (hasEscape q ys) (λ e. omega arith) (λ e. omega arith)))
+
+-- the sign before a content changes nothing of what is left of the buffer
+pub left-behind : (e : Extent) (ys d : List ℕ) → leftIn e ys d ≡ leftIn (behindSign e) ys d
+left-behind (extent.Text b n) ys d = refl
+left-behind (extent.Bad at) ys d = refl
+
+-- the first byte, the last and the part between, as the code takes them
+module _ (xs : List ℕ) (l : 2 ≤ length xs) where
+  pub sign-is : getD xs 0 0 ≡ signOf xs
+  sign-is = getD-any xs 0 0 end (omega arith)
+
+  pub last-is : getD xs (length xs - 1) 0 ≡ peekAt xs (length xs - 1)
+  last-is = getD-any xs (length xs - 1) 0 end (omega arith)
+
+  pub cut-is : take (length xs - 1 - 1) (drop 1 xs) ≡ innerOf xs
+  cut-is = let k : length xs - 1 - 1 ≡ length xs - 2 = omega arith in rw k
+
+  pub encloses : eqb (peekAt xs (length xs - 1)) (signOf xs) ≡ true → isQuote (signOf xs) ≡ true → isEnclosed xs ≡ true
+  unfolding isEnclosed
+  encloses d s = rw (le-leb 2 (length xs) l, d, s)
+
+-- each way through the tests of a literal
 module _ (r : Reading) (xs : List ℕ) where
-  pub not-enclosed : isEnclosed xs ≡ false → extent.Bad ≡ extentOf r xs
-  unfolding extentOf
-  not-enclosed e = rw e
+  pub short : length xs < 2 → extent.Bad 0 ≡ extentOf r xs
+  unfolding extentOf isEnclosed faultOf
+  short l = rw (lt-leb 2 (length xs) l, lt-ltb (length xs) 2 l)
 
-  module _ (e : isEnclosed xs ≡ true) where
-    pub newline : hasNewline (signOf xs) (innerOf xs) ≡ true → extent.Bad ≡ extentOf r xs
-    unfolding extentOf
-    newline b = rw (e, b)
+  module _ (l : 2 ≤ length xs) where
+    pub differ : eqb (peekAt xs (length xs - 1)) (signOf xs) ≡ false → extent.Bad (length xs - 1) ≡ extentOf r xs
+    unfolding extentOf isEnclosed faultOf
+    differ d = rw (le-leb 2 (length xs) l, le-ltb (length xs) 2 l, d)
 
-    module _ (b : hasNewline (signOf xs) (innerOf xs) ≡ false) where
-      pub measured-is : hasEscape (signOf xs) (innerOf xs) ≡ true → tilesExtent r (tilesOf (signOf xs) (innerOf xs)) ≡ extentOf r xs
-      unfolding extentOf tilesExtent
-      measured-is s = rw (e, b, s)
+    module _ (d : eqb (peekAt xs (length xs - 1)) (signOf xs) ≡ true) where
+      pub no-sign : isQuote (signOf xs) ≡ false → extent.Bad 0 ≡ extentOf r xs
+      unfolding extentOf isEnclosed faultOf
+      no-sign s = rw (le-leb 2 (length xs) l, le-ltb (length xs) 2 l, d, s)
 
-      module _ (s : hasEscape (signOf xs) (innerOf xs) ≡ false) (w : WellFormed xs) where
-        bare : hasBad (tilesOf (signOf xs) (innerOf xs)) ≡ has (signOf xs) (innerOf xs)
-        bare = unescaped (signOf xs) (sign-ascii xs e) r (innerOf xs) (inner-well xs e w) s .0
-
-        pub sign-inside : has (signOf xs) (innerOf xs) ≡ true → extent.Bad ≡ extentOf r xs
-        unfolding extentOf
-        sign-inside t = rw (e, b, bare, t)
-
-        pub as-it-stands : has (signOf xs) (innerOf xs) ≡ false → extent.Text false (length (innerOf xs)) ≡ extentOf r xs
-        unfolding extentOf
-        as-it-stands t = rw (e, b, bare, t, s)
+      pub content-is : isQuote (signOf xs) ≡ true → behindSign (contentExtent r (signOf xs) (innerOf xs)) ≡ extentOf r xs
+      unfolding extentOf isEnclosed faultOf contentExtent
+      content-is s =
+          rw (le-leb 2 (length xs) l, le-ltb (length xs) 2 l, d, s)
+          (go _ _ _ _ (hasNewline (signOf xs) (innerOf xs)) (hasBad (tilesOf (signOf xs) (innerOf xs))) (hasEscape (signOf xs) (innerOf xs)))
+        where
+          go : (n g k l : ℕ) (a b c : Bool) → behindSign (cond a (extent.Bad n) (cond b (extent.Bad g) (cond c (extent.Text true k) (extent.Text false l)))) ≡ cond (a || b) (extent.Bad (cond a (suc n) (suc g))) (cond c (extent.Text true k) (extent.Text false l))
+          go n g k l true b c = ap (λ (i : ℕ). extent.Bad i) (add-one n)
+          go n g k l false true c = ap (λ (i : ℕ). extent.Bad i) (add-one g)
+          go n g k l false false true = refl
+          go n g k l false false false = refl
 
 -- a literal that is not bad
 pub record Sound (xs : List ℕ) : Type 0 where
@@ -127,6 +194,6 @@ module _ (r : Reading) (room : ℕ) (xs : List ℕ) where
   unfolding unquotingOf
   refused-first s a = rw a
 
-  pub by-extent : (n : CharNumber) (e : Extent) → admitted textLimit xs ≡ admission.Admitted n → extentOf r xs ≡ e → unquotingBy room e ≡ unquotingOf r room xs
+  pub by-extent : (n : CharNumber) (e : Extent) → admitted textLimit xs ≡ admission.Admitted n → extentOf r xs ≡ e → unquotingBy room xs e ≡ unquotingOf r room xs
   unfolding unquotingOf
   by-extent n e a x = rw (a, x)

@@ -1,6 +1,6 @@
 -- A content without escapes stands for itself: each of its characters is a tile, which gives the character's bytes, unless it is the sign.
 -- The sign and the backslash are ASCII, so neither stands inside a longer character.
-use Prim.Native.Nat.{ℕ, suc, _<_, _≤_}
+use Prim.Native.Nat.{ℕ, suc, _+_, _<_, _≤_}
 use native.Mathlib.Omega.{arith}
 use native.Mathlib.Decide.{decLt, ℕ-discrete}
 use mathlib.Core.Bool.{Bool, true, false, _&&_, _||_, not, and-or-distrib-left, true≢false}
@@ -22,8 +22,8 @@ use Rattle.utf8.proofs.Laws.{none-empty, rest-well, none-ascii}
 use Rattle.string.specs.declared.tile.Form.the-variants.{Plain}
 use Rattle.string.specs.declared.tile.Tile.the-variants.{Piece, Bad}
 use Rattle.string.specs.Tile.{beginsEscape, tileOf}
-use Rattle.string.specs.Tiles.{tilesOf, hasBad, givesByte, pieceBytes, bytesOf}
-use Rattle.string.specs.Literal.{hasEscape}
+use Rattle.string.specs.Tiles.{tilesOf, hasBad, goodSize, givesByte, pieceBytes, bytesOf}
+use Rattle.string.specs.Literal.{firstOf, hasEscape}
 use Rattle.string.proofs.escape.Escapes.{back}
 use Rattle.string.proofs.Contents.{tiles-none, first-piece, first-bad}
 
@@ -40,7 +40,7 @@ module _ (q : ℕ) (h : q < 0x80) (bs ys : List ℕ) (o : One bs) where
   some : 0 < length (bs ++ ys)
   some = omega (arith, length-append bs ys, o .some)
 
-  pub sign-bad : peekAt bs 0 ≡ q → hasBad (tilesOf q (bs ++ ys)) ≡ true
+  sign-bad : peekAt bs 0 ≡ q → (hasBad (tilesOf q (bs ++ ys)) ≡ true) × (goodSize (tilesOf q (bs ++ ys)) ≡ 0)
   sign-bad e = first-bad q h (bs ++ ys) some (tile (first ∙ e))
     where
       tile : peekAt (bs ++ ys) 0 ≡ q → tileOf q (bs ++ ys) ≡ Bad
@@ -58,9 +58,17 @@ module _ (q : ℕ) (h : q < 0x80) (bs ys : List ℕ) (o : One bs) where
     unfolding hasBad
     plain-bad = rw plain-tiles
 
+    plain-good : goodSize (tilesOf q (bs ++ ys)) ≡ length bs + goodSize (tilesOf q ys)
+    unfolding goodSize
+    plain-good = rw plain-tiles
+
     pub plain-bytes : (r : Reading) → bytesOf r (tilesOf q (bs ++ ys)) ≡ bs ++ bytesOf r (tilesOf q ys)
     unfolding bytesOf pieceBytes
     plain-bytes r = rw (plain-tiles, as-it-is r, back bs o)
+
+pub neither : (a b : Bool) → a || b ≡ false → (a ≡ false) × (b ≡ false)
+neither true b e = absurd (true≢false e)
+neither false b e = (refl, e)
 
 -- where a byte stands in joined lists
 pub has-join : (c : ℕ) (xs ys : List ℕ) → has c (xs ++ ys) ≡ has c xs || has c ys
@@ -87,6 +95,14 @@ has-not c h bs o n = go bs o n (decLt 1 (length bs))
     go (b ∷ []) o n (no l) = unfold has in rw (ne-eqb b c n)
     go (b ∷ b₂ ∷ bs) o n (no l) = let f : ⊥ = omega arith in absurd f
 
+-- a byte that does not stand in a list first stands behind it
+first-behind : (c : ℕ) (xs ys : List ℕ) → has c xs ≡ false → firstOf c (xs ++ ys) ≡ length xs + firstOf c ys
+unfolding has firstOf
+first-behind c [] ys n = omega arith
+first-behind c (x ∷ xs) ys n =
+    let b = neither (eqb x c) (has c xs) n in
+    rw (b .0) (omega (arith, first-behind c xs ys (b .1)))
+
 -- an escape stands in joined contents where it stands in one of them, and where a byte begins one
 escape-join : (q : ℕ) (xs ys : List ℕ) → hasEscape q (xs ++ ys) ≡ hasEscape q xs || hasEscape q ys
 unfolding hasEscape
@@ -101,17 +117,13 @@ escape-begun q x xs = go (eqb x backslash) (not (eqb q backquote))
     go true false e = e
     go false t e = absurd (true≢false (sym e))
 
-pub neither : (a b : Bool) → a || b ≡ false → (a ≡ false) × (b ≡ false)
-neither true b e = absurd (true≢false e)
-neither false b e = (refl, e)
-
 module _ (q : ℕ) (h : q < 0x80) (r : Reading) where
   abbrev Unescaped : List ℕ → Type 0
-  Unescaped ys = WellFormed ys → hasEscape q ys ≡ false → (hasBad (tilesOf q ys) ≡ has q ys) × (has q ys ≡ false → bytesOf r (tilesOf q ys) ≡ ys)
+  Unescaped ys = WellFormed ys → hasEscape q ys ≡ false → (hasBad (tilesOf q ys) ≡ has q ys) × (goodSize (tilesOf q ys) ≡ firstOf q ys) × (has q ys ≡ false → bytesOf r (tilesOf q ys) ≡ ys)
 
   at-end : Unescaped []
-  unfolding hasBad bytesOf has
-  at-end w e = rw (tiles-none q) (refl, λ n. refl)
+  unfolding hasBad goodSize bytesOf has firstOf
+  at-end w e = rw (tiles-none q) (refl, refl, λ n. refl)
 
   more : (bs ys : List ℕ) → One bs → Unescaped ys → Unescaped (bs ++ ys)
   more [] ys o ih w e = let f : ⊥ = omega (arith, o .some) in absurd f
@@ -120,15 +132,21 @@ module _ (q : ℕ) (h : q < 0x80) (r : Reading) where
       parts : (hasEscape q (b ∷ bs) ≡ false) × (hasEscape q ys ≡ false)
       parts = neither (hasEscape q (b ∷ bs)) (hasEscape q ys) (sym (escape-join q (b ∷ bs) ys) ∙ e)
 
-      go : Dec (b ≡ q) → (t : Bool) → beginsEscape q b ≡ t → (hasBad (tilesOf q (b ∷ bs ++ ys)) ≡ has q (b ∷ bs ++ ys)) × (has q (b ∷ bs ++ ys) ≡ false → bytesOf r (tilesOf q (b ∷ bs ++ ys)) ≡ b ∷ bs ++ ys)
+      go : Dec (b ≡ q) → (t : Bool) → beginsEscape q b ≡ t → (hasBad (tilesOf q (b ∷ bs ++ ys)) ≡ has q (b ∷ bs ++ ys)) × (goodSize (tilesOf q (b ∷ bs ++ ys)) ≡ firstOf q (b ∷ bs ++ ys)) × (has q (b ∷ bs ++ ys) ≡ false → bytesOf r (tilesOf q (b ∷ bs ++ ys)) ≡ b ∷ bs ++ ys)
       go (yes s) t u =
           let a : has q (b ∷ bs ++ ys) ≡ true = unfold has in rw (eq-eqb b q s) in
-          (sign-bad q h (b ∷ bs) ys o s ∙ sym a, λ n. absurd (true≢false (sym a ∙ n)))
+          let f : firstOf q (b ∷ bs ++ ys) ≡ 0 = unfold firstOf in rw (eq-eqb b q s) in
+          let z = sign-bad q h (b ∷ bs) ys o s in
+          (z .0 ∙ sym a, z .1 ∙ sym f, λ n. absurd (true≢false (sym a ∙ n)))
       go (no s) true u = absurd (true≢false (sym (escape-begun q b bs u) ∙ parts .0))
       go (no s) false u =
           let i = ih (rest-well (b ∷ bs) ys o w) (parts .1) in
-          let a : has q (b ∷ bs ++ ys) ≡ has q ys = has-join q (b ∷ bs) ys ∙ rw (has-not q h (b ∷ bs) o s) in
-          (plain-bad q h (b ∷ bs) ys o s u ∙ i .0 ∙ sym a, λ n. plain-bytes q h (b ∷ bs) ys o s u r ∙ ap (λ (t : List ℕ). b ∷ bs ++ t) (i .1 (sym a ∙ n)))
+          let none = has-not q h (b ∷ bs) o s in
+          let a : has q (b ∷ bs ++ ys) ≡ has q ys = has-join q (b ∷ bs) ys ∙ rw none in (
+            plain-bad q h (b ∷ bs) ys o s u ∙ i .0 ∙ sym a,
+            omega (arith, plain-good q h (b ∷ bs) ys o s u, i .1, first-behind q (b ∷ bs) ys none),
+            λ n. plain-bytes q h (b ∷ bs) ys o s u r ∙ ap (λ (t : List ℕ). b ∷ bs ++ t) (i .2 (sym a ∙ n)),
+          )
 
   pub unescaped : (ys : List ℕ) → Unescaped ys
   unescaped = by-characters Unescaped (λ xs e w. rw (none-empty xs e w) (at-end (rw (none-empty xs e w) at w))) more

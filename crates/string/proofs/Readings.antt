@@ -26,7 +26,7 @@ use Rattle.string.specs.declared.Extent.{Extent}
 use Rattle.string.specs.declared.Extent.the-variants as extent
 use Rattle.string.specs.declared.Unquoting.the-variants.{Written, Refused}
 use Rattle.string.specs.Tiles.{tilesOf, pieceBytes, bytesOf}
-use Rattle.string.specs.Literal.{signOf, innerOf, isBadLiteral, hasEscape, unquoted, extentOf, unquotingBy, unquotingAs, unquotingOf, textBy, partOf}
+use Rattle.string.specs.Literal.{signOf, innerOf, isBadLiteral, faultOf, hasEscape, unquoted, extentOf, unquotingBy, unquotingAs, unquotingOf, textBy, partOf}
 use Rattle.string.specs.laws.ReadBack.{isRead, PartIsText, GoodRead, hasHighByte, ReadingsAgree}
 use Rattle.string.proofs.Plain.{neither, unescaped}
 use Rattle.string.proofs.Literals.{Sound, sound, two, sign-ascii, inner-well}
@@ -35,11 +35,11 @@ use Rattle.string.proofs.Literals.{Sound, sound, two, sign-ascii, inner
 pub as-between : (r : Reading) (xs : List ℕ) → WellFormed xs → Sound xs → hasEscape (signOf xs) (innerOf xs) ≡ false → unquoted r xs ≡ innerOf xs
 as-between r xs w s e =
     let u = unescaped (signOf xs) (sign-ascii xs (s .enclosed)) r (innerOf xs) (inner-well xs (s .enclosed) w) e in
-    u .1 (sym (u .0) ∙ s .good)
+    u .2 (sym (u .0) ∙ s .good)
 
 module _ (r : Reading) (xs d : List ℕ) (w : WellFormed xs) where
   abbrev Named : Extent → Type 0
-  Named e = let u = unquotingBy (length d) e in isRead u ≡ true → partOf u xs (textBy u (unquoted r xs) d) ≡ unquoted r xs
+  Named e = let u = unquotingBy (length d) xs e in isRead u ≡ true → partOf u xs (textBy u (unquoted r xs) d) ≡ unquoted r xs
 
   between : Sound xs → hasEscape (signOf xs) (innerOf xs) ≡ false → Named (extent.Text false (length (innerOf xs)))
   unfolding partOf
@@ -65,7 +65,7 @@ module _ (r : Reading) (xs d : List ℕ) (w : WellFormed xs) where
   unfolding extentOf
   named = go (isBadLiteral xs) refl (hasEscape (signOf xs) (innerOf xs)) refl
     where
-      go : (s : Bool) → isBadLiteral xs ≡ s → (t : Bool) → hasEscape (signOf xs) (innerOf xs) ≡ t → Named (cond s extent.Bad (cond t (extent.Text true (length (unquoted r xs))) (extent.Text false (length (innerOf xs)))))
+      go : (s : Bool) → isBadLiteral xs ≡ s → (t : Bool) → hasEscape (signOf xs) (innerOf xs) ≡ t → Named (cond s (extent.Bad (faultOf xs)) (cond t (extent.Text true (length (unquoted r xs))) (extent.Text false (length (innerOf xs)))))
       go true a t b h = absurd (true≢false (sym h))
       go false a true b h = written h
       go false a false b h = between (sound xs a) b h
@@ -83,7 +83,7 @@ pub good-read : GoodRead
 unfolding unquotingOf extentOf
 good-read r room xs t b h = rw (given-exactly textLimit xs .2 .1 t, b) (go (hasEscape (signOf xs) (innerOf xs)))
   where
-    go : (e : Bool) → isRead (unquotingBy room (cond e (extent.Text true (length (unquoted r xs))) (extent.Text false (length (innerOf xs))))) ≡ true
+    go : (e : Bool) → isRead (unquotingBy room xs (cond e (extent.Text true (length (unquoted r xs))) (extent.Text false (length (innerOf xs))))) ≡ true
     go true = rw (le-leb (length (unquoted r xs)) room h)
     go false = refl
 
@@ -116,5 +116,5 @@ readings-agree xs e = (s, λ room. go room (admitted textLimit xs))
     s = same-bytes (tilesOf (signOf xs) (innerOf xs)) e
 
     go : (room : ℕ) (a : Admission) → unquotingAs Crate room xs a ≡ unquotingAs Documented room xs a
-    go room (admission.Admitted n) = ap (unquotingBy room) (same-extent xs s)
+    go room (admission.Admitted n) = ap (unquotingBy room xs) (same-extent xs s)
     go room (admission.Refused t) = refl

@@ -21,8 +21,8 @@ use Rattle.string.specs.Letters.{lookedUp, letterValue}
 use Rattle.string.specs.Tile.{amountFrom, isAllowed, numbered, escapeOf, beginsEscape, tileOf}
 use Rattle.string.specs.declared.Unquoting.{Unquoting}
 use Rattle.string.specs.declared.Unquoting.the-variants.{Inner, Written, Refused}
-use Rattle.string.specs.Tiles.{tilesPast, hasBad, pieceBytes, bytesOf}
-use Rattle.string.specs.Literal.{isEnclosed, hasNewline, hasEscape, unquoted, extentOf, unquotingOf, textBy, partOf, notUnquoted}
+use Rattle.string.specs.Tiles.{tilesPast, hasBad, goodSize, pieceBytes, bytesOf}
+use Rattle.string.specs.Literal.{isEnclosed, hasNewline, firstOf, faultOf, hasEscape, unquoted, extentOf, unquotingOf, textBy, partOf, notUnquoted}
 use Rattle.utf8.specs.declared.Refusal.{Refusal}
 use Rattle.string.proofs.Given.{unquoting-given}
 use Rattle.string.proofs.unquote_string.Kinds as unquote-string
@@ -38,32 +38,68 @@ unquote-string-gives xs r room v =
     Answers unquote-string.ps unquote-string.r unquote-string-reads.Post (λ κs a. (now (a .0) ≡ xs) × (a .1 .0 ≡ r) × (length (now (a .1 .1 .0)) ≡ room)) (λ κs. v)
 
 unquote-string-at : (xs : List ℕ) (r : Reading) (room : ℕ) → unquote-string-gives xs r room (unquotingOf r room xs)
-unfolding unquotingOf extentOf isEnclosed isQuote hasNewline hasEscape has tilesPast hasBad bytesOf pieceBytes tileOf beginsEscape escapeOf letterValue lookedUp numbered amountFrom isDigitIn isHexDigit digitOf isAllowed isScalar encoded sixBits characterAt admitted validityOf charNumber begunIn charsPast sizeOf charLength sizeIn fits codeOf isWithin
+unfolding unquotingOf extentOf faultOf firstOf goodSize isEnclosed isQuote hasNewline hasEscape has tilesPast hasBad bytesOf pieceBytes tileOf beginsEscape escapeOf letterValue lookedUp numbered amountFrom isDigitIn isHexDigit digitOf isAllowed isScalar encoded sixBits characterAt admitted validityOf charNumber begunIn charsPast sizeOf charLength sizeIn fits codeOf isWithin
 unquote-string-at xs r room κs a x e p h = cc (p .0, h .0, h .1, h .2)
+
+abbrev bad-at : ℕ → ℕ → Refusal
+bad-at byte character = record { number = 40; place = place byte character }
 
 pub text-without-escapes-stays-in-the-literal : unquote-string-gives (ascii "'a'") Crate 0 (Inner 1)
 unfolding unquote-string-at
 text-without-escapes-stays-in-the-literal = unquote-string-at _ _ _
 
-pub newline-between-quotes-is-bad : unquote-string-gives (ascii "'\n'") Crate 0 (Refused (atStart 40))
-unfolding unquote-string-at
-newline-between-quotes-is-bad = unquote-string-at _ _ _
-
 pub newline-between-backquotes-is-taken : unquote-string-gives (ascii "`\n`") Crate 0 (Inner 1)
 unfolding unquote-string-at
 newline-between-backquotes-is-taken = unquote-string-at _ _ _
 
-pub sign-between-signs-is-bad : unquote-string-gives (ascii "'''") Crate 0 (Refused (atStart 40))
+-- the place of 40, by document 02: its six cases
+pub literal-of-one-sign-is-bad-at-0 : unquote-string-gives (ascii "'") Crate 0 (Refused (bad-at 0 0))
 unfolding unquote-string-at
-sign-between-signs-is-bad = unquote-string-at _ _ _
+literal-of-one-sign-is-bad-at-0 = unquote-string-at _ _ _
 
-pub one-sign-is-no-literal : unquote-string-gives (ascii "'") Crate 0 (Refused (atStart 40))
+pub signs-that-differ-are-bad-at-the-last-byte : unquote-string-gives (ascii "'a`") Crate 0 (Refused (bad-at 2 2))
 unfolding unquote-string-at
-one-sign-is-no-literal = unquote-string-at _ _ _
+signs-that-differ-are-bad-at-the-last-byte = unquote-string-at _ _ _
 
-pub signs-that-differ-are-no-literal : unquote-string-gives (ascii "'a`") Crate 0 (Refused (atStart 40))
+pub last-byte-of-a-longer-character-is-named : unquote-string-gives (ascii "'" ++ (0xc3 ∷ 0xa9 ∷ [])) Crate 0 (Refused (bad-at 2 2))
 unfolding unquote-string-at
-signs-that-differ-are-no-literal = unquote-string-at _ _ _
+last-byte-of-a-longer-character-is-named = unquote-string-at _ _ _
+
+pub letters-for-signs-are-bad-at-0 : unquote-string-gives (ascii "aa") Crate 0 (Refused (bad-at 0 0))
+unfolding unquote-string-at
+letters-for-signs-are-bad-at-0 = unquote-string-at _ _ _
+
+pub newline-between-quotes-is-bad-there : unquote-string-gives (ascii "'a\n'") Crate 0 (Refused (bad-at 2 2))
+unfolding unquote-string-at
+newline-between-quotes-is-bad-there = unquote-string-at _ _ _
+
+pub newline-is-named-before-an-escape : unquote-string-gives (ascii "'\\q\n'") Crate 0 (Refused (bad-at 3 3))
+unfolding unquote-string-at
+newline-is-named-before-an-escape = unquote-string-at _ _ _
+
+pub sign-between-signs-is-bad-there : unquote-string-gives (ascii "'a'b'") Crate 0 (Refused (bad-at 2 2))
+unfolding unquote-string-at
+sign-between-signs-is-bad-there = unquote-string-at _ _ _
+
+pub backquote-between-backquotes-is-bad-there : unquote-string-gives (ascii "`a`b`") Crate 0 (Refused (bad-at 2 2))
+unfolding unquote-string-at
+backquote-between-backquotes-is-bad-there = unquote-string-at _ _ _
+
+pub unknown-escape-is-bad-at-its-backslash : unquote-string-gives (ascii "'\\q'") Crate 0 (Refused (bad-at 1 1))
+unfolding unquote-string-at
+unknown-escape-is-bad-at-its-backslash = unquote-string-at _ _ _
+
+pub first-bad-escape-is-named : unquote-string-gives (ascii "'\\q\\x8'") Crate 0 (Refused (bad-at 1 1))
+unfolding unquote-string-at
+first-bad-escape-is-named = unquote-string-at _ _ _
+
+pub backslash-before-the-closing-sign-is-bad : unquote-string-gives (ascii "'\\'") Crate 0 (Refused (bad-at 1 1))
+unfolding unquote-string-at
+backslash-before-the-closing-sign-is-bad = unquote-string-at _ _ _
+
+pub place-is-counted-in-characters : unquote-string-gives (ascii "'" ++ (0xc3 ∷ 0xa9 ∷ ascii "\\q'")) Crate 0 (Refused (bad-at 3 2))
+unfolding unquote-string-at
+place-is-counted-in-characters = unquote-string-at _ _ _
 
 -- the room is just the length
 pub documented-escape-by-x-is-one-byte : unquote-string-gives (ascii "'\\xc3'") Documented 1 (Written 1)

@@ -1,8 +1,9 @@
--- Reading a string literal: document 01, "String literals (003)". The tests stand in the order in which a literal is found bad.
-use Prim.Native.Nat.{ℕ, _-_}
+-- Reading a string literal: document 01, "String literals (003)", and where it goes wrong, document 02, L1. The tests stand in the order in
+-- which a literal is found bad.
+use Prim.Native.Nat.{ℕ, suc, _-_}
 use Prim.Native.Char.{code}
 use mathlib.Core.Bool.{Bool, true, false, cond, _&&_, _||_, not}
-use mathlib.Core.List.{List, [], _++_}
+use mathlib.Core.List.{List, [], _∷_, _++_}
 use lib.Dec.{eqb, leb, ltb}
 use lib.ListN.{length, take, drop}
 use Rattle.scan.specs.Byte.{peekAt, backslash, backquote, isQuote}
@@ -11,12 +12,12 @@ use Rattle.utf8.specs.declared.Admission.{Admission}
 use Rattle.utf8.specs.declared.Admission.the-variants as admission
 use Rattle.utf8.specs.declared.Reading.{Reading}
 use Rattle.utf8.specs.declared.Refusal.{Refusal}
-use Rattle.utf8.specs.Answers.{textLimit, atStart, noRoom, admitted, noRefusal}
+use Rattle.utf8.specs.Answers.{textLimit, refusedAt, noRoom, admitted, noRefusal}
 use Rattle.string.specs.declared.Extent.{Extent}
 use Rattle.string.specs.declared.Extent.the-variants as extent
 use Rattle.string.specs.declared.Unquoting.{Unquoting}
 use Rattle.string.specs.declared.Unquoting.the-variants.{Inner, Written, Refused}
-use Rattle.string.specs.Tiles.{tilesOf, hasBad, bytesOf}
+use Rattle.string.specs.Tiles.{tilesOf, hasBad, goodSize, bytesOf}
 
 abbrev pub lineFeed : ℕ
 lineFeed = code "\n"
@@ -42,6 +43,22 @@ isBadLiteral xs =
     || (hasNewline (signOf xs) (innerOf xs)
     || hasBad (tilesOf (signOf xs) (innerOf xs)))
 
+-- where a byte first stands in a text
+unfoldable pub firstOf : ℕ → List ℕ → ℕ
+firstOf c [] = 0
+firstOf c (x ∷ xs) = cond (eqb x c) 0 (suc (firstOf c xs))
+
+-- where a bad literal goes wrong, document 02, L1: "0 if it has fewer than two bytes; the last byte's offset if it differs from the first; 0 if
+-- they agree but aren't a quote sign; then the first newline between `'` or `"` signs; otherwise the first inner backquote or bare closing sign,
+-- or the backslash of the first bad escape, whichever reading meets first": there the first bad tile begins
+unfoldable pub faultOf : List ℕ → ℕ
+faultOf xs =
+    cond (ltb (length xs) 2) 0
+    (cond (not (eqb (peekAt xs (length xs - 1)) (signOf xs))) (length xs - 1)
+    (cond (not (isQuote (signOf xs))) 0
+    (cond (hasNewline (signOf xs) (innerOf xs)) (suc (firstOf lineFeed (innerOf xs)))
+    (suc (goodSize (tilesOf (signOf xs) (innerOf xs)))))))
+
 -- "A literal with no escape": a backquoted one, or one without a backslash
 unfoldable pub hasEscape : ℕ → List ℕ → Bool
 hasEscape q ys = not (eqb q backquote) && has backslash ys
@@ -53,22 +70,22 @@ unquoted r xs = bytesOf r (tilesOf (signOf xs) (innerOf xs))
 -- "handed back as that part of the literal itself, otherwise as the first bytes of the text buffer"
 unfoldable pub extentOf : Reading → List ℕ → Extent
 extentOf r xs =
-    cond (isBadLiteral xs) extent.Bad
+    cond (isBadLiteral xs) (extent.Bad (faultOf xs))
     (cond (hasEscape (signOf xs) (innerOf xs)) (extent.Text true (length (unquoted r xs)))
     (extent.Text false (length (innerOf xs))))
 
--- 40 "bad literal", without a place
-abbrev pub badLiteral : Refusal
-badLiteral = atStart 40
+-- 40 "bad literal"; "Every 40 shall carry an offset in the literal"
+abbrev pub badLiteral : List ℕ → ℕ → Refusal
+badLiteral xs at = refusedAt xs 40 at
 
 -- "only then can 3 occur"
-abbrev pub unquotingBy : ℕ → Extent → Unquoting
-unquotingBy room (extent.Text false n) = Inner n
-unquotingBy room (extent.Text true n) = cond (leb n room) (Written n) (Refused noRoom)
-unquotingBy room extent.Bad = Refused badLiteral
+abbrev pub unquotingBy : ℕ → List ℕ → Extent → Unquoting
+unquotingBy room xs (extent.Text false n) = Inner n
+unquotingBy room xs (extent.Text true n) = cond (leb n room) (Written n) (Refused noRoom)
+unquotingBy room xs (extent.Bad at) = Refused (badLiteral xs at)
 
 abbrev pub unquotingAs : Reading → ℕ → List ℕ → Admission → Unquoting
-unquotingAs r room xs (admission.Admitted n) = unquotingBy room (extentOf r xs)
+unquotingAs r room xs (admission.Admitted n) = unquotingBy room xs (extentOf r xs)
 unquotingAs r room xs (admission.Refused s) = Refused s
 
 -- refusals 1 and 2, 40, then 3

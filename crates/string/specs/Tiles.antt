@@ -1,7 +1,7 @@
 -- The content of a literal as a list of tiles, and what they give: document 01, "String literals (003)". Of a byte escape the crate
 -- reading gives a code point, and the documented one a byte: Go's specification, "String literals", has it that these escapes "represent
 -- individual bytes of the resulting string", and all others the UTF-8 of a character.
-use Prim.Native.Nat.{ℕ, zero, suc, pred}
+use Prim.Native.Nat.{ℕ, zero, suc, pred, _+_}
 use mathlib.Core.Bool.{Bool, true, false, cond, _||_}
 use mathlib.Core.List.{List, [], _∷_, _++_}
 use Rattle.utf8.specs.declared.Reading.{Reading}
@@ -34,6 +34,11 @@ isBad Bad = true
 unfoldable pub hasBad : List Tile → Bool
 hasBad [] = false
 hasBad (t ∷ ts) = isBad t || hasBad ts
+
+-- how many bytes the tiles have that come before the first bad one
+unfoldable pub goodSize : List Tile → ℕ
+goodSize [] = 0
+goodSize (t ∷ ts) = cond (isBad t) 0 (tileSize t + goodSize ts)
 
 -- "Crate reading: `\x` and octal give a code point. Documented reading: one byte; the rest alike."
 abbrev pub givesByte : Reading → Form → Bool

@@ -15,17 +15,18 @@ use utf8::encode;
 ghost use mathlib.Core.Bool.{true, false};
 ghost use mathlib.Core.List.{[]};
 ghost use mathlib.Core.Path.{_≡_};
-ghost use Prim.Native.Nat.{_+_, _<_, _≤_};
+ghost use Prim.Native.Nat.{_+_, _-_, _^_, _<_, _≤_};
 ghost use lib.ListN.{length, drop};
 ghost use lib.Seq.{sets};
 ghost use Rattle.scan.specs.Text.{has};
+ghost use Rattle.utf8.specs.Text.{WellFormed};
 ghost use Rattle.string.specs.declared.tile.Form.the-variants.{Letter};
 ghost use Rattle.string.specs.declared.tile.Tile.the-variants.{Piece};
 ghost use Rattle.string.specs.Tile.{isAllowed, tileOf};
 ghost use Rattle.string.specs.Tiles.{tilesOf, hasBad, givesByte, pieceBytes, bytesOf};
-ghost use Rattle.string.specs.Literal.{isEnclosed, hasNewline, hasEscape, unquoted, unquotingOf, textBy, partOf, notUnquoted};
+ghost use Rattle.string.specs.Literal.{hasNewline, firstOf, hasEscape, unquoted, extentOf, unquotingOf, textBy, partOf, notUnquoted};
 ghost use Rattle.string.specs.declared.Unquoting.the-variants.{Inner, Written};
-ghost use Rattle.string.specs.steps.Measure.{isPlain, GivesOne, isSingle, tilesExtent, tilesUnquoting};
+ghost use Rattle.string.specs.steps.Measure.{isPlain, GivesOne, isSingle, tilesExtent, contentExtent, behindSign, faultIn, badIn, leftIn};
 
 // Document 01's "bad literal".
 pub const BAD_LITERAL: usize = 40;
@@ -38,10 +39,11 @@ pub enum Unquoting {
     Refused(Refusal),
 }
 
-// What a literal comes to: a text of so many bytes, which are its own where it has no escape; or nothing.
+// What a literal, or its content, comes to: a text of so many bytes, which are its own where it has no escape; or it goes wrong at an
+// offset.
 pub enum Extent {
     Text { escaped: bool, size: usize },
-    Bad,
+    Bad { at: usize },
 }
 
 // A tile that gives one byte: that byte, and how many bytes the tile has; none where it has 0.
@@ -59,18 +61,6 @@ const SHORT: usize = 128;
 
 const LONGER: usize = 4096;
 
-// Whether a literal stands between two quote signs that are the same.
-fn is_enclosed(literal: &[u8]) -> bool
-    ensures { λ r. ⌜ r ≡ isEnclosed (now (literal .entry)) ⌝ }
-{
-    let n = literal.len();
-    if n < SIGNS {
-        return false;
-    }
-    let sign = literal[0];
-    literal[n - 1] == sign && byte::is_quote(sign as usize)
-}
-
 // Whether a text has the byte. All of it is looked at, so that many bytes are at once.
 fn has_byte(s: &[u8], c: u8) -> bool
     ensures { λ r. ⌜ r ≡ has c (now (s .entry)) ⌝ }
@@ -84,6 +74,20 @@ fn has_byte(s: &[u8], c: u8) -> bool
         i += 1;
     }
     found
+}
+
+// Where a byte first stands in a text; its end, where it stands nowhere.
+fn first_of(s: &[u8], c: u8) -> usize
+    ensures { λ r. ⌜ r ≡ firstOf c (now (s .entry)) ⌝ }
+{
+    let mut i = 0;
+    while i < s.len() {
+        if s[i] == c {
+            return i;
+        }
+        i += 1;
+    }
+    i
 }
 
 // Whether there is a line feed where none may be.
@@ -177,7 +181,7 @@ fn piece_size(reading: Reading, form: Form, value: u32) -> usize
     encode::encoded_size(value)
 }
 
-// How many bytes the tiles of a content give.
+// How many bytes the tiles of a content give, or where the first bad one begins.
 fn measure(inner: &[u8], sign: u8, reading: Reading) -> Extent
     requires { ⌜ sign < 0x80 ⌝ }
     ensures { λ r. ⌜ r ≡ tilesExtent reading (tilesOf sign (now (inner .entry))) ⌝ }
@@ -193,7 +197,7 @@ fn measure(inner: &[u8], sign: u8, reading: Reading) -> Extent
         }
         let t = tile::unquote_char(&inner[from..], sign);
         let Tile::Piece { form, value, size } = t else {
-            return Extent::Bad;
+            return Extent::Bad { at: from };
         };
         n += piece_size(reading, form, value);
         from += size;
@@ -222,8 +226,8 @@ fn put_piece(reading: Reading, form: Form, value: u32, out: &mut [u8], at: usize
     at + n
 }
 
-// Writes what the tiles of a content give at the front of a buffer that it fits, and answers how many bytes that is. Where a tile is bad,
-// what the tiles before it give is left there.
+// Writes what the tiles of a content give at the front of a buffer that it fits, and answers how many bytes that is, or where the first bad
+// one begins. What the tiles before that give is left there.
 fn write_pieces(inner: &[u8], sign: u8, reading: Reading, out: &mut [u8]) -> Extent
     requires { ⌜ sign < 0x80 ⌝ }
     requires { ⌜ length (bytesOf reading (tilesOf sign (now inner))) ≤ length (now out) ⌝ }
@@ -242,7 +246,7 @@ fn write_pieces(inner: &[u8], sign: u8, reading: Reading, out: &mut [u8]) -> Ext
         }
         let t = tile::unquote_char(&inner[from..], sign);
         let Tile::Piece { form, value, size } = t else {
-            return Extent::Bad;
+            return Extent::Bad { at: from };
         };
         at = put_piece(reading, form, value, out, at);
         from += size;
@@ -265,45 +269,43 @@ fn copy(text: &[u8], out: &mut [u8])
     }
 }
 
-// The text of a content with escapes, by way of a buffer of one's own that is as long as the content.
-fn read_once(inner: &[u8], sign: u8, reading: Reading, own: &mut [u8], text: &mut [u8]) -> Unquoting
+// Writes the text of a content with escapes where it has room, by way of a buffer of one's own that is as long as the content.
+fn read_once(inner: &[u8], sign: u8, reading: Reading, own: &mut [u8], text: &mut [u8]) -> Extent
     requires { ⌜ (sign < 0x80) × (length (now inner) ≤ length (now own)) ⌝ }
-    ensures { λ r. ⌜ r ≡ tilesUnquoting reading (length (now (text .entry))) (tilesOf sign (now (inner .entry))) ⌝ }
-    ensures { λ r. ⌜ now (text .exit) ≡ textBy r (bytesOf reading (tilesOf sign (now (inner .entry)))) (now (text .entry)) ⌝ }
+    ensures { λ r. ⌜ r ≡ tilesExtent reading (tilesOf sign (now (inner .entry))) ⌝ }
+    ensures { λ r. ⌜ now (text .exit) ≡ leftIn r (bytesOf reading (tilesOf sign (now (inner .entry)))) (now (text .entry)) ⌝ }
 {
     let e = write_pieces(inner, sign, reading, own);
     let Extent::Text { escaped: _, size } = e else {
-        return Unquoting::Refused(utf8::at_start(BAD_LITERAL));
+        return e;
     };
-    if text.len() < size {
-        return Unquoting::Refused(utf8::at_start(utf8::NO_ROOM));
+    if size <= text.len() {
+        copy(&own[..size], text);
     }
-    copy(&own[..size], text);
-    Unquoting::Written(size)
+    e
 }
 
 // The same for a content of any length, which is measured first.
-fn read_twice(inner: &[u8], sign: u8, reading: Reading, text: &mut [u8]) -> Unquoting
+fn read_twice(inner: &[u8], sign: u8, reading: Reading, text: &mut [u8]) -> Extent
     requires { ⌜ sign < 0x80 ⌝ }
-    ensures { λ r. ⌜ r ≡ tilesUnquoting reading (length (now (text .entry))) (tilesOf sign (now (inner .entry))) ⌝ }
-    ensures { λ r. ⌜ now (text .exit) ≡ textBy r (bytesOf reading (tilesOf sign (now (inner .entry)))) (now (text .entry)) ⌝ }
+    ensures { λ r. ⌜ r ≡ tilesExtent reading (tilesOf sign (now (inner .entry))) ⌝ }
+    ensures { λ r. ⌜ now (text .exit) ≡ leftIn r (bytesOf reading (tilesOf sign (now (inner .entry)))) (now (text .entry)) ⌝ }
 {
     let e = measure(inner, sign, reading);
     let Extent::Text { escaped: _, size } = e else {
-        return Unquoting::Refused(utf8::at_start(BAD_LITERAL));
+        return e;
     };
-    if text.len() < size {
-        return Unquoting::Refused(utf8::at_start(utf8::NO_ROOM));
+    if size <= text.len() {
+        write_pieces(inner, sign, reading, text);
     }
-    write_pieces(inner, sign, reading, text);
-    Unquoting::Written(size)
+    e
 }
 
 // The text of a content with escapes: but for a very long one its tiles are read once.
-fn read_tiles(inner: &[u8], sign: u8, reading: Reading, text: &mut [u8]) -> Unquoting
+fn read_tiles(inner: &[u8], sign: u8, reading: Reading, text: &mut [u8]) -> Extent
     requires { ⌜ sign < 0x80 ⌝ }
-    ensures { λ r. ⌜ r ≡ tilesUnquoting reading (length (now (text .entry))) (tilesOf sign (now (inner .entry))) ⌝ }
-    ensures { λ r. ⌜ now (text .exit) ≡ textBy r (bytesOf reading (tilesOf sign (now (inner .entry)))) (now (text .entry)) ⌝ }
+    ensures { λ r. ⌜ r ≡ tilesExtent reading (tilesOf sign (now (inner .entry))) ⌝ }
+    ensures { λ r. ⌜ now (text .exit) ≡ leftIn r (bytesOf reading (tilesOf sign (now (inner .entry)))) (now (text .entry)) ⌝ }
 {
     if inner.len() <= SHORT {
         let mut own = [0; SHORT];
@@ -316,6 +318,71 @@ fn read_tiles(inner: &[u8], sign: u8, reading: Reading, text: &mut [u8]) -> Unqu
     read_twice(inner, sign, reading, text)
 }
 
+// What stands between two signs comes to: a text with escapes is written where it has room.
+fn read_content(inner: &[u8], sign: u8, reading: Reading, text: &mut [u8]) -> Extent
+    requires { ⌜ sign < 0x80 ⌝ ∗ ⌜ WellFormed (now inner) ⌝ }
+    ensures { λ r. ⌜ r ≡ contentExtent reading sign (now (inner .entry)) ⌝ }
+    ensures { λ r. ⌜ now (text .exit) ≡ leftIn r (bytesOf reading (tilesOf sign (now (inner .entry)))) (now (text .entry)) ⌝ }
+{
+    if has_newline(sign, inner) {
+        let at = first_of(inner, tile::LINE_FEED);
+        return Extent::Bad { at };
+    }
+    if has_escape(sign, inner) {
+        return read_tiles(inner, sign, reading, text);
+    }
+    if has_byte(inner, sign) {
+        let at = first_of(inner, sign);
+        return Extent::Bad { at };
+    }
+    Extent::Text {
+        escaped: false,
+        size: inner.len(),
+    }
+}
+
+// What a content comes to, counted from the sign before it.
+fn behind_sign(e: Extent) -> Extent
+    requires { ⌜ faultIn e < 2 ^ 64 - 1 ⌝ }
+    ensures { λ r. ⌜ r ≡ behindSign e ⌝ }
+{
+    let Extent::Bad { at } = e else {
+        return e;
+    };
+    let at = at + 1;
+    Extent::Bad { at }
+}
+
+// What a literal comes to: a text with escapes is written where it has room.
+fn read_literal(literal: &[u8], reading: Reading, text: &mut [u8]) -> Extent
+    requires { ⌜ WellFormed (now literal) ⌝ }
+    ensures { λ r. ⌜ r ≡ extentOf reading (now (literal .entry)) ⌝ }
+    ensures { λ r. ⌜ now (text .exit) ≡ leftIn r (unquoted reading (now (literal .entry))) (now (text .entry)) ⌝ }
+{
+    if literal.len() < SIGNS {
+        return Extent::Bad { at: 0 };
+    }
+    let sign = literal[0];
+    let end = literal.len() - 1;
+    if literal[end] != sign {
+        return Extent::Bad { at: end };
+    }
+    if !byte::is_quote(sign as usize) {
+        return Extent::Bad { at: 0 };
+    }
+    behind_sign(read_content(&literal[1..end], sign, reading, text))
+}
+
+// Why a literal is bad, by what it comes to; where it is not, a refusal of no number.
+fn bad_literal(literal: &[u8], e: Extent) -> Refusal
+    ensures { λ r. ⌜ r ≡ badIn (now (literal .entry)) e ⌝ }
+{
+    let Extent::Bad { at } = e else {
+        return utf8::at_start(utf8::NO_REFUSAL);
+    };
+    utf8::refused_at(literal, BAD_LITERAL, ByteOffset(at))
+}
+
 // Reads a literal: a text without escapes is left where it stands, and another is written at the front of a lent buffer; nothing is
 // written where it is refused.
 pub fn unquote_string(literal: &[u8], reading: Reading, text: &mut [u8]) -> Unquoting
@@ -326,22 +393,17 @@ pub fn unquote_string(literal: &[u8], reading: Reading, text: &mut [u8]) -> Unqu
     let Admission::Admitted(_) = a else {
         return Unquoting::Refused(utf8::not_admitted(a));
     };
-    if !is_enclosed(literal) {
-        return Unquoting::Refused(utf8::at_start(BAD_LITERAL));
+    let e = read_literal(literal, reading, text);
+    let Extent::Text { escaped, size } = e else {
+        return Unquoting::Refused(bad_literal(literal, e));
+    };
+    if !escaped {
+        return Unquoting::Inner(size);
     }
-    let sign = literal[0];
-    let end = literal.len() - 1;
-    let inner = &literal[1..end];
-    if has_newline(sign, inner) {
-        return Unquoting::Refused(utf8::at_start(BAD_LITERAL));
+    if text.len() < size {
+        return Unquoting::Refused(utf8::at_start(utf8::NO_ROOM));
     }
-    if has_escape(sign, inner) {
-        return read_tiles(inner, sign, reading, text);
-    }
-    if has_byte(inner, sign) {
-        return Unquoting::Refused(utf8::at_start(BAD_LITERAL));
-    }
-    Unquoting::Inner(inner.len())
+    Unquoting::Written(size)
 }
 
 // Why a literal has no text; where it has one, a refusal of no number.

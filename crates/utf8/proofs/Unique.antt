@@ -13,6 +13,8 @@ use Rattle.utf8.proofs.not_written.Kinds as not-written
 use Rattle.utf8.proofs.not_written.Reads as not-written-reads
 use Rattle.utf8.proofs.char_number.Kinds as char-number
 use Rattle.utf8.proofs.char_number.Reads as char-number-reads
+use Rattle.utf8.proofs.refused_at.Kinds as refused-at
+use Rattle.utf8.proofs.refused_at.Reads as refused-at-reads
 use Rattle.utf8.proofs.char_at.Kinds as char-at
 use Rattle.utf8.proofs.char_at.Reads as char-at-reads
 use Rattle.utf8.proofs.at_start.Kinds as at-start
@@ -35,6 +37,9 @@ same-not-written κs a x y e f p q = p ∙ sym q
 
 pub same-char-number : OneAnswer char-number.ps char-number.r char-number-reads.Post
 same-char-number κs a x y e f p q = p ∙ sym q
+
+pub same-refused-at : OneAnswer refused-at.ps refused-at.r refused-at-reads.Post
+same-refused-at κs a x y e f p q = p ∙ sym q
 
 pub same-char-at : OneAnswer char-at.ps char-at.r char-at-reads.Post
 same-char-at κs a x y e f p q = p ∙ sym q

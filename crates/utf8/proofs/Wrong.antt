@@ -22,7 +22,7 @@ use Rattle.utf8.specs.Code.{codeOf}
 use Rattle.utf8.specs.Text.{charsPast, sizeOf, begunIn, charNumber}
 use Rattle.utf8.specs.declared.Writing.{Writing}
 use Rattle.utf8.specs.declared.Writing.the-variants as writing
-use Rattle.utf8.specs.Answers.{count, place, validityOf, atStart, admitted, characterAt, notUtf8, notAdmitted}
+use Rattle.utf8.specs.Answers.{count, place, validityOf, atStart, refusedAt, admitted, characterAt, notUtf8, notAdmitted}
 use Rattle.utf8.specs.Writing.{notWritten}
 use Rattle.utf8.specs.laws.Ascii.{isAscii}
 use Rattle.utf8.proofs.is_ascii.Kinds as is-ascii
@@ -35,6 +35,8 @@ use Rattle.utf8.proofs.admit.Kinds as admit
 use Rattle.utf8.proofs.admit.Reads as admit-reads
 use Rattle.utf8.proofs.char_number.Kinds as char-number
 use Rattle.utf8.proofs.char_number.Reads as char-number-reads
+use Rattle.utf8.proofs.refused_at.Kinds as refused-at
+use Rattle.utf8.proofs.refused_at.Reads as refused-at-reads
 use Rattle.utf8.proofs.char_at.Kinds as char-at
 use Rattle.utf8.proofs.char_at.Reads as char-at-reads
 use Rattle.utf8.proofs.not_admitted.Kinds as not-admitted
@@ -140,6 +142,23 @@ character-around-the-offset-counts = char-number-at _ _
 pub characters-are-counted-and-not-bytes : char-number-gives (0xc3 ∷ 0xa9 ∷ []) 2 (count 1)
 unfolding char-number-at
 characters-are-counted-and-not-bytes = char-number-at _ _
+
+-- of a text, a number and an offset
+abbrev refused-at-gives : List ℕ → ℕ → ℕ → Refusal → Type 0
+refused-at-gives xs n at v =
+    Answers refused-at.ps refused-at.r refused-at-reads.Post (λ κs a. (now (a .0) ≡ xs) × (a .1 .0 ≡ n) × (a .1 .1 .0 .0 ≡ at)) (λ κs. v)
+
+refused-at-at : (xs : List ℕ) (n at : ℕ) → refused-at-gives xs n at (refusedAt xs n at)
+unfolding char-number-at
+refused-at-at xs n at κs a x e p h = p ∙ cc (h .0, h .1, h .2)
+
+pub refusal-is-at-the-byte : refused-at-gives (ascii "ab") 21 1 (record { number = 21; place = place 1 1 })
+unfolding char-number-at
+refusal-is-at-the-byte = refused-at-at _ _ _
+
+pub refusal-has-the-number-of-its-character : refused-at-gives (0xc3 ∷ 0xa9 ∷ []) 23 2 (record { number = 23; place = place 2 1 })
+unfolding char-number-at
+refusal-has-the-number-of-its-character = refused-at-at _ _ _
 
 -- of a text and an offset
 abbrev char-at-gives : List ℕ → ℕ → Character → Type 0

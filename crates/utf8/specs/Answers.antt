@@ -44,6 +44,10 @@ textLimit = 65535
 abbrev pub atStart : ℕ → Refusal
 atStart n = record { number = n; place = place 0 0 }
 
+-- a refusal "returns number and place only": one at an offset of a text
+abbrev pub refusedAt : List ℕ → ℕ → ℕ → Refusal
+refusedAt xs n at = record { number = n; place = placeAt xs at }
+
 -- 1 "too long" and 3 "result needs more room", at 0, 0; 2 "not UTF-8", at the "end of the longest well-formed prefix"
 abbrev pub tooLong : Refusal
 tooLong = atStart 1

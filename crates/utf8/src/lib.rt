@@ -11,7 +11,7 @@ ghost use Rattle.utf8.specs.Table.{isTail, charLength};
 ghost use Rattle.utf8.specs.steps.Lead.{sizeBy, lowSecond, highSecond, withTails};
 ghost use Rattle.utf8.specs.Text.{charNumber};
 ghost use Rattle.utf8.specs.Code.{codeOf};
-ghost use Rattle.utf8.specs.Answers.{count, nextStart, validityOf, atStart, notUtf8By, admitted, notAdmitted, characterAt};
+ghost use Rattle.utf8.specs.Answers.{count, nextStart, validityOf, atStart, refusedAt, notUtf8By, admitted, notAdmitted, characterAt};
 ghost use Rattle.utf8.specs.Writing.{notWritten};
 ghost use Rattle.utf8.specs.laws.Ascii.{isAscii};
 
@@ -366,6 +366,15 @@ pub fn char_number(text: &[u8], to: ByteOffset) -> CharNumber
 {
     let start = next_start(text, to.0);
     start.character
+}
+
+// A refusal at an offset of a text.
+pub fn refused_at(text: &[u8], number: usize, byte: ByteOffset) -> Refusal
+    ensures { λ r. ⌜ r ≡ refusedAt (now (text .entry)) number (byte .0) ⌝ }
+{
+    let character = char_number(text, byte);
+    let place = Place { byte, character };
+    Refusal { number, place }
 }
 
 // The code point of the character of n bytes that s begins with.

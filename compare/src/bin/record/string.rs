@@ -175,6 +175,38 @@ const LITERALS: &[&[u8]] = &[
     "\"\u{e9}\\u00e9\u{20ac}\\xe9\\351\"".as_bytes(),
 ];
 
+/// Bad literals, each for both readings: those of which document 02's request tells the place, then others with several mistakes, or
+/// with longer characters before the first.
+const FAULTS: &[&[u8]] = &[
+    b"\"\\\"",
+    b"\"a\"b\"",
+    b"\"\\q\\n\"",
+    b"\"\\q\n\"",
+    b"`a`b`",
+    b"\"\\400\"",
+    b"\"\\x8\"",
+    "\"\u{e9}".as_bytes(),
+    b"a\"",
+    b"aa",
+    "\"\u{e9}\\q\"".as_bytes(),
+    b"\"a\"\\q\"",
+    b"\"\\q\"a\"",
+    b"\"\\n\\\"\\\\\"a\"",
+    b"'\\'\\\"'",
+    b"'\"\\n\\u12g4\\q'",
+    b"\"a\"\n\"",
+    b"'\n\n\\'",
+    b"`\n\\q``a`",
+    "\"\u{e9}\u{20ac}\\\u{10ffff}\"".as_bytes(),
+    "'\u{10ffff}\\'\u{e9}'\u{20ac}'".as_bytes(),
+    "`\u{20ac}\\\u{e9}`\u{e9}`".as_bytes(),
+    "\"\u{e9}\\q\u{20ac}\n\u{e9}\n\"".as_bytes(),
+    "\"\u{e9}\u{20ac}'".as_bytes(),
+    "\"a\u{10ffff}".as_bytes(),
+    "\u{e9}a\u{e9}".as_bytes(),
+    "\u{e9}\"\"".as_bytes(),
+];
+
 /// Literals to read in several rooms: without escapes, with some, and bad ones.
 const LITERALS_IN_ROOMS: &[&[u8]] = &[
     b"\"\"",
@@ -200,7 +232,7 @@ pub fn inputs() -> Vec<String> {
         let needed = escaped(text).map_or(0, |escaped| escaped.len());
         lines.extend(in_rooms("escape", text, needed));
     }
-    for literal in LITERALS {
+    for literal in LITERALS.iter().chain(FAULTS) {
         lines.extend(READINGS.map(|operation| line(operation, literal)));
     }
     for literal in LITERALS_IN_ROOMS {
@@ -228,13 +260,15 @@ fn in_rooms(operation: &str, bytes: &[u8], needed: usize) -> Vec<String> {
         .collect()
 }
 
-/// A literal as long as the limit with an escape, and a literal and a text of a byte more.
-fn long() -> [String; 3] {
+/// A literal as long as the limit with an escape, and with a bad one at its end; and a literal and a text of a byte more.
+fn long() -> [String; 4] {
     let text = of_length(MOST_BYTES + 1);
     let longest = [b"\\n", &text[..MOST_BYTES - 4]].concat();
+    let mistaken = [&text[..MOST_BYTES - 3], b"\\"].concat();
     [
         line("unquote", &quoted(b'"', &longest)),
         line("unquotedoc", &quoted(b'\'', &text[..MOST_BYTES - 1])),
+        line("unquotedoc", &quoted(b'"', &mistaken)),
         line("escape", &text),
     ]
 }

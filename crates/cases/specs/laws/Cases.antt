@@ -7,7 +7,7 @@ use lib.ListN.{length}
 use Rattle.scan.specs.Ascii.{ascii}
 use Rattle.utf8.specs.declared.Reading.{Reading}
 use Rattle.utf8.specs.declared.Reading.the-variants.{Crate, Documented}
-use Rattle.utf8.specs.Answers.{atStart}
+use Rattle.utf8.specs.Answers.{atStart, refusedAt}
 use Rattle.duration.specs.declared.span.Duration.{Duration}
 use Rattle.duration.specs.declared.Timing.{Timing}
 use Rattle.duration.specs.declared.Timing.the-variants.{Lasts, Refused}
@@ -15,7 +15,7 @@ use Rattle.duration.specs.Duration.{timingOf}
 use Rattle.duration.specs.Display.{durationText}
 use Rattle.string.specs.Literal.{isBadLiteral, unquoted}
 use Rattle.lex.specs.declared.Lexing.the-variants as lexing
-use Rattle.lex.specs.Lex.{entriesOf, refusedAt, measured, kindOf}
+use Rattle.lex.specs.Lex.{entriesOf, measured, kindOf}
 
 pub data Case : Type 0 where
   -- a query's lexemes are of these kinds

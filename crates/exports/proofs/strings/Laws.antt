@@ -1,6 +1,6 @@
 -- The laws of strings in `specs/laws/Codes`: an accepted answer is at most twice a text's bytes, well below bit 63, and one for a text in the
--- buffer below bit 32; a refusal is that of a text which is not taken up (`validate-kept`), or 40 or 3, by what the answers of `string`
--- tell.
+-- buffer below bit 32; a refusal is that of a text which is not taken up (`validate-kept`), or 40 at an offset of the literal, or 3, by what
+-- the answers of `string` tell.
 use Prim.Native.Nat.{_≤_}
 use native.Mathlib.Omega.{arith}
 use mathlib.Core.Bool.{_&&_, not}
@@ -11,6 +11,7 @@ use borrow.Author.Tests.{le-leb, lt-leb}
 use Rattle.utf8.specs.declared.Writing.{Writing}
 use Rattle.utf8.specs.declared.Writing.the-variants.{Written, Refused}
 use Rattle.utf8.specs.Answers.{textLimit}
+use Rattle.utf8.proofs.Bounds.{number-bound}
 use Rattle.string.specs.Escape.{escapingOf}
 use Rattle.string.specs.laws.Escape.{EscapeTells}
 use Rattle.string.proofs.escape.Answers.{escape-answers}
@@ -58,5 +59,5 @@ unquote-kept r room xs s e = go (subst (LiteralTells r xs) e (literal-answers r 
   where
     go : LiteralTells r xs (unquoting.Refused s) → Packable s
     go (inl a) = validate-kept xs s a
-    go (inr (inl z)) = rw z (omega arith)
+    go (inr (inl (t, (p, l, z)))) = rw z (record { number = omega arith; byte = omega (arith, t .0); character = omega (arith, t .0, number-bound xs p) })
     go (inr (inr z)) = rw z (omega arith)

@@ -14,7 +14,7 @@ use Rattle.proving.proofs.One.{Answers, Leaves}
 use Rattle.scan.specs.Text.{has}
 use Rattle.utf8.specs.Table.{fits, sizeIn, charLength}
 use Rattle.utf8.specs.Code.{isScalar, codeOf, sixBits, encoded}
-use Rattle.utf8.specs.Text.{charsPast, sizeOf}
+use Rattle.utf8.specs.Text.{charsPast, sizeOf, begunIn, charNumber}
 use Rattle.utf8.specs.Answers.{textLimit, validityOf, admitted, characterAt}
 use Rattle.utf8.specs.laws.Ascii.{isAscii}
 use Rattle.utf8.proofs.Ascii.{ascii-text}
@@ -25,7 +25,7 @@ use Rattle.string.specs.Escape.{escapedCodes, escaped, escapingOf}
 use Rattle.string.proofs.escape.Given.{escaping-given}
 use Rattle.string.specs.Tile.{amountFrom, isAllowed, numbered, escapeOf, beginsEscape, tileOf}
 use Rattle.string.specs.Tiles.{tilesPast, hasBad, pieceBytes, bytesOf}
-use Rattle.string.specs.Literal.{isEnclosed, hasNewline, hasEscape, unquoted, extentOf, unquotingOf, textBy}
+use Rattle.string.specs.Literal.{isEnclosed, hasNewline, hasEscape, unquoted, faultOf, extentOf, unquotingOf, textBy}
 use Rattle.exports.specs.Packed.{packedAs}
 use Rattle.exports.specs.Written.{writtenCode}
 use Rattle.exports.specs.String.{readingOf, innerFrom, unquoteCode}
@@ -40,7 +40,7 @@ unfolding escapingOf admitted validityOf charsPast sizeOf charLength sizeIn fits
 escaping = tt
 
 unquoting : Unit {0}
-unfolding readingOf unquotingOf extentOf admitted validityOf charsPast sizeOf charLength sizeIn fits codeOf isWithin isHexDigit digitOf isScalar encoded sixBits characterAt letterValue lookedUp isDigitIn amountFrom isAllowed numbered escapeOf beginsEscape tileOf tilesPast hasBad pieceBytes bytesOf isQuote isEnclosed has hasNewline hasEscape
+unfolding readingOf unquotingOf extentOf faultOf charNumber begunIn admitted validityOf charsPast sizeOf charLength sizeIn fits codeOf isWithin isHexDigit digitOf isScalar encoded sixBits characterAt letterValue lookedUp isDigitIn amountFrom isAllowed numbered escapeOf beginsEscape tileOf tilesPast hasBad pieceBytes bytesOf isQuote isEnclosed has hasNewline hasEscape
 unquoting = tt
 
 abbrev simmerpath-escape-string-gives : List ℕ → ℕ → ℕ → Type 0
@@ -112,9 +112,9 @@ pub documented-reading-gives-a-byte : simmerpath-unquote-string-gives (ascii "'\
 unfolding unquoting
 documented-reading-gives-a-byte = simmerpath-unquote-string-at _ _ _
 
-pub open-literal-is-bad : simmerpath-unquote-string-gives (ascii "'a") 0 2 (packedAs 40 0 0)
+pub open-literal-is-bad-at-its-last-byte : simmerpath-unquote-string-gives (ascii "'a") 0 2 (packedAs 40 1 1)
 unfolding unquoting
-open-literal-is-bad = simmerpath-unquote-string-at _ _ _
+open-literal-is-bad-at-its-last-byte = simmerpath-unquote-string-at _ _ _
 
 abbrev simmerpath-unquote-string-leaves-text : List ℕ → ℕ → List ℕ → List ℕ → Type 0
 simmerpath-unquote-string-leaves-text xs documented text v =

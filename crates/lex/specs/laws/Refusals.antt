@@ -6,14 +6,14 @@ use mathlib.Core.Logic.{_↔_}
 use mathlib.Core.Path.{_≡_}
 use lib.ListN.{length, drop}
 use Rattle.utf8.specs.Text.{prefixEnd, WellFormed, startOf, charNumber}
-use Rattle.utf8.specs.Answers.{textLimit, placeAt, tooLong, notUtf8, noRoom}
+use Rattle.utf8.specs.Answers.{textLimit, placeAt, refusedAt, tooLong, notUtf8, noRoom}
 use Rattle.utf8.specs.laws.Refusals.{TooLong, NotUtf8, Taken}
 use Rattle.munch.specs.declared.Mode.{Mode}
 use Rattle.munch.specs.declared.Step.the-variants.{Lexeme, Space, Comment, Finished}
 use Rattle.munch.specs.Munch.{outside, munched}
 use Rattle.munch.specs.laws.Rows.{Row}
 use Rattle.lex.specs.declared.Lexing.the-variants.{Count, Refused}
-use Rattle.lex.specs.Lex.{entriesOf, refusedAt, measured, lexed}
+use Rattle.lex.specs.Lex.{entriesOf, measured, lexed}
 
 -- the reading reaches an offset, in a mode, with nothing refused before it
 pub data Reaches (q : List ℕ) : ℕ → Mode → Type 0 where

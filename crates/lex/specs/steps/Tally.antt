@@ -2,13 +2,12 @@
 use Prim.Native.Nat.{ℕ, _+_}
 use mathlib.Core.List.{List}
 use Rattle.utf8.specs.declared.Refusal.{Refusal}
-use Rattle.utf8.specs.Answers.{noRefusal}
+use Rattle.utf8.specs.Answers.{noRefusal, refusedAt}
 use Rattle.lex.specs.declared.Run.{Run}
 use Rattle.lex.specs.declared.Run.the-variants as run
 use Rattle.lex.specs.declared.Lexing.{Lexing}
 use Rattle.lex.specs.declared.Lexing.the-variants.{Count, Refused}
 use Rattle.lex.specs.Outcome.{Outcome, reads, ends, refuses, outcomeOf}
-use Rattle.lex.specs.Lex.{refusedAt}
 
 -- a text is refused at an offset
 abbrev pub refusedBy : ℕ → ℕ → Run

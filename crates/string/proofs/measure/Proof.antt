@@ -1,4 +1,5 @@
--- The invariant: what the tiles from here on give, and n, is what all of them give; and one from here on is bad exactly where one is.
+-- The invariant: what the tiles from here on give, and n, is what all of them give; one from here on is bad exactly where one is; and the good
+-- ones before it begin the content.
 use Prim.Native.Nat.{ℕ, _+_, _-_, _<_, _≤_}
 use native.Mathlib.Omega.{arith}
 use mathlib.Core.List.{List}
@@ -11,7 +12,7 @@ use Rattle.proving.proofs.Lists.{rest-of}
 use Rattle.string.specs.declared.tile.Form.{Form}
 use Rattle.string.specs.declared.tile.Tile.the-variants.{Piece}
 use Rattle.string.specs.Tile.{tileOf}
-use Rattle.string.specs.Tiles.{tilesOf, hasBad, pieceBytes, bytesOf}
+use Rattle.string.specs.Tiles.{tilesOf, hasBad, goodSize, pieceBytes, bytesOf}
 use Rattle.string.specs.declared.Single.{Single}
 use Rattle.string.specs.steps.Measure.{GivesOne}
 use Rattle.string.proofs.tile.Tiles.{Fair}
@@ -21,13 +22,13 @@ use Rattle.string.proofs.measure.Tie as tie
 
 abbrev Inv-loop : tie.InvT-loop
 Inv-loop inner sign reading n₀ from₀ n from =
-    (from ≤ length inner) × (n ≤ from) × (hasBad (tilesOf sign inner) ≡ hasBad (tilesOf sign (drop from inner))) × (n + length (bytesOf reading (tilesOf sign (drop from inner))) ≡ length (bytesOf reading (tilesOf sign inner)))
+    (from ≤ length inner) × (n ≤ from) × (hasBad (tilesOf sign inner) ≡ hasBad (tilesOf sign (drop from inner))) × (goodSize (tilesOf sign inner) ≡ from + goodSize (tilesOf sign (drop from inner))) × (n + length (bytesOf reading (tilesOf sign (drop from inner))) ≡ length (bytesOf reading (tilesOf sign inner)))
 
 abbrev μ-loop : tie.MeasureT-loop
 μ-loop inner sign reading n₀ from₀ n from = length inner - from
 
 loop-holds : tie.Need-loop-holds Inv-loop μ-loop
-loop-holds c = (omega arith, omega arith, refl, omega arith)
+loop-holds c = (omega arith, omega arith, refl, omega arith, omega arith)
 
 single-at-requires : tie.Need-single-at-requires Inv-loop μ-loop
 single-at-requires c κs = (c .before .before .before .pre, c .loop-test .taken)
@@ -67,7 +68,8 @@ loop-again c =
       omega (arith, moves d),
       omega (arith, moves d),
       l .inv .2 ∙ contents.one-behind (a .sign) (o d .pre) (now (a .inner)) (l .from) t (one d .value) (one d .size) (gives d),
-      omega (arith, ap length (contents.one-bytes (a .sign) (o d .pre) (now (a .inner)) (l .from) t (one d .value) (one d .size) (gives d) (a .reading)), l .inv .3),
+      omega (arith, l .inv .3, contents.one-good (a .sign) (o d .pre) (now (a .inner)) (l .from) t (one d .value) (one d .size) (gives d)),
+      omega (arith, ap length (contents.one-bytes (a .sign) (o d .pre) (now (a .inner)) (l .from) t (one d .value) (one d .size) (gives d) (a .reading)), l .inv .4),
     )
 
 sub-unquote-char : tie.Need-sub-unquote-char Inv-loop μ-loop
@@ -117,8 +119,8 @@ module _ (c : tie.After-unquote-char Inv-loop μ-loop) where
 returns : tie.Need-returns Inv-loop μ-loop
 returns c =
     let d = c .before .before in
-    contents.measured-bad (r d) (tilesOf (q d) (ys d))
-    (l d .loop .inv .2 ∙ contents.bad-here (q d) (ascii d) (ys d) (place d) (inside d) (sym (here d) ∙ c .enum-told .given .1))
+    let b = contents.bad-here (q d) (ascii d) (ys d) (place d) (inside d) (sym (here d) ∙ c .enum-told .given .1) in
+    contents.measured-bad (r d) (tilesOf (q d) (ys d)) (place d) (l d .loop .inv .2 ∙ b .0) (omega (arith, l d .loop .inv .3, b .1))
 
 piece-size-requires : tie.Need-piece-size-requires Inv-loop μ-loop
 piece-size-requires c κs = tt
@@ -164,7 +166,8 @@ loop-again-2 c =
       omega (arith, fair c .within),
       omega (arith, few c),
       l e .loop .inv .2 ∙ b,
-      omega (arith, k, c .piece-size .ensures, l e .loop .inv .3),
+      omega (arith, l e .loop .inv .3, contents.good-behind (q e) (ascii e) (ys e) (place e) (inside e) (form c) (value c) (size c) (piece c)),
+      omega (arith, k, c .piece-size .ensures, l e .loop .inv .4),
     )
 
 returns-2 : tie.Need-returns-2 Inv-loop μ-loop
@@ -173,7 +176,7 @@ returns-2 c =
     let l = c .before .loop in
     contents.measured-text (a .reading) (tilesOf (a .sign) (now (a .inner))) (l .n)
     (l .inv .2 ∙ contents.bad-over (a .sign) (now (a .inner)) (l .from) (c .loop-test .left))
-    (omega (arith, l .inv .3, ap length (contents.bytes-over (a .sign) (now (a .inner)) (l .from) (c .loop-test .left) (a .reading))))
+    (omega (arith, l .inv .4, ap length (contents.bytes-over (a .sign) (now (a .inner)) (l .from) (c .loop-test .left) (a .reading))))
 
 pub measure-spec : {M : Type 1} → statement M
 measure-spec =

@@ -109,7 +109,7 @@ module _ (xs : List ℕ) where
       go (yes z) = z
       go (no z) = told tag b (ap plainOf (first-character xs .0 (omega arith))) (λ y. omega arith)
 
-  plain-none : charLength xs ≡ 0 → plainOf (characterAt xs 0) ≡ Bad
+  pub plain-none : charLength xs ≡ 0 → plainOf (characterAt xs 0) ≡ Bad
   plain-none z = go (first-character xs .1 z)
     where
       go : (characterAt xs 0 ≡ Nothing) ⊎ (characterAt xs 0 ≡ IllFormed) → plainOf (characterAt xs 0) ≡ Bad

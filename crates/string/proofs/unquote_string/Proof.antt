@@ -1,26 +1,21 @@
--- What is refused is refused first, with nothing written. The tests are those of the definition, in its order; where there is no escape the
--- sign is all that is looked for, and where there is one the tiles are read.
+-- What is refused is refused first, with nothing written; then what the literal comes to decides, and the room.
 use Prim.Native.Nat.{ℕ, _≤_}
 use native.Mathlib.Omega.{arith}
-use mathlib.Core.Bool.{true, false}
+use mathlib.Core.Bool.{Bool, true, false}
 use mathlib.Core.List.{List}
 use mathlib.Core.Path.{_≡_, refl, sym, ap, _∙_}
 use lib.ListN.{length}
 use denote.Ref.{now}
 use borrow.Author.Needs.{needs}
-use borrow.Author.Tests.{not-true, not-false}
-use Rattle.scan.specs.Text.{has}
-use Rattle.utf8.specs.declared.Admission.the-variants as admission
+use borrow.Author.Tests.{lt-leb, le-leb, not-true, not-false}
 use Rattle.utf8.specs.declared.Reading.{Reading}
-use Rattle.utf8.specs.Answers.{textLimit, admitted, notAdmitted}
-use Rattle.utf8.specs.Text.{WellFormed}
+use Rattle.utf8.specs.Answers.{textLimit, notAdmitted}
 use Rattle.utf8.proofs.Given.{admitted-text}
 use Rattle.string.specs.declared.Extent.{Extent}
 use Rattle.string.specs.declared.Extent.the-variants as extent
-use Rattle.string.specs.declared.Unquoting.the-variants.{Inner, Refused}
-use Rattle.string.specs.Tiles.{tilesOf}
-use Rattle.string.specs.Literal.{signOf, innerOf, isEnclosed, hasNewline, hasEscape, extentOf, unquotingBy, unquotingOf}
-use Rattle.string.specs.steps.Measure.{tilesExtent}
+use Rattle.string.specs.declared.Unquoting.the-variants.{Refused}
+use Rattle.string.specs.Literal.{unquoted, unquotingBy, unquotingOf}
+use Rattle.string.specs.steps.Measure.{badIn, leftIn}
 use Rattle.string.proofs.Literals as literals
 use Rattle.string.proofs.unquote_string.Statement.{statement}
 use Rattle.string.proofs.unquote_string.Tie as tie
@@ -43,13 +38,16 @@ returns c =
     let e = c .before .enum-told2 .given .1 in
     (ap Refused (c .not-admitted .ensures ∙ ap notAdmitted e) ∙ literals.refused-first (a .reading) (length (now (a .text))) (now (a .literal)) _ (sym (c .before .before .before .admit .ensures) ∙ e), refl)
 
-is-enclosed-requires : tie.Need-is-enclosed-requires
-is-enclosed-requires c κs = search needs
+read-literal-requires : tie.Need-read-literal-requires
+read-literal-requires c κs = let d = c .before in admitted-text textLimit _ _ (sym (d .before .before .admit .ensures) ∙ d .enum-told .given .1) .1
 
--- what is known of a literal that was admitted
-module _ (c : tie.After-is-enclosed) where
+-- what is known of a literal that was admitted, and what it comes to
+module _ (c : tie.After-read-literal) where
+  abbrev d : tie.After-enum-told
+  d = c .before .before
+
   abbrev a : tie.Start
-  a = c .before .before .before .before .before .before
+  a = d .before .before .before .before .before
 
   abbrev xs : List ℕ
   xs = now (a .args .literal)
@@ -57,134 +55,75 @@ module _ (c : tie.After-is-enclosed) where
   abbrev reads : Reading
   reads = a .args .reading
 
-  abbrev room : ℕ
-  room = length (now (a .args .text))
+  abbrev text : List ℕ
+  text = now (a .args .text)
 
-  taken : admitted textLimit xs ≡ admission.Admitted (c .before .enum-told .given .0 .0)
-  taken = sym (c .before .before .before .admit .ensures) ∙ c .before .enum-told .given .1
+  answer : (e : Extent) → c .read-literal .result ≡ e → unquotingBy (length text) xs e ≡ unquotingOf reads (length text) xs
+  answer e g = literals.by-extent reads (length text) xs _ e (sym (d .before .before .admit .ensures) ∙ d .enum-told .given .1) (sym (c .read-literal .ensures .0) ∙ g)
 
-  well : WellFormed xs
-  well = admitted-text textLimit xs _ taken .1
+  left : (e : Extent) → c .read-literal .result ≡ e → c .read-literal .last .1 .1 .0 ≡ leftIn e (unquoted reads xs) text
+  left e g = c .read-literal .ensures .1 ∙ ap (λ (x : Extent). leftIn x (unquoted reads xs) text) g
 
-  answer : (e : Extent) → e ≡ extentOf reads xs → unquotingBy room e ≡ unquotingOf reads room xs
-  answer e g = literals.by-extent reads room xs _ e taken (sym g)
+enum-known-e : tie.Need-enum-known-e
+enum-known-e c = search needs
 
-at-start-requires : tie.Need-at-start-requires
-at-start-requires c κs = search needs
+enum-told-3 : tie.Need-enum-told-3
+enum-told-3 c = search needs
 
-returns-2 : tie.Need-returns-2
-returns-2 c =
-    let d = c .before .before in
-    (ap Refused (c .at-start .ensures) ∙ answer d extent.Bad (literals.not-enclosed (reads d) (xs d) (sym (d .is-enclosed .ensures) ∙ not-true (d .is-enclosed .result) (c .before .if1 .taken))), refl)
-
--- and of one between two signs
-module _ (c : tie.Else1) where
-  abbrev lit : List ℕ
-  lit = xs (c .before)
-
-  enclosed : isEnclosed lit ≡ true
-  enclosed = sym (c .before .is-enclosed .ensures) ∙ not-false (c .before .is-enclosed .result) (c .if1 .left)
-
-  two : 2 ≤ length lit
-  two = literals.two lit enclosed
-
-shared-slice-read-sign : tie.Need-shared-slice-read-sign
-shared-slice-read-sign c = omega (arith, two (c .before))
-
-sub-end : tie.Need-sub-end
-sub-end c = omega (arith, two (c .before))
-
-sub-inner : tie.Need-sub-inner
-sub-inner c = omega (arith, two (c .before))
-
-part-inner-start : tie.Need-part-inner-start
-part-inner-start c = omega (arith, two (c .before))
-
-part-inner-end : tie.Need-part-inner-end
-part-inner-end c = search needs
-
-has-newline-requires : tie.Need-has-newline-requires
-has-newline-requires c κs = search needs
-
-newline-told : (c : tie.After-has-newline) → let d = c .before .before .before in c .has-newline .result ≡ hasNewline (signOf (lit d)) (innerOf (lit d))
-newline-told c =
-    let d = c .before .before .before in
-    c .has-newline .ensures ∙ rw (literals.sign-is (lit d) (enclosed d), literals.cut-is (lit d) (enclosed d))
-
-at-start-requires-2 : tie.Need-at-start-requires-2
-at-start-requires-2 c κs = search needs
-
-returns-3 : tie.Need-returns-3
-returns-3 c =
-    let d = c .before .before .before .before .before in
-    (ap Refused (c .at-start2 .ensures) ∙ answer (d .before) extent.Bad (literals.newline (reads (d .before)) (lit d) (enclosed d) (sym (newline-told (c .before .before)) ∙ c .before .if2 .taken)), refl)
-
-has-escape-requires : tie.Need-has-escape-requires
-has-escape-requires c κs = search needs
-
--- no newline, and an escape looked for
-module _ (c : tie.After-has-escape) where
-  abbrev e1 : tie.Else1
-  e1 = c .before .before .before .before .before
-
-  escape-told : c .has-escape .result ≡ hasEscape (signOf (lit e1)) (innerOf (lit e1))
-  escape-told = c .has-escape .ensures ∙ rw (literals.sign-is (lit e1) (enclosed e1), literals.cut-is (lit e1) (enclosed e1))
-
-  no-newline : hasNewline (signOf (lit e1)) (innerOf (lit e1)) ≡ false
-  no-newline = sym (newline-told (c .before .before)) ∙ c .before .if2 .left
-
-read-tiles-requires : tie.Need-read-tiles-requires
-read-tiles-requires c κs =
-    let d = e1 (c .before .before) in
-    rw (literals.sign-is (lit d) (enclosed d)) (literals.sign-ascii (lit d) (enclosed d))
+bad-literal-requires : tie.Need-bad-literal-requires
+bad-literal-requires c κs = search needs
 
 same-length : tie.Need-same-length
 same-length c = search needs
 
+returns-2 : tie.Need-returns-2
+returns-2 c =
+    let w = c .before .before .before .before .before in
+    let e = c .before .enum-told3 .given .1 in
+    (ap Refused (c .bad-literal .ensures ∙ ap (badIn (xs w)) e) ∙ answer w (extent.Bad _) e, left w (extent.Bad _) e)
+
+-- a text
+module _ (c : tie.After-known-told) where
+  abbrev w : tie.After-read-literal
+  w = c .before .before .before .before .before
+
+  abbrev b : Bool
+  b = c .before .e .given .0 .0
+
+  abbrev n : ℕ
+  n = c .before .e .given .0 .1 .0
+
+  by : (t : Bool) → b ≡ t → w .read-literal .result ≡ extent.Text t n
+  by t e = c .before .e .given .1 ∙ ap (λ (u : Bool). extent.Text u n) e
+
+same-length-2 : tie.Need-same-length-2
+same-length-2 c = search needs
+
+returns-3 : tie.Need-returns-3
+returns-3 c = let k = by (c .before) false (not-true _ (c .if1 .taken)) in (answer (w (c .before)) _ k, left (w (c .before)) _ k)
+
+at-start-requires : tie.Need-at-start-requires
+at-start-requires c κs = search needs
+
+same-length-3 : tie.Need-same-length-3
+same-length-3 c = search needs
+
 returns-4 : tie.Need-returns-4
 returns-4 c =
-    let h = c .before .before .before .before .before in
-    let d = e1 h in
-    let t = c .before .before .read-tiles in
-    let tiles = tilesOf (signOf (lit d)) (innerOf (lit d)) in (
-      t .ensures .0
-          ∙ rw (literals.sign-is (lit d) (enclosed d), literals.cut-is (lit d) (enclosed d))
-          (answer (d .before) (tilesExtent (reads (d .before)) tiles) (literals.measured-is (reads (d .before)) (lit d) (enclosed d) (no-newline h) (sym (escape-told h) ∙ c .before .before .before .before .if3 .taken))),
-      t .ensures .1 ∙ rw (literals.sign-is (lit d) (enclosed d), literals.cut-is (lit d) (enclosed d)),
-    )
+    let t = c .before .before .before in
+    let k = by t true (not-false _ (c .before .before .if1 .left)) in
+    let small = lt-leb (n t) (length (text (w t))) (omega (arith, c .before .if2 .taken, w t .read-literal .kept)) in
+    (ap Refused (c .at-start .ensures) ∙ rw small at (answer (w t) _ k), rw small at (left (w t) _ k))
 
-has-byte-requires : tie.Need-has-byte-requires
-has-byte-requires c κs = search needs
-
--- no escape, and the sign looked for
-module _ (c : tie.After-has-byte) where
-  abbrev e2 : tie.Else1
-  e2 = e1 (c .before .before)
-
-  sign-told : c .has-byte .result ≡ has (signOf (lit e2)) (innerOf (lit e2))
-  sign-told = c .has-byte .ensures ∙ (λ i. has (literals.sign-is (lit e2) (enclosed e2) i) (literals.cut-is (lit e2) (enclosed e2) i))
-
-  no-escape : hasEscape (signOf (lit e2)) (innerOf (lit e2)) ≡ false
-  no-escape = sym (escape-told (c .before .before)) ∙ c .before .if3 .left
-
-at-start-requires-3 : tie.Need-at-start-requires-3
-at-start-requires-3 c κs = search needs
+same-length-4 : tie.Need-same-length-4
+same-length-4 c = search needs
 
 returns-5 : tie.Need-returns-5
 returns-5 c =
-    let h = c .before .before in
-    let d = e2 h in
-    (ap Refused (c .at-start3 .ensures) ∙ answer (d .before) extent.Bad (literals.sign-inside (reads (d .before)) (lit d) (enclosed d) (no-newline (h .before .before)) (no-escape h) (well (d .before)) (sym (sign-told h) ∙ c .before .if4 .taken)), refl)
-
-returns-6 : tie.Need-returns-6
-returns-6 c =
-    let h = c .before in
-    let d = e2 h in (
-      ap (λ (ys : List ℕ). Inner (length ys)) (literals.cut-is (lit d) (enclosed d))
-          ∙ answer (d .before) (extent.Text false (length (innerOf (lit d))))
-          (literals.as-it-stands (reads (d .before)) (lit d) (enclosed d) (no-newline (h .before .before)) (no-escape h) (well (d .before)) (sym (sign-told h) ∙ c .if4 .left)),
-      refl,
-    )
+    let t = c .before .before in
+    let k = by t true (not-false _ (c .before .if1 .left)) in
+    let fits = le-leb (n t) (length (text (w t))) (omega (arith, c .if2 .left, w t .read-literal .kept)) in
+    (rw fits at (answer (w t) _ k), rw fits at (left (w t) _ k))
 
 pub unquote-string-spec : {M : Type 1} → statement M
 unquote-string-spec =
@@ -195,22 +134,16 @@ unquote-string-spec =
     enum-told-2
     not-admitted-requires
     returns
-    is-enclosed-requires
-    at-start-requires
-    returns-2
-    shared-slice-read-sign
-    sub-end
-    sub-inner
-    part-inner-start
-    part-inner-end
-    has-newline-requires
-    at-start-requires-2
-    returns-3
-    has-escape-requires
-    read-tiles-requires
+    read-literal-requires
+    enum-known-e
+    enum-told-3
+    bad-literal-requires
     same-length
+    returns-2
+    same-length-2
+    returns-3
+    at-start-requires
+    same-length-3
     returns-4
-    has-byte-requires
-    at-start-requires-3
-    returns-5
-    returns-6)
+    same-length-4
+    returns-5)

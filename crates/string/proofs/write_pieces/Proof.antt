@@ -1,5 +1,5 @@
 -- The invariant: with what the tiles from here on give written from `at` on, the buffer is as with what all of them give written from its
--- front, and that many bytes are left; and one from here on is bad exactly where one is.
+-- front, and that many bytes are left; one from here on is bad exactly where one is; and the good ones before it begin the content.
 use Prim.Native.Nat.{ℕ, _+_, _-_, _<_, _≤_}
 use native.Mathlib.Numerals.{add-one}
 use native.Mathlib.Omega.{arith}
@@ -15,7 +15,7 @@ use Rattle.proving.proofs.Lists.{rest-of}
 use Rattle.string.specs.declared.tile.Form.{Form}
 use Rattle.string.specs.declared.tile.Tile.the-variants.{Piece}
 use Rattle.string.specs.Tile.{tileOf}
-use Rattle.string.specs.Tiles.{tilesOf, hasBad, pieceBytes, bytesOf}
+use Rattle.string.specs.Tiles.{tilesOf, hasBad, goodSize, pieceBytes, bytesOf}
 use Rattle.string.specs.declared.Single.{Single}
 use Rattle.string.specs.steps.Measure.{GivesOne}
 use Rattle.string.proofs.tile.Tiles.{Fair}
@@ -27,13 +27,13 @@ abbrev Inv-loop : tie.InvT-loop
 Inv-loop inner sign reading out₀ at₀ from₀ out at from =
     let all = bytesOf reading (tilesOf sign inner) in
     let rest = bytesOf reading (tilesOf sign (drop from inner)) in
-    (from ≤ length inner) × (length out ≡ length out₀) × (hasBad (tilesOf sign inner) ≡ hasBad (tilesOf sign (drop from inner))) × (at + length rest ≡ length all) × (sets out₀ 0 all ≡ sets out at rest)
+    (from ≤ length inner) × (length out ≡ length out₀) × (hasBad (tilesOf sign inner) ≡ hasBad (tilesOf sign (drop from inner))) × (goodSize (tilesOf sign inner) ≡ from + goodSize (tilesOf sign (drop from inner))) × (at + length rest ≡ length all) × (sets out₀ 0 all ≡ sets out at rest)
 
 abbrev μ-loop : tie.MeasureT-loop
 μ-loop inner sign reading out₀ at₀ from₀ out at from = length inner - from
 
 loop-holds : tie.Need-loop-holds Inv-loop μ-loop
-loop-holds c = (omega arith, refl, refl, omega arith, refl)
+loop-holds c = (omega arith, refl, refl, omega arith, omega arith, refl)
 
 single-at-requires : tie.Need-single-at-requires Inv-loop μ-loop
 single-at-requires c κs = (c .before .before .before .before .pre .0, c .loop-test .taken)
@@ -78,8 +78,9 @@ loop-again c =
       omega (arith, moves d),
       length-set (l .out) (l .at) _ ∙ l .inv .1,
       l .inv .2 ∙ b,
-      omega (arith, ap length (itself d), l .inv .3),
-      l .inv .4 ∙ rw (itself d, add-one (l .at)),
+      omega (arith, l .inv .3, contents.one-good (o d .args .sign) (o d .pre .0) (now (o d .args .inner)) (l .from) (d .before .before .before .loop-test .taken) (one d .value) (one d .size) (gives d)),
+      omega (arith, ap length (itself d), l .inv .4),
+      l .inv .5 ∙ rw (itself d, add-one (l .at)),
     )
 
 sub-unquote-char : tie.Need-sub-unquote-char Inv-loop μ-loop
@@ -126,10 +127,11 @@ module _ (c : tie.After-unquote-char Inv-loop μ-loop) where
   here : c .unquote-char .result ≡ tileOf q (drop place ys)
   here = c .unquote-char .ensures ∙ ap (tileOf q) (rest-of ys place)
 
-bad : (c : tie.After-enum-told Inv-loop μ-loop) → let d = c .before .before in hasBad (tilesOf (q d) (ys d)) ≡ true
+bad : (c : tie.After-enum-told Inv-loop μ-loop) → let d = c .before .before in (hasBad (tilesOf (q d) (ys d)) ≡ true) × (place d ≡ goodSize (tilesOf (q d) (ys d)))
 bad c =
     let d = c .before .before in
-    l d .loop .inv .2 ∙ contents.bad-here (q d) (ascii d) (ys d) (place d) (inside d) (sym (here d) ∙ c .enum-told .given .1)
+    let b = contents.bad-here (q d) (ascii d) (ys d) (place d) (inside d) (sym (here d) ∙ c .enum-told .given .1) in
+    (l d .loop .inv .2 ∙ b .0, omega (arith, l d .loop .inv .3, b .1))
 
 same-length : tie.Need-same-length Inv-loop μ-loop
 same-length c = l (c .before .before) .loop .inv .1
@@ -137,7 +139,7 @@ same-length c = l (c .before .before) .loop .inv .1
 returns : tie.Need-returns Inv-loop μ-loop
 returns c =
     let d = c .before .before in
-    (contents.measured-bad (a d .args .reading) (tilesOf (q d) (ys d)) (bad c), λ good. absurd (true≢false (sym (bad c) ∙ good)))
+    (contents.measured-bad (a d .args .reading) (tilesOf (q d) (ys d)) (place d) (bad c .0) (bad c .1), λ good. absurd (true≢false (sym (bad c .0) ∙ good)))
 
 -- and what it has
 module _ (c : tie.After-known-told Inv-loop μ-loop) where
@@ -172,7 +174,7 @@ module _ (c : tie.After-known-told Inv-loop μ-loop) where
   long = ap length bytes ∙ length-append given behind
 
 put-piece-requires : tie.Need-put-piece-requires Inv-loop μ-loop
-put-piece-requires c κs = let e = c .before in (fair e .allowed, omega (arith, long e, l (d e) .loop .inv .3, l (d e) .loop .inv .1, a (d e) .pre .1))
+put-piece-requires c κs = let e = c .before in (fair e .allowed, omega (arith, long e, l (d e) .loop .inv .4, l (d e) .loop .inv .1, a (d e) .pre .1))
 
 add-from-2 : tie.Need-add-from-2 Inv-loop μ-loop
 add-from-2 c = omega (arith, fair (c .before .before .before .before) .within)
@@ -189,8 +191,9 @@ loop-again-2 c =
       omega (arith, fair e .within),
       omega (arith, p .kept, inv .1),
       inv .2 ∙ b,
-      omega (arith, long e, p .kept, p .ensures .0, inv .3),
-      inv .4 ∙ rw (bytes e, sets-join, p .ensures .1, p .ensures .0),
+      omega (arith, inv .3, contents.good-behind (q (d e)) (ascii (d e)) (ys (d e)) (place (d e)) (inside (d e)) (form e) (value e) (size e) (piece e)),
+      omega (arith, long e, p .kept, p .ensures .0, inv .4),
+      inv .5 ∙ rw (bytes e, sets-join, p .ensures .1, p .ensures .0),
     )
 
 same-length-2 : tie.Need-same-length-2 Inv-loop μ-loop
@@ -203,8 +206,8 @@ returns-2 c =
     let none = contents.bytes-over (a .sign) (now (a .inner)) (l .from) (c .loop-test .left) (a .reading) in (
       contents.measured-text (a .reading) (tilesOf (a .sign) (now (a .inner))) (l .at)
           (l .inv .2 ∙ contents.bad-over (a .sign) (now (a .inner)) (l .from) (c .loop-test .left))
-          (omega (arith, l .inv .3, ap length none)),
-      λ good. sym (l .inv .4 ∙ rw none),
+          (omega (arith, l .inv .4, ap length none)),
+      λ good. sym (l .inv .5 ∙ rw none),
     )
 
 pub write-pieces-spec : {M : Type 1} → statement M
