@@ -26,9 +26,8 @@ pub literal-answers : LiteralAnswers
 unfolding unquotingOf extentOf
 literal-answers r room xs = go (admitted textLimit xs) refl
   where
-    within : {p : ℕ} → p ≡ faultOf xs → (p < length xs) ⊎ (p ≡ 0) → faultOf xs ≤ length xs
-    within e (inl l) = omega arith
-    within e (inr z) = omega arith
+    within : {p : ℕ} → p ≡ faultOf xs → (p < length xs) ⊎ (p ≡ 0) → (faultOf xs < length xs) ⊎ (faultOf xs ≡ 0)
+    within e l = rw e at l
 
     by : Taken textLimit xs → (s : Bool) → isBadLiteral xs ≡ s → (t : Bool)
         → LiteralTells r xs (unquotingBy room xs (cond s (extent.Bad (faultOf xs)) (cond t (extent.Text true (length (unquoted r xs))) (extent.Text false (length (innerOf xs))))))

@@ -120,9 +120,9 @@ module _ (r : Reading) (q : ℕ) (h : q < 0x80) (ys : List ℕ) where
       as-it-stands t = let u = unescaped q h r ys w s in rw (b, u .0, t, s)
 
   -- it goes wrong within it
-  pub fault-within : faultIn (contentExtent r q ys) ≤ length ys
+  pub content-within : faultIn (contentExtent r q ys) ≤ length ys
   unfolding contentExtent
-  fault-within =
+  content-within =
       let P : Extent → Type 0 = λ e. faultIn e ≤ length ys in
       either P (hasNewline q ys) (λ e. first-within lineFeed ys)
       (λ e. either P (hasBad (tilesOf q ys)) (λ e. good-within q h ys)

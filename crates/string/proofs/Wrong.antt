@@ -97,6 +97,22 @@ pub backslash-before-the-closing-sign-is-bad : unquote-string-gives (ascii "'\\'
 unfolding unquote-string-at
 backslash-before-the-closing-sign-is-bad = unquote-string-at _ _ _
 
+pub sign-before-a-bad-escape-is-named : unquote-string-gives (ascii "'a'\\q'") Crate 0 (Refused (bad-at 2 2))
+unfolding unquote-string-at
+sign-before-a-bad-escape-is-named = unquote-string-at _ _ _
+
+pub bad-escape-before-a-sign-is-named : unquote-string-gives (ascii "'\\q'b'") Crate 0 (Refused (bad-at 1 1))
+unfolding unquote-string-at
+bad-escape-before-a-sign-is-named = unquote-string-at _ _ _
+
+pub escape-that-is-good-is-passed : unquote-string-gives (ascii "'\\n\\q'") Crate 0 (Refused (bad-at 3 3))
+unfolding unquote-string-at
+escape-that-is-good-is-passed = unquote-string-at _ _ _
+
+pub documented-reading-names-the-same-place : unquote-string-gives (ascii "'\\xc3\\q'") Documented 0 (Refused (bad-at 5 5))
+unfolding unquote-string-at
+documented-reading-names-the-same-place = unquote-string-at _ _ _
+
 pub place-is-counted-in-characters : unquote-string-gives (ascii "'" ++ (0xc3 ∷ 0xa9 ∷ ascii "\\q'")) Crate 0 (Refused (bad-at 3 2))
 unfolding unquote-string-at
 place-is-counted-in-characters = unquote-string-at _ _ _
@@ -161,7 +177,7 @@ pub inner-text-is-that-of-the-literal : part-shows (ascii "'a'") (ascii "xyz") (
 unfolding partOf
 inner-text-is-that-of-the-literal = part-at _ _ _
 
-pub refusal-hands-back-nothing : part-shows (ascii "'''") (ascii "xyz") (Refused (atStart 40)) []
+pub refusal-hands-back-nothing : part-shows (ascii "'''") (ascii "xyz") (Refused (bad-at 1 1)) []
 unfolding partOf
 refusal-hands-back-nothing = part-at _ _ _
 

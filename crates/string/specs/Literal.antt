@@ -43,7 +43,7 @@ isBadLiteral xs =
     || (hasNewline (signOf xs) (innerOf xs)
     || hasBad (tilesOf (signOf xs) (innerOf xs)))
 
--- where a byte first stands in a text
+-- where a byte first stands in a text; its end, where it stands nowhere
 unfoldable pub firstOf : ℕ → List ℕ → ℕ
 firstOf c [] = 0
 firstOf c (x ∷ xs) = cond (eqb x c) 0 (suc (firstOf c xs))

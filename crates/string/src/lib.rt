@@ -40,7 +40,7 @@ pub enum Unquoting {
 }
 
 // What a literal, or its content, comes to: a text of so many bytes, which are its own where it has no escape; or it goes wrong at an
-// offset.
+// offset of it.
 pub enum Extent {
     Text { escaped: bool, size: usize },
     Bad { at: usize },
@@ -318,7 +318,7 @@ fn read_tiles(inner: &[u8], sign: u8, reading: Reading, text: &mut [u8]) -> Exte
     read_twice(inner, sign, reading, text)
 }
 
-// What stands between two signs comes to: a text with escapes is written where it has room.
+// What the content between two signs comes to; a text with escapes is written where it has room.
 fn read_content(inner: &[u8], sign: u8, reading: Reading, text: &mut [u8]) -> Extent
     requires { ⌜ sign < 0x80 ⌝ ∗ ⌜ WellFormed (now inner) ⌝ }
     ensures { λ r. ⌜ r ≡ contentExtent reading sign (now (inner .entry)) ⌝ }
@@ -353,7 +353,7 @@ fn behind_sign(e: Extent) -> Extent
     Extent::Bad { at }
 }
 
-// What a literal comes to: a text with escapes is written where it has room.
+// What a literal comes to; a text with escapes is written where it has room.
 fn read_literal(literal: &[u8], reading: Reading, text: &mut [u8]) -> Extent
     requires { ⌜ WellFormed (now literal) ⌝ }
     ensures { λ r. ⌜ r ≡ extentOf reading (now (literal .entry)) ⌝ }

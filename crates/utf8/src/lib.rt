@@ -27,7 +27,7 @@ pub struct Place {
     pub character: CharNumber,
 }
 
-// Why a reader gives no result: document 01's number, and where.
+// Why a reader gives no result: the documents' number, and where.
 pub struct Refusal {
     pub number: usize,
     pub place: Place,

@@ -59,5 +59,6 @@ unquote-kept r room xs s e = go (subst (LiteralTells r xs) e (literal-answers r 
   where
     go : LiteralTells r xs (unquoting.Refused s) → Packable s
     go (inl a) = validate-kept xs s a
-    go (inr (inl (t, (p, l, z)))) = rw z (record { number = omega arith; byte = omega (arith, t .0); character = omega (arith, t .0, number-bound xs p) })
+    go (inr (inl (t, (p, inl l, z)))) = rw z (record { number = omega arith; byte = omega (arith, t .0); character = omega (arith, t .0, number-bound xs p) })
+    go (inr (inl (t, (p, inr o, z)))) = rw z (record { number = omega arith; byte = omega arith; character = omega (arith, t .0, number-bound xs p) })
     go (inr (inr z)) = rw z (omega arith)

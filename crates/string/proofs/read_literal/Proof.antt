@@ -117,7 +117,7 @@ module _ (c : tie.After-read-content) where
   left = c .read-content .ensures .1 ∙ rw (literals.sign-is (lit e) (two (o (i e))), literals.cut-is (lit e) (two (o (i e))))
 
   within : faultIn (c .read-content .result) ≤ length (innerOf (lit e))
-  within = subst (λ (x : Extent). faultIn x ≤ length (innerOf (lit e))) (sym content) (literals.fault-within (r (o (i e))) (signOf (lit e)) (literals.sign-ascii (lit e) (enclosed e)) (innerOf (lit e)))
+  within = subst (λ (x : Extent). faultIn x ≤ length (innerOf (lit e))) (sym content) (literals.content-within (r (o (i e))) (signOf (lit e)) (literals.sign-ascii (lit e) (enclosed e)) (innerOf (lit e)))
 
 behind-sign-requires : tie.Need-behind-sign-requires
 behind-sign-requires c κs = let d = c .before .before in omega (arith, within d, inner-few (lit (e d)))

@@ -90,6 +90,14 @@ pub escape-by-x-has-two-digits : unquote-char-gives (ascii "\\x4f") (code "'") (
 unfolding unquote-char-at
 escape-by-x-has-two-digits = unquote-char-at _ _
 
+pub escape-by-u-has-four-digits : unquote-char-gives (ascii "\\u00e9f") (code "'") (Piece Point 0xe9 6)
+unfolding unquote-char-at
+escape-by-u-has-four-digits = unquote-char-at _ _
+
+pub escape-by-capital-u-has-eight-digits : unquote-char-gives (ascii "\\U0001f600f") (code "'") (Piece Point 0x1f600 10)
+unfolding unquote-char-at
+escape-by-capital-u-has-eight-digits = unquote-char-at _ _
+
 pub octal-255-is-taken : unquote-char-gives (ascii "\\377") (code "'") (Piece Octal 255 4)
 unfolding unquote-char-at
 octal-255-is-taken = unquote-char-at _ _

@@ -44,8 +44,8 @@ abbrev pub BadAmong : List Tile → Type 0
 BadAmong [] = ⊥
 BadAmong (t ∷ ts) = (t ≡ Bad) ⊎ BadAmong ts
 
--- which in text means that where reading comes, with nothing bad before, the sign stands, or a backslash that begins none of 01's escapes
--- (`laws/Tile`)
+-- which in text means: reading comes to an offset, tile by tile, with nothing bad before, and there stands the sign, or a backslash that begins
+-- none of 01's escapes (`laws/Tile`)
 pub data ReadsTo (q : ℕ) (ys : List ℕ) : ℕ → Type 0 where
   start : ReadsTo q ys 0
   tile : (at : ℕ) (f : Form) (v n : ℕ) → ReadsTo q ys at → tileOf q (drop at ys) ≡ Piece f v n → ReadsTo q ys (at + n)
@@ -65,25 +65,32 @@ BadThere =
 abbrev pub BadLiteral : List ℕ → Type 0
 BadLiteral xs = TooShort xs ⊎ (SignsDiffer xs ⊎ (NoQuoteSign xs ⊎ (Newline xs ⊎ BadAmong (tilesOf (signOf xs) (innerOf xs)))))
 
--- Document 02, L1: "Every 40 shall carry an offset in the literal". Its six cases, each for what those before it leave:
+-- Document 02, L1: "Every 40 shall carry an offset in the literal". Its six cases:
 pub data Fault : Type 0 where
+  -- fewer than two bytes
   short : Fault
+  -- the last byte is not the first
   differ : Fault
+  -- both are the same, and no quote sign
   noSign : Fault
+  -- a newline between `'` or `"` signs
   newline : Fault
+  -- a backquote between backquotes, or a bare closing sign
   bareSign : Fault
+  -- a backslash that begins no escape
   badEscape : Fault
 
 abbrev pub Enclosed : List ℕ → Type 0
 Enclosed xs = (¬ (TooShort xs)) × (¬ (SignsDiffer xs)) × (¬ (NoQuoteSign xs))
 
--- an offset of the literal is one of its content, of which something holds
+-- an offset of the literal lies in its content, at an offset of that of which something holds
 abbrev pub Inside : List ℕ → ℕ → (ℕ → Type 0) → Type 0
 Inside xs p P = (at : ℕ) × (p ≡ suc at) × (at < length (innerOf xs)) × P at
 
 abbrev pub FirstIn : ℕ → List ℕ → ℕ → Type 0
 FirstIn c ys at = (peekAt ys at ≡ c) × ((i : ℕ) → i < at → ¬ (peekAt ys i ≡ c))
 
+-- each but the last two is for what those before it leave; of those two one holds where reading stops first.
 -- "0 if it has fewer than two bytes; the last byte's offset if it differs from the first; 0 if they agree but aren't a quote sign; then the first
 -- newline between `'` or `"` signs; otherwise the first inner backquote or bare closing sign, or the backslash of the first bad escape,
 -- whichever reading meets first."
@@ -106,7 +113,7 @@ OneFault = (xs : List ℕ) (f g : Fault) (p o : ℕ) → FaultAt f xs p → Faul
 abbrev pub FaultWithin : Type 0
 FaultWithin = (xs : List ℕ) (f : Fault) (p : ℕ) → FaultAt f xs p → (p < length xs) ⊎ (p ≡ 0)
 
--- in the last two cases what was read before it is good: with the closing sign alone in place of what stands from there on, it is a literal
+-- in the last two cases what was read before it is good: the bytes before the offset, and the closing sign behind them, are a good literal
 abbrev pub ReadBefore : List ℕ → ℕ → Type 0
 ReadBefore xs p = FaultAt bareSign xs p ⊎ FaultAt badEscape xs p
 
@@ -136,7 +143,7 @@ abbrev pub LiteralTells : Reading → List ℕ → Unquoting → Type 0
 LiteralTells r xs (Inner n) = Taken textLimit xs × (n ≡ length (innerOf xs)) × (n ≤ length xs)
 LiteralTells r xs (Written n) = Taken textLimit xs × (n ≡ length (unquoted r xs)) × (n ≤ length xs)
 LiteralTells r xs (Refused s) =
-    (admitted textLimit xs ≡ admission.Refused s) ⊎ (Taken textLimit xs × ((p : ℕ) × (p ≤ length xs) × (s ≡ badLiteral xs p))) ⊎ (s ≡ noRoom)
+    (admitted textLimit xs ≡ admission.Refused s) ⊎ (Taken textLimit xs × ((p : ℕ) × ((p < length xs) ⊎ (p ≡ 0)) × (s ≡ badLiteral xs p))) ⊎ (s ≡ noRoom)
 
 abbrev pub LiteralAnswers : Type 0
 LiteralAnswers = (r : Reading) (room : ℕ) (xs : List ℕ) → LiteralTells r xs (unquotingOf r room xs)
