@@ -49,7 +49,7 @@ mod text;
 pub mod token;
 pub mod utf8;
 
-pub use duration::{display_duration, parse_duration, DurationText};
+pub use duration::{display_duration, parse_duration, parse_duration_exact, DurationText};
 pub use error::Error;
 #[cfg(feature = "raw")]
 #[doc(hidden)]
