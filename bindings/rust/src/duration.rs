@@ -11,8 +11,8 @@ const LONGEST_TEXT: usize = 30;
 /// The text of a duration.
 pub type DurationText = Text<LONGEST_TEXT>;
 
-/// The duration of a text: units such as `1h30m`, or a decimal number of seconds. A part with a unit above 4,294,967,295 counts as
-/// nothing, as it does in promql-parser: [`parse_duration_exact`] refuses it.
+/// The duration of a text: units such as `1h30m`, or a decimal number of seconds. A part whose number is above 4,294,967,295 counts
+/// as nothing, as it does in promql-parser: [`parse_duration_exact`] refuses it.
 ///
 /// # Errors
 ///
@@ -33,7 +33,8 @@ pub fn parse_duration<T: AsRef<[u8]> + ?Sized>(text: &T) -> Result<Duration, Err
     read(text.as_ref(), ffi::parse_duration)
 }
 
-/// The duration of a text, read without loss: as by [`parse_duration`], but that a part with a unit above 4,294,967,295 is refused.
+/// The duration of a text, with no part lost: as by [`parse_duration`], but that a part whose number is above 4,294,967,295 is
+/// refused.
 ///
 /// A duration of whole milliseconds, above zero and of at most 4,294,967,295 whole days, is recovered from what
 /// [`display_duration`] gives, by either function.
