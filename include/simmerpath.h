@@ -198,6 +198,7 @@ enum simmerpath_refusal {
     SIMMERPATH_REFUSED_NOT_A_DURATION = 52,              /* neither a decimal nor parts with units */
     SIMMERPATH_REFUSED_OUTSIDE_EXACT = 53,               /* a decimal with too many digits, or too far from 1, to be read exactly */
     SIMMERPATH_REFUSED_OUT_OF_RANGE = 54,                /* seconds below 0, not finite, or 2^64 and over; too many nanoseconds */
+    SIMMERPATH_REFUSED_OVERSIZED_PART = 55,              /* a part whose number is above 4,294,967,295, in the exact reading */
     SIMMERPATH_REFUSED_NOT_A_NUMBER = 60,                /* no number */
     SIMMERPATH_REFUSED_OUTSIDE_I64 = 61                  /* hexadecimal or octal, and outside the signed integers of 64 bits */
 };
@@ -292,10 +293,16 @@ uint64_t simmerpath_escape_string(const uint8_t *text, size_t text_length, uint8
 uint64_t simmerpath_parse_str_radix(const uint8_t *text, size_t text_length, uint64_t *bits);
 
 /*
- * Reads a duration: answers 0, and writes its seconds and its nanoseconds, which are below a second.
- * Refuses with TOO_LONG, NOT_UTF8, EMPTY_DURATION to OUT_OF_RANGE.
+ * Reads a duration: answers 0, and writes its seconds and its nanoseconds, which are below a second. A part whose number is above
+ * 4,294,967,295 counts as nothing. Refuses with TOO_LONG, NOT_UTF8, EMPTY_DURATION to OUT_OF_RANGE.
  */
 uint64_t simmerpath_parse_duration(const uint8_t *text, size_t text_length, uint64_t *secs, uint32_t *nanos);
+
+/*
+ * The same without loss of a part: one with such a part is refused.
+ * Refuses with TOO_LONG, NOT_UTF8, EMPTY_DURATION to OVERSIZED_PART.
+ */
+uint64_t simmerpath_parse_duration_exact(const uint8_t *text, size_t text_length, uint64_t *secs, uint32_t *nanos);
 
 /*
  * Writes the text of a duration to the front of a buffer, and answers its length. What is under a millisecond is left out, so

@@ -334,13 +334,16 @@ static bool answer_number(const struct record *record)
     return true;
 }
 
-/* `duration`: the seconds and the nanoseconds that a text lasts. */
-static bool answer_duration(const struct record *record)
+/* A function that reads a duration. */
+typedef uint64_t duration_reading(const uint8_t *, size_t, uint64_t *, uint32_t *);
+
+/* Answers with the seconds and the nanoseconds that a text lasts, in a reading. */
+static bool time_text(const struct record *record, duration_reading *read)
 {
     struct lent text = lend_input(record);
     struct lent secs = lend(record, "secs", 1, sizeof(uint64_t));
     struct lent nanos = lend(record, "nanos", 1, sizeof(uint32_t));
-    uint64_t answer = simmerpath_parse_duration(start(&text), text.count, start(&secs), start(&nanos));
+    uint64_t answer = read(start(&text), text.count, start(&secs), start(&nanos));
     take_back_unwritten(&text);
     check_left(&secs, unless_refused(answer, 1));
     check_left(&nanos, unless_refused(answer, 1));
@@ -351,6 +354,18 @@ static bool answer_duration(const struct record *record)
     take_back(&secs);
     take_back(&nanos);
     return true;
+}
+
+/* `duration`: how long a text lasts. */
+static bool answer_duration(const struct record *record)
+{
+    return time_text(record, simmerpath_parse_duration);
+}
+
+/* `durexact`: how long a text lasts, without loss. */
+static bool answer_durexact(const struct record *record)
+{
+    return time_text(record, simmerpath_parse_duration_exact);
 }
 
 /* `durwrite`: the text of the duration of so many seconds and nanoseconds, two numbers with a space between. */
@@ -414,6 +429,7 @@ static const struct op ops[] = {
     {"escape", answer_escape},
     {"number", answer_number},
     {"duration", answer_duration},
+    {"durexact", answer_durexact},
     {"durwrite", answer_durwrite},
     {"lex", answer_lex},
 };

@@ -207,11 +207,29 @@ pub fn parse_duration(
     secs: &mut Lent<u64>,
     nanos: &mut Lent<u32>,
 ) -> Outcome<(u64, u32)> {
+    timed(text, secs, nanos, simmerpath_parse_duration)
+}
+
+/// The same in the exact reading.
+pub fn parse_duration_exact(
+    text: &mut Lent<u8>,
+    secs: &mut Lent<u64>,
+    nanos: &mut Lent<u32>,
+) -> Outcome<(u64, u32)> {
+    timed(text, secs, nanos, simmerpath_parse_duration_exact)
+}
+
+/// What one of the C functions that read durations does.
+fn timed(
+    text: &mut Lent<u8>,
+    secs: &mut Lent<u64>,
+    nanos: &mut Lent<u32>,
+    read: unsafe extern "C" fn(*const u8, usize, *mut u64, *mut u32) -> u64,
+) -> Outcome<(u64, u32)> {
     secs.restore();
     nanos.restore();
     // Safety: the pointer and the length are those of one list, and the others have a first cell, or a guard in its place.
-    let answer =
-        unsafe { simmerpath_parse_duration(text.start(), text.len(), secs.start(), nanos.start()) };
+    let answer = unsafe { read(text.start(), text.len(), secs.start(), nanos.start()) };
     Outcome {
         answer,
         written: (secs.contents()[0], nanos.contents()[0]),

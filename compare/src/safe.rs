@@ -41,8 +41,11 @@ const ON_TEXTS: [Function<[u8]>; 1] = [function("simmerpath::escape_string", esc
 /// The function on the text of a number.
 const ON_NUMBERS: [Function<[u8]>; 1] = [function("simmerpath::parse_str_radix", parse_str_radix)];
 
-/// The function on the text of a duration.
-const ON_DURATIONS: [Function<[u8]>; 1] = [function("simmerpath::parse_duration", parse_duration)];
+/// The functions on the text of a duration.
+const ON_DURATIONS: [Function<[u8]>; 2] = [
+    function("simmerpath::parse_duration", parse_duration),
+    function("simmerpath::parse_duration_exact", parse_duration_exact),
+];
 
 /// The function on seconds and nanoseconds.
 const ON_PAIRS: [Function<(u64, u32)>; 1] =
@@ -198,6 +201,12 @@ fn parse_str_radix(text: &[u8]) -> Option<Difference> {
 fn parse_duration(text: &[u8]) -> Option<Difference> {
     let ours = simmerpath::parse_duration(text);
     difference("the duration", ours, duration::duration(text))
+}
+
+/// Where the duration of a text differs in the exact reading.
+fn parse_duration_exact(text: &[u8]) -> Option<Difference> {
+    let ours = simmerpath::parse_duration_exact(text);
+    difference("the duration", ours, duration::exact_duration(text))
 }
 
 /// Where the text of a duration differs. Nanoseconds that are a second or more are no duration of Rust's.

@@ -11,7 +11,8 @@ const LONGEST_TEXT: usize = 30;
 /// The text of a duration.
 pub type DurationText = Text<LONGEST_TEXT>;
 
-/// The duration of a text: units such as `1h30m`, or a decimal number of seconds.
+/// The duration of a text: units such as `1h30m`, or a decimal number of seconds. A part whose number is above 4,294,967,295 counts
+/// as nothing, as it does in promql-parser: [`parse_duration_exact`] refuses it.
 ///
 /// # Errors
 ///
@@ -29,9 +30,38 @@ pub type DurationText = Text<LONGEST_TEXT>;
 /// # Ok::<(), simmerpath::Error>(())
 /// ```
 pub fn parse_duration<T: AsRef<[u8]> + ?Sized>(text: &T) -> Result<Duration, Error> {
-    let text = text.as_ref();
+    read(text.as_ref(), ffi::parse_duration)
+}
+
+/// The duration of a text, with no part lost: as by [`parse_duration`], but that a part whose number is above 4,294,967,295 is
+/// refused.
+///
+/// A duration of whole milliseconds, above zero and of at most 4,294,967,295 whole days, is recovered from what
+/// [`display_duration`] gives, by either function.
+///
+/// # Errors
+///
+/// Those of [`parse_duration`], and [`OVERSIZED_PART`](crate::refusal::OVERSIZED_PART).
+///
+/// ```
+/// use simmerpath::{parse_duration, parse_duration_exact, refusal::OVERSIZED_PART};
+/// use std::time::Duration;
+///
+/// assert_eq!(parse_duration("1d5000000000ms")?, Duration::from_secs(86_400));
+/// let error = parse_duration_exact("1d5000000000ms").unwrap_err();
+/// assert_eq!(error.number(), OVERSIZED_PART);
+/// assert_eq!(error.to_string(), "a part of the duration is above 4,294,967,295");
+/// assert_eq!(parse_duration_exact("1h30m")?, Duration::from_secs(5_400));
+/// # Ok::<(), simmerpath::Error>(())
+/// ```
+pub fn parse_duration_exact<T: AsRef<[u8]> + ?Sized>(text: &T) -> Result<Duration, Error> {
+    read(text.as_ref(), ffi::parse_duration_exact)
+}
+
+/// The duration of a text in a reading, which writes its seconds and its nanoseconds.
+fn read(text: &[u8], reading: fn(&[u8], &mut u64, &mut u32) -> u64) -> Result<Duration, Error> {
     let (mut secs, mut nanos) = (0, 0);
-    let answer = ffi::parse_duration(text, &mut secs, &mut nanos);
+    let answer = reading(text, &mut secs, &mut nanos);
     result(answer, text)?;
     Ok(Duration::new(secs, nanos))
 }

@@ -38,6 +38,12 @@ pub mod raw {
             secs: *mut u64,
             nanos: *mut u32,
         ) -> u64;
+        pub fn simmerpath_parse_duration_exact(
+            text: *const u8,
+            len: usize,
+            secs: *mut u64,
+            nanos: *mut u32,
+        ) -> u64;
         pub fn simmerpath_display_duration(secs: u64, nanos: u32, out: *mut u8, len: usize) -> u64;
         pub fn simmerpath_lexer(
             query: *const u8,
@@ -128,6 +134,12 @@ pub(crate) fn parse_str_radix(text: &[u8], bits: &mut u64) -> u64 {
 pub(crate) fn parse_duration(text: &[u8], secs: &mut u64, nanos: &mut u32) -> u64 {
     // SAFETY: the pointer and the length are those of one slice, which is read only; the others are lent for the call.
     unsafe { simmerpath_parse_duration(text.as_ptr(), text.len(), secs, nanos) }
+}
+
+/// The same in the exact reading.
+pub(crate) fn parse_duration_exact(text: &[u8], secs: &mut u64, nanos: &mut u32) -> u64 {
+    // SAFETY: the pointer and the length are those of one slice, which is read only; the others are lent for the call.
+    unsafe { simmerpath_parse_duration_exact(text.as_ptr(), text.len(), secs, nanos) }
 }
 
 /// How many bytes of a duration's text are written to the front.

@@ -2,7 +2,8 @@
 //!
 //! The work is done by C functions that are proved: each ends for all bytes and all lengths of what it is lent, with the one answer
 //! that its definition gives, or with a numbered refusal, after which all that it was lent is as it was. The functions here have
-//! the names of promql-parser's, whose answers they give. All of them are safe to call, and none panics.
+//! the names of promql-parser's, whose answers they give, but for [`parse_duration_exact`], which that has not. All of them are safe to
+//! call, and none panics.
 //!
 //! ```
 //! use simmerpath::token::{T_EOF, T_IDENTIFIER, T_LEFT_BRACKET};
@@ -49,7 +50,7 @@ mod text;
 pub mod token;
 pub mod utf8;
 
-pub use duration::{display_duration, parse_duration, DurationText};
+pub use duration::{display_duration, parse_duration, parse_duration_exact, DurationText};
 pub use error::Error;
 #[cfg(feature = "raw")]
 #[doc(hidden)]

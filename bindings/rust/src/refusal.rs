@@ -81,6 +81,8 @@ refusals! {
     OUTSIDE_EXACT = 53, "the decimal is outside the range that is read exactly";
     /// Seconds that are negative, infinite, no number, or 2^64 and over.
     OUT_OF_RANGE = 54, "the seconds are negative, not finite, or too many";
+    /// A part whose number is above 4,294,967,295, by [`parse_duration_exact`](crate::parse_duration_exact).
+    OVERSIZED_PART = 55, "a part of the duration is above 4,294,967,295";
     /// Not the text of a number.
     NOT_A_NUMBER = 60, "not the text of a number";
     /// Hexadecimal or octal, and outside a signed 64-bit integer.

@@ -2,8 +2,8 @@
 
 use simmerpath::token::{T_DURATION, T_EOF, T_IDENTIFIER};
 use simmerpath::{display_duration, escape_string_into, get_keyword_token, is_label, lex_into};
-use simmerpath::{parse_duration, parse_str_radix, token_display, unquote_string_into, utf8};
-use simmerpath::{Lexeme, Reading};
+use simmerpath::{parse_duration, parse_duration_exact, parse_str_radix, token_display};
+use simmerpath::{unquote_string_into, utf8, Lexeme, Reading};
 use std::time::Duration;
 
 #[test]
@@ -55,6 +55,9 @@ fn a_bad_literal_has_a_place_and_a_bad_code_point_none() {
 #[test]
 fn what_needs_no_room() {
     assert_eq!(parse_duration("1m").unwrap(), Duration::from_secs(60));
+    assert_eq!(parse_duration_exact("1m").unwrap(), Duration::from_secs(60));
+    let error = parse_duration_exact("4294967296m").unwrap_err();
+    assert_eq!(error.number(), 55);
     assert_eq!(display_duration(&Duration::from_secs(60)).as_str(), "1m");
     assert_eq!(parse_str_radix("0x10").unwrap().value, 16.0);
     assert_eq!(token_display(T_EOF).as_str(), "<eof>");

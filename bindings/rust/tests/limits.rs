@@ -1,10 +1,10 @@
 //! Limits, rooms, and what a refused call leaves.
 #![cfg(feature = "alloc")]
 
-use simmerpath::refusal::{NOT_UTF8, NO_ROOM, TOO_LONG};
+use simmerpath::refusal::{NOT_UTF8, NO_ROOM, OVERSIZED_PART, TOO_LONG};
 use simmerpath::{escape_string, escape_string_into, lex_into, lexer, parse_duration};
-use simmerpath::{parse_str_radix, unquote_str, unquote_string, unquote_string_into, Reading};
-use simmerpath::{NUMBER_LIMIT, TEXT_LIMIT};
+use simmerpath::{parse_duration_exact, parse_str_radix, unquote_str, unquote_string};
+use simmerpath::{unquote_string_into, Reading, NUMBER_LIMIT, TEXT_LIMIT};
 use std::borrow::Cow;
 
 /// What stands in a list before a call.
@@ -83,6 +83,19 @@ fn numbers_and_durations_at_the_limit() {
 }
 
 #[test]
+fn exact_durations_at_the_limit() {
+    let nines = "9".repeat(NUMBER_LIMIT - 1);
+    let number = |text: &str| parse_duration_exact(text).unwrap_err().number();
+    assert_eq!(number(&format!("{nines}s")), OVERSIZED_PART);
+    assert_eq!(number(&format!("{nines}ms")), TOO_LONG);
+    assert_eq!(number(&format!("{nines}y\u{e9}")), TOO_LONG);
+    let zeros = "0".repeat(NUMBER_LIMIT - 11);
+    let read = parse_duration_exact(&format!("{zeros}4294967295s"));
+    assert_eq!(read.unwrap().as_secs(), 4_294_967_295);
+    assert_eq!(number(&format!("{zeros}4294967296s")), OVERSIZED_PART);
+}
+
+#[test]
 fn bytes_that_are_no_text_are_refused() {
     let error = lexer(b"a\xc3\xa9\xff").unwrap_err();
     assert_eq!(
@@ -92,6 +105,8 @@ fn bytes_that_are_no_text_are_refused() {
     assert_eq!(error.found(), None);
     assert_eq!(error.to_string(), "not UTF-8, at byte 3");
     assert_eq!(parse_duration(b"\xff").unwrap_err().number(), NOT_UTF8);
+    let error = parse_duration_exact(b"5000000000s\xff").unwrap_err();
+    assert_eq!((error.number(), error.byte()), (NOT_UTF8, 11));
     assert_eq!(parse_str_radix(b"\xff").unwrap_err().number(), NOT_UTF8);
 }
 

@@ -61,9 +61,8 @@ fn answer(record: &str) -> Option<String> {
         "unquote" => unquote_string_into(&bytes, Reading::Crate, &mut lent).map(hex),
         "unquotedoc" => unquote_string_into(&bytes, Reading::Documented, &mut lent).map(hex),
         "number" => parse_str_radix(&bytes).map(number),
-        "duration" => {
-            parse_duration(&bytes).map(|d| format!("{} {}", d.as_secs(), d.subsec_nanos()))
-        }
+        "duration" => parse_duration(&bytes).map(timed),
+        "durexact" => parse_duration_exact(&bytes).map(timed),
         "durwrite" => Ok(written(&bytes, room)?),
         "lex" => lexed(&bytes, lent.len()),
         _ => panic!("there is no op {op}"),
@@ -99,6 +98,11 @@ fn number(number: Number) -> String {
         Notation::Octal => "octal",
     };
     format!("{:016x} {notation}", number.value.to_bits())
+}
+
+/// The seconds and the nanoseconds of a duration.
+fn timed(duration: Duration) -> String {
+    format!("{} {}", duration.as_secs(), duration.subsec_nanos())
 }
 
 /// The text of a duration, given as seconds and nanoseconds; none where a room is given, and for what is no duration of Rust's.

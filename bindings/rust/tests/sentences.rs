@@ -2,8 +2,8 @@
 #![cfg(feature = "alloc")]
 
 use simmerpath::utf8::encode;
-use simmerpath::{lexer, parse_duration, parse_str_radix, unquote_string, unquote_string_into};
-use simmerpath::{Error, Reading};
+use simmerpath::{lexer, parse_duration, parse_duration_exact, parse_str_radix};
+use simmerpath::{unquote_string, unquote_string_into, Error, Reading};
 
 /// A query, the number and byte of its refusal, and what promql-parser says of it.
 const QUERIES: [(&str, u16, usize, &str); 30] = [
@@ -177,6 +177,15 @@ fn of_durations() {
         both("-1").0,
         "the seconds are negative, not finite, or too many"
     );
+}
+
+#[test]
+fn of_durations_read_exactly() {
+    let both = |text| said(text, parse_duration_exact(text).unwrap_err());
+    let oversized = "a part of the duration is above 4,294,967,295";
+    assert_eq!(both("1d5000000000ms"), (oversized.into(), oversized.into()));
+    assert_eq!(both("0h0m").0, "duration must be greater than 0");
+    assert_eq!(both("1.5h").0, "not a valid duration string: 1.5h");
 }
 
 #[test]

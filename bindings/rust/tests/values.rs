@@ -1,10 +1,10 @@
-//! The values that document 01 gives, its misreadings to catch, the places of document 02, and the worked examples of
-//! promql-parser.
+//! The values that document 01 gives, its misreadings to catch, the places and the exact durations of document 02, and the worked
+//! examples of promql-parser.
 #![cfg(feature = "alloc")]
 
 use simmerpath::token::*;
-use simmerpath::{display_duration, lexer, parse_duration, parse_str_radix, unquote_string};
-use simmerpath::{Lexeme, Notation, Reading};
+use simmerpath::{display_duration, lexer, parse_duration, parse_duration_exact, parse_str_radix};
+use simmerpath::{unquote_string, Error, Lexeme, Notation, Reading};
 use std::time::Duration;
 
 /// The kinds of the lexemes of a query.
@@ -103,6 +103,58 @@ fn durations_that_are_refused() {
     assert_eq!(number("1.5h"), 52);
     assert_eq!(number("9007199254740993"), 53);
     assert_eq!(number("-1"), 54);
+}
+
+/// A duration's seconds and nanoseconds, or the number of its refusal.
+fn told(read: Result<Duration, Error>) -> Result<(u64, u32), u16> {
+    let parts = |d: Duration| (d.as_secs(), d.subsec_nanos());
+    read.map(parts).map_err(|error| error.number())
+}
+
+#[test]
+fn durations_in_both_readings() {
+    let (day, sum) = (Ok((86_400, 0)), Ok((4_381_367, 295_000_000)));
+    let (decimal, days) = (Ok((4_294_967_296, 0)), Ok((371_085_174_288_000, 0)));
+    let cases = [
+        ("1d5000000000ms", day, Err(55)),
+        ("1d4294967295ms", sum, sum),
+        ("4294967296s", Err(51), Err(55)),
+        ("4294967296s1", Err(52), Err(52)),
+        ("4294967296", decimal, decimal),
+        ("0", Err(51), Err(51)),
+        ("0s", Err(51), Err(51)),
+        ("", Err(50), Err(50)),
+        ("1e400", Err(53), Err(53)),
+        ("-1", Err(54), Err(54)),
+        ("4294967295d", days, days),
+        ("4294967296d", Err(51), Err(55)),
+    ];
+    for (text, present, exact) in cases {
+        assert_eq!(told(parse_duration(text)), present, "{text}");
+        assert_eq!(told(parse_duration_exact(text)), exact, "{text}");
+    }
+    let error = parse_duration_exact("4294967296y").unwrap_err();
+    assert_eq!((error.byte(), error.character()), (0, 0));
+    assert!(!error.has_place());
+}
+
+#[test]
+fn durations_that_are_recovered() {
+    let most = 4_294_967_295 * 86_400;
+    let recovered = [
+        (0, 1),
+        (0, 999),
+        (59, 1),
+        (31_536_000, 0),
+        (most, 0),
+        (most + 86_399, 999),
+    ];
+    for (secs, millis) in recovered {
+        let duration = Duration::new(secs, millis * 1_000_000);
+        let written = display_duration(&duration);
+        assert_eq!(parse_duration(&*written), Ok(duration), "{written}");
+        assert_eq!(parse_duration_exact(&*written), Ok(duration), "{written}");
+    }
 }
 
 #[test]

@@ -7,7 +7,7 @@ use crate::random::Random;
 use std::iter;
 
 /// The units, in their order.
-const UNITS: [&str; 7] = ["y", "w", "d", "h", "m", "s", "ms"];
+pub const UNITS: [&str; 7] = ["y", "w", "d", "h", "m", "s", "ms"];
 
 /// The seconds of a year, a week, and so on; milliseconds have none.
 const SECONDS: [u64; 6] = [31_536_000, 604_800, 86_400, 3_600, 60, 1];
@@ -122,9 +122,13 @@ const IN_NEXT: [[u64; 4]; 8] = [
     [0, 1, 500_000, 999_999],
 ];
 
-/// How many seconds, and how many of each unit, are written one after the other.
+/// How many seconds, and how many of each unit, are written one after the other; and how many at a bound.
 const IN_A_ROW: u64 = 200_000;
 const OF_EACH: u64 = 1_500;
+const AT_A_BOUND: u64 = 150;
+
+/// The greatest number of a unit that is read.
+const MOST_READ: u64 = 4_294_967_295;
 
 /// Every text of at most two bytes, and of at most six of durations; texts of units; decimals at half nanoseconds and around
 /// 2^64, and those of numbers; names; every character as a unit; durations with a byte changed; texts of any length, and
@@ -331,15 +335,16 @@ fn any_half(random: &mut Random) -> String {
     texts[random.below(texts.len())].clone()
 }
 
-/// Seconds and nanoseconds: each number of each unit, with one less and one more; the units together; a row of seconds; every
-/// millisecond; the greatest.
+/// Seconds and nanoseconds: each number of each unit, and those on both sides of what is read, with one less and one more; the
+/// units together; a row of seconds; every millisecond; the greatest.
 pub fn fixed_pairs() -> impl Iterator<Item = (u64, u32)> {
     let secs = SECONDS
         .into_iter()
         .flat_map(|unit| {
             let last = u64::MAX / unit;
             (0..OF_EACH)
-                .chain(last - OF_EACH / 10..=last)
+                .chain(MOST_READ - AT_A_BOUND..=MOST_READ + AT_A_BOUND)
+                .chain(last - AT_A_BOUND..=last)
                 .flat_map(move |count| around(count * unit))
         })
         .chain((0..64).flat_map(|bit| around(1 << bit)))

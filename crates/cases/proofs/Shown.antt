@@ -18,9 +18,9 @@ use Rattle.string.specs.Literal.{isEnclosed, hasNewline}
 use Rattle.scan.specs.Sign.{isSign}
 use Rattle.decimal.specs.Grammar.{hasDigits, exponentHasDigits, isNumeral, isInfinite, isNan}
 use Rattle.decimal.specs.Value.{isScaled, isSome, isExactRange, isInExact, numeralRead, decimalIn, decimalOf}
-use Rattle.duration.specs.Units.{isPart, behind, sumBy, counted, isUnitText, unitsOf}
+use Rattle.duration.specs.Units.{isPart, behind, sumBy, counted, hasOversized, isUnitText, unitsOf}
 use Rattle.duration.specs.declared.Timing.the-variants.{Lasts, Refused}
-use Rattle.duration.specs.Duration.{durationRead, timingOf}
+use Rattle.duration.specs.Duration.{durationRead, timingBy, timingOf}
 use Rattle.writing.specs.Decimal.{digitFor, digitsWithin, decimalText}
 use Rattle.duration.specs.Display.{countText, partText, restOf, durationText}
 use Rattle.scan.specs.Byte.{isSpace, isAlphaNumeric, isWord, isLine}
@@ -41,19 +41,19 @@ queries-shown = ((refl, refl), ((refl, refl), ((refl, refl), (refl, ((refl, refl
 
 -- the durations that are read
 timed-zero : timingOf (ascii "0") ≡ Refused (atStart 51)
-unfolding timingOf durationRead admitted validityOf charsPast sizeOf charLength sizeIn fits codeOf isWithin sameText
+unfolding timingBy durationRead admitted validityOf charsPast sizeOf charLength sizeIn fits codeOf isWithin sameText
 timed-zero = refl
 
 timed-none : timingOf (ascii "00") ≡ Lasts (elapsed 0 0)
-unfolding timingOf durationRead admitted validityOf charsPast sizeOf charLength sizeIn fits codeOf isWithin sameText decimalOf decimalIn isInfinite isNan isNumeral hasDigits exponentHasDigits isSign lowered isIn runLength digitOf valueFrom numeralRead isInExact isExactRange isSome isScaled round size span climb floatUnits odd trailingZeros lt le
+unfolding timingBy durationRead admitted validityOf charsPast sizeOf charLength sizeIn fits codeOf isWithin sameText decimalOf decimalIn isInfinite isNan isNumeral hasDigits exponentHasDigits isSign lowered isIn runLength digitOf valueFrom numeralRead isInExact isExactRange isSome isScaled round size span climb floatUnits odd trailingZeros lt le
 timed-none = refl
 
 timed-decimal : timingOf (ascii "0.0009765625") ≡ Lasts (elapsed 0 976562)
-unfolding timingOf durationRead admitted validityOf charsPast sizeOf charLength sizeIn fits codeOf isWithin sameText decimalOf decimalIn isInfinite isNan isNumeral hasDigits exponentHasDigits isSign lowered isIn runLength digitOf valueFrom numeralRead isInExact isExactRange isSome isScaled round size span climb floatUnits odd trailingZeros lt le
+unfolding timingBy durationRead admitted validityOf charsPast sizeOf charLength sizeIn fits codeOf isWithin sameText decimalOf decimalIn isInfinite isNan isNumeral hasDigits exponentHasDigits isSign lowered isIn runLength digitOf valueFrom numeralRead isInExact isExactRange isSome isScaled round size span climb floatUnits odd trailingZeros lt le
 timed-decimal = refl
 
 timed-units : timingOf (ascii "1d5000000000ms") ≡ Lasts (days 1)
-unfolding timingOf durationRead admitted validityOf charsPast sizeOf charLength sizeIn fits codeOf isWithin sameText decimalOf decimalIn isInfinite isNan isNumeral hasDigits exponentHasDigits isSign lowered isIn isAlpha runLength digitOf valueFrom unitsOf isUnitText behind sumBy isPart counted
+unfolding timingBy durationRead admitted validityOf charsPast sizeOf charLength sizeIn fits codeOf isWithin sameText decimalOf decimalIn isInfinite isNan isNumeral hasDigits exponentHasDigits isSign lowered isIn isAlpha runLength digitOf valueFrom unitsOf isUnitText behind sumBy hasOversized isPart counted
 timed-units = refl
 
 -- and those that are written

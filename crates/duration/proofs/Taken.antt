@@ -28,24 +28,25 @@ use Rattle.decimal.specs.declared.Number.{Number}
 use Rattle.decimal.specs.declared.Decimal.the-variants.{NotDecimal, Exact}
 use Rattle.decimal.specs.Grammar.{hasDigits, exponentHasDigits, isNumeral, isInfinite, isNan}
 use Rattle.decimal.specs.Value.{plain, isInExact, numeralRead, decimalLimit, decimalIn, decimalOf}
+use Rattle.duration.specs.declared.Oversized.{Oversized}
 use Rattle.duration.specs.declared.Timing.the-variants.{Refused}
-use Rattle.duration.specs.Duration.{emptyText, zeroDuration, timedDecimal, durationRead, timingFor, timingOf}
+use Rattle.duration.specs.Duration.{emptyText, zeroDuration, timedDecimal, durationRead, timingFor, timingBy}
 
-module _ (xs : List ℕ) where
-  pub by-admission : (a : Admission) → admitted decimalLimit xs ≡ a → timingFor a xs ≡ timingOf xs
-  unfolding timingOf
-  by-admission a e = ap (λ (b : Admission). timingFor b xs) (sym e)
+module _ (o : Oversized) (xs : List ℕ) where
+  pub by-admission : (a : Admission) → admitted decimalLimit xs ≡ a → timingFor o a xs ≡ timingBy o xs
+  unfolding timingBy
+  by-admission a e = ap (λ (b : Admission). timingFor o b xs) (sym e)
 
-  pub empty : length xs ≡ 0 → Refused emptyText ≡ durationRead xs
+  pub empty : length xs ≡ 0 → Refused emptyText ≡ durationRead o xs
   unfolding durationRead
   empty e = rw (eq-eqb (length xs) 0 e)
 
   module _ (n : length xs ≡ 0 → ⊥) where
-    pub zero : sameText xs (ascii "0") ≡ true → Refused zeroDuration ≡ durationRead xs
+    pub zero : sameText xs (ascii "0") ≡ true → Refused zeroDuration ≡ durationRead o xs
     unfolding durationRead
     zero e = rw (ne-eqb (length xs) 0 n, e)
 
-    pub other : sameText xs (ascii "0") ≡ false → timedDecimal xs (decimalOf xs) ≡ durationRead xs
+    pub other : sameText xs (ascii "0") ≡ false → timedDecimal o xs (decimalOf xs) ≡ durationRead o xs
     unfolding durationRead
     other e = rw (ne-eqb (length xs) 0 n, e)
 
@@ -78,5 +79,5 @@ module _ (xs : List ℕ) (n : Number) where
       go false false p q e = inexact n e
       go false true p q e = ((λ l. let z : _≡_ {A = Bool} true false = sym (lt-ltb decimalLimit (length xs) l) ∙ p in inexact n (cc)), eqb-true (prefixEnd xs) (length xs) q)
 
-  pub exact-read : decimalOf xs ≡ Exact n → durationRead xs ≡ timingOf xs
-  exact-read e = by-admission xs _ (given-exactly decimalLimit xs .2 .1 (taken e))
+  pub exact-read : (o : Oversized) → decimalOf xs ≡ Exact n → durationRead o xs ≡ timingBy o xs
+  exact-read o e = by-admission o xs _ (given-exactly decimalLimit xs .2 .1 (taken e))

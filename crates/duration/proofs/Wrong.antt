@@ -2,7 +2,7 @@
 -- proved. `parse-duration-gives` is what the promise answers at a text, which is the definition's value there.
 use Prim.Native.Nat.{ℕ}
 use mathlib.Core.List.{List, []}
-use mathlib.Core.Path.{_≡_, ap, _∙_}
+use mathlib.Core.Path.{_≡_, refl, ap, _∙_}
 use lib.Count.{trailingZeros}
 use lib.Ieee.{round, size, span, climb, units as floatUnits, odd, lt, le}
 use denote.Ref.{now}
@@ -20,13 +20,18 @@ use Rattle.utf8.specs.Code.{codeOf}
 use Rattle.decimal.specs.Grammar.{hasDigits, exponentHasDigits, isNumeral, isInfinite, isNan}
 use Rattle.decimal.specs.Value.{isScaled, isSome, isExactRange, isInExact, numeralRead, decimalIn, decimalOf}
 use Rattle.duration.specs.declared.span.Duration.{Duration}
-use Rattle.duration.specs.Units.{isPart, behind, sumBy, counted, isUnitText, unitsOf}
+use Rattle.duration.specs.Units.{isPart, behind, sumBy, hasOversized, counted, isUnitText, unitsOf}
 use Rattle.duration.specs.declared.Timing.{Timing}
 use Rattle.duration.specs.declared.Timing.the-variants.{Lasts, Refused}
-use Rattle.duration.specs.Duration.{durationRead, timingOf, notTimed}
+use Rattle.duration.specs.Duration.{durationRead, timingBy, timingOf, exactTimingOf, notTimed}
 use Rattle.utf8.specs.declared.Refusal.{Refusal}
+use Rattle.writing.specs.Decimal.{decimalText, digitsWithin, digitFor}
+use Rattle.duration.specs.Display.{countText, partText, restOf, durationText}
+use Rattle.duration.specs.laws.Exact.{PastBound}
 use Rattle.duration.proofs.parse_duration.Kinds as parse-duration
 use Rattle.duration.proofs.parse_duration.Reads as parse-duration-reads
+use Rattle.duration.proofs.parse_duration_exact.Kinds as parse-duration-exact
+use Rattle.duration.proofs.parse_duration_exact.Reads as parse-duration-exact-reads
 use Rattle.duration.proofs.not_timed.Kinds as not-timed
 use Rattle.duration.proofs.not_timed.Reads as not-timed-reads
 
@@ -37,7 +42,7 @@ abbrev parse-duration-gives : List ℕ → Timing → Type 0
 parse-duration-gives s v = Answers parse-duration.ps parse-duration.r parse-duration-reads.Post (λ κs a. now (a .0) ≡ s) (λ κs. v)
 
 parse-duration-at : (s : List ℕ) → parse-duration-gives s (timingOf s)
-unfolding timingOf durationRead admitted validityOf charsPast sizeOf charLength sizeIn fits codeOf isWithin sameText decimalOf decimalIn isInfinite isNan isNumeral hasDigits exponentHasDigits isSign lowered isIn runLength digitOf valueFrom numeralRead isInExact isExactRange isSome isScaled round size span climb floatUnits odd trailingZeros lt le unitsOf isUnitText behind sumBy isPart counted isAlpha
+unfolding timingBy durationRead admitted validityOf charsPast sizeOf charLength sizeIn fits codeOf isWithin sameText decimalOf decimalIn isInfinite isNan isNumeral hasDigits exponentHasDigits isSign lowered isIn runLength digitOf valueFrom numeralRead isInExact isExactRange isSome isScaled round size span climb floatUnits odd trailingZeros lt le unitsOf isUnitText behind sumBy hasOversized isPart counted isAlpha
 parse-duration-at s κs a x e p h = p ∙ ap timingOf h
 
 pub empty-text-is-refused-with-fifty : parse-duration-gives [] (Refused (atStart 50))
@@ -64,6 +69,10 @@ pub negative-decimal-outside-is-refused-with-fifty-four : parse-duration-gives (
 unfolding parse-duration-at
 negative-decimal-outside-is-refused-with-fifty-four = parse-duration-at _
 
+pub oversized-part-counts-for-nothing : parse-duration-gives (ascii "1d4294967296ms") (Lasts (duration 86400 0))
+unfolding parse-duration-at
+oversized-part-counts-for-nothing = parse-duration-at _
+
 pub zero-sum-is-refused : parse-duration-gives (ascii "0s") (Refused (atStart 51))
 unfolding parse-duration-at
 zero-sum-is-refused = parse-duration-at _
@@ -79,6 +88,45 @@ infinity-is-out-of-range = parse-duration-at _
 pub letter-is-no-duration : parse-duration-gives (ascii "x") (Refused (atStart 52))
 unfolding parse-duration-at
 letter-is-no-duration = parse-duration-at _
+
+abbrev parse-duration-exact-gives : List ℕ → Timing → Type 0
+parse-duration-exact-gives s v = Answers parse-duration-exact.ps parse-duration-exact.r parse-duration-exact-reads.Post (λ κs a. now (a .0) ≡ s) (λ κs. v)
+
+parse-duration-exact-at : (s : List ℕ) → parse-duration-exact-gives s (exactTimingOf s)
+parse-duration-exact-at s κs a x e p h = p ∙ ap exactTimingOf h
+
+pub day-and-5000000000-milliseconds-are-refused : parse-duration-exact-gives (ascii "1d5000000000ms") (Refused (atStart 55))
+unfolding parse-duration-at
+day-and-5000000000-milliseconds-are-refused = parse-duration-exact-at _
+
+pub part-of-2-to-32-is-refused : parse-duration-exact-gives (ascii "1d4294967296ms") (Refused (atStart 55))
+unfolding parse-duration-at
+part-of-2-to-32-is-refused = parse-duration-exact-at _
+
+pub part-below-2-to-32-is-read : parse-duration-exact-gives (ascii "1d4294967295ms") (Lasts (duration 4381367 295000000))
+unfolding parse-duration-at
+part-below-2-to-32-is-read = parse-duration-exact-at _
+
+pub oversized-part-is-named-before-a-zero-sum : parse-duration-exact-gives (ascii "4294967296s") (Refused (atStart 55))
+unfolding parse-duration-at
+oversized-part-is-named-before-a-zero-sum = parse-duration-exact-at _
+
+pub oversized-part-is-not-forgotten : parse-duration-exact-gives (ascii "4294967296y0w") (Refused (atStart 55))
+unfolding parse-duration-at
+oversized-part-is-not-forgotten = parse-duration-exact-at _
+
+pub text-that-is-none-is-named-before-its-part : parse-duration-exact-gives (ascii "4294967296s1") (Refused (atStart 52))
+unfolding parse-duration-at
+text-that-is-none-is-named-before-its-part = parse-duration-exact-at _
+
+pub decimal-may-be-greater : parse-duration-exact-gives (ascii "4294967296") (Lasts (duration 4294967296 0))
+unfolding parse-duration-at
+decimal-may-be-greater = parse-duration-exact-at _
+
+-- one day more than the bound, as it is written and read
+pub past-bound : PastBound
+unfolding parse-duration-at durationText partText restOf countText decimalText digitsWithin digitFor
+past-bound = (refl, refl, refl)
 
 abbrev not-timed-gives : Timing → Refusal → Type 0
 not-timed-gives t v = Answers not-timed.ps not-timed.r not-timed-reads.Post (λ κs a. a .0 ≡ t) (λ κs. v)

@@ -1,4 +1,5 @@
 pub mod Parts
 pub mod Steps
+pub mod Spelling
 pub mod Unique
 pub mod Wrong

@@ -1,2 +1,4 @@
 pub mod Display
+pub mod Exact
 pub mod Refusals
+pub mod Spelling

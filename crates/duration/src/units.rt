@@ -6,20 +6,23 @@ ghost use mathlib.Core.Path.{_≡_};
 ghost use Prim.Native.Nat.{_+_, _*_, _^_, _≤_};
 ghost use lib.ListN.{length};
 ghost use Rattle.duration.specs.Unit.{year, second};
-ghost use Rattle.duration.specs.Units.{counted, lasting, unitsOf};
+ghost use mathlib.Core.Bool.{_||_};
+ghost use lib.Dec.{ltb};
+ghost use Rattle.duration.specs.Units.{mostCounted, counted, lasting, unitsOf};
 ghost use Rattle.duration.specs.steps.Units.{advanced};
 
-// What a unit text amounts to, if it is one.
+// What a unit text amounts to, if it is one, and whether a part of it is oversized, which counts as nothing.
 pub enum Units {
-    Sum(Duration),
+    Sum { lasts: Duration, oversized: bool },
     NotUnits,
 }
 
-// How far a text was read, and what the parts before amount to.
+// How far a text was read, what the parts before amount to, and whether one of them is above the greatest number that counts.
 struct Progress {
     at: usize,
     secs: u64,
     millis: u64,
+    oversized: bool,
 }
 
 // The greatest number of a part that counts.
@@ -30,6 +33,13 @@ fn counted(n: u64) -> u64
     ensures { λ r. ⌜ r ≡ counted n ⌝ }
 {
     if n <= MOST_COUNTED { n } else { 0 }
+}
+
+// Whether a part before, or this one, is oversized.
+fn is_oversized(before: bool, n: u64) -> bool
+    ensures { λ r. ⌜ r ≡ before || ltb mostCounted n ⌝ }
+{
+    before || MOST_COUNTED < n
 }
 
 // The text with one more part read, where it goes on with a part of the unit.
@@ -47,11 +57,14 @@ fn take(s: &[u8], t: Progress, name: &[u8], size: u64) -> Progress
     if !scan::is_text(&rest[digits..end], name) {
         return t;
     }
-    let n = counted(decimal::digits_value(0, Notation::Decimal, &rest[..digits]));
+    let value = decimal::digits_value(0, Notation::Decimal, &rest[..digits]);
+    let n = counted(value);
+    let oversized = is_oversized(t.oversized, value);
     Progress {
         at: from + end,
         secs: t.secs + n * (size / Duration::SECOND),
         millis: t.millis + n * (size % Duration::SECOND),
+        oversized,
     }
 }
 
@@ -74,6 +87,7 @@ pub fn read_units(s: &[u8]) -> Units
         at: 0,
         secs: 0,
         millis: 0,
+        oversized: false,
     };
     let years = take(s, start, b"y", Duration::YEAR);
     let weeks = take(s, years, b"w", Duration::WEEK);
@@ -85,5 +99,7 @@ pub fn read_units(s: &[u8]) -> Units
     if all.at != s.len() {
         return Units::NotUnits;
     }
-    Units::Sum(lasting(all.secs, all.millis))
+    let lasts = lasting(all.secs, all.millis);
+    let oversized = all.oversized;
+    Units::Sum { lasts, oversized }
 }

@@ -1,3 +1,4 @@
+pub mod Tells
 pub mod Laws
 pub mod Unique
 pub mod Wrong

@@ -3,8 +3,10 @@
 use crate::{decimal, filled};
 use compare::oracle::duration::{self, displayed};
 use compare::oracle::{Answer, NO_ROOM};
+use compare::texts::durations::UNITS;
 use compare::texts::hex;
 use std::str;
+use std::time::Duration;
 
 /// Lines written by hand: records in every form, and lines that are no record.
 const BY_HAND: &[&str] = &[
@@ -18,6 +20,15 @@ const BY_HAND: &[&str] = &[
     "duration 356d x",
     "durations 356d",
     "Duration 356d",
+    "durexact -",
+    "durexact 356d 0",
+    "durexact 356D",
+    "durexact",
+    "durexact ",
+    "durexact 3",
+    "durexact 356d x",
+    "durexacts 356d",
+    "durExact 356d",
     "durwrite -",
     "durwrite - 0",
     "durwrite",
@@ -198,6 +209,56 @@ const TEXTS: &[&[u8]] = &[
     b"1s\xed\xa0\x80",
 ];
 
+/// Texts for the exact reading: document 02's cases; an oversized part before, behind and between others; what comes before it; and
+/// what is like it in a decimal.
+const EXACT_TEXTS: &[&[u8]] = &[
+    b"1d5000000000ms",
+    b"1d4294967295ms",
+    b"4294967296s",
+    b"4294967296s1",
+    b"4294967296",
+    b"0s",
+    b"4294967295d",
+    b"4294967296d",
+    b"5000000000h1ms",
+    b"1y5000000000w1d",
+    b"4294967296y4294967296ms",
+    b"0h4294967296m0s",
+    b"18446744073709551616s",
+    b"18446744073709551617s1ms",
+    b"4294967295y4294967295w4294967295d4294967295h4294967295m4294967295s4294967295ms",
+    b"4294967295y4294967295w4294967295d4294967295h4294967295m4294967295s4294967296ms",
+    b"0",
+    b"0y0w0d0h0m0s0ms",
+    b"1.5h",
+    b"1ms1s",
+    b"1s5000000000s",
+    b"5000000000s1h",
+    b"5000000000S",
+    b"5000000000m ",
+    b" 5000000000m",
+    b"+5000000000m",
+    b"-5000000000m",
+    b"5000000000.5m",
+    b"5000000000us",
+    b"5000000000m\n",
+    b"5000000000m\xff",
+    "5000000000\u{17f}".as_bytes(),
+    b"5000000000",
+    b"00005000000000.5",
+    b"5000000000e-9",
+    b"0e5000000000",
+    b"9007199254740993",
+    b"1e400",
+    b"-5000000000",
+    b"-1e400",
+    b"inf",
+    b"2e19",
+];
+
+/// One of so many texts is recorded for the exact reading too.
+const EXACT_SHARE: usize = 4;
+
 /// Seconds and nanoseconds: what is under a millisecond, each unit with a little less and more, units together, the greatest,
 /// nanoseconds above what is written.
 const PAIRS: &[(u64, u32)] = &[
@@ -336,6 +397,7 @@ pub fn inputs() -> Vec<String> {
     let mut lines: Vec<String> = BY_HAND.iter().map(|line| line.to_string()).collect();
     lines.extend(TEXTS.iter().map(|text| line("duration", text)));
     lines.extend(long().map(|text| line("duration", text.as_bytes())));
+    lines.extend(exact_texts().map(|text| line("durexact", &text)));
     lines.extend(PAIRS.iter().map(|&pair| pair_line(pair)));
     for &pair in IN_ROOMS {
         lines.extend((0..=needed(pair) + 1).map(|room| room_line(pair, room)));
@@ -344,6 +406,23 @@ pub fn inputs() -> Vec<String> {
     lines.extend([needed - 1, needed, needed + 1].map(|room| room_line(LONGEST, room)));
     lines.extend(NO_PAIRS.iter().map(|pair| line("durwrite", pair)));
     lines
+}
+
+/// The texts for the exact reading: its own, both sides of the bound of each unit, a share of the others, long ones.
+fn exact_texts() -> impl Iterator<Item = Vec<u8>> {
+    let own = EXACT_TEXTS.iter().map(|text| text.to_vec());
+    let bounds = UNITS.iter().flat_map(|unit| {
+        let numbers = [
+            "4294967295",
+            "4294967296",
+            "00004294967295",
+            "00004294967296",
+        ];
+        numbers.map(|number| [number, unit].concat().into_bytes())
+    });
+    let share = TEXTS.iter().step_by(EXACT_SHARE).map(|text| text.to_vec());
+    let long = long().into_iter().map(String::into_bytes);
+    own.chain(bounds).chain(share).chain(long)
 }
 
 /// The record of an operation on these bytes.
@@ -385,7 +464,17 @@ fn long() -> [String; 10] {
 
 /// The answer to `duration`: the seconds and the nanoseconds of a text.
 pub fn duration(text: &[u8]) -> String {
-    match duration::duration(text) {
+    timed(duration::duration(text))
+}
+
+/// The answer to `durexact`: the same in the exact reading.
+pub fn durexact(text: &[u8]) -> String {
+    timed(duration::exact_duration(text))
+}
+
+/// The seconds and the nanoseconds of a duration, or the refusal.
+fn timed(read: Result<Duration, Answer>) -> String {
+    match read {
         Ok(duration) => format!("ok {} {}", duration.as_secs(), duration.subsec_nanos()),
         Err(refused) => refused.to_string(),
     }

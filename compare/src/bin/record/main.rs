@@ -26,6 +26,7 @@ fn answer(line: &str) -> String {
         "unquotedoc" => Some(string::unquotedoc(&input, room)),
         "number" => Some(number::number(&input)),
         "duration" => Some(duration::duration(&input)),
+        "durexact" => Some(duration::durexact(&input)),
         "durwrite" => duration::durwrite(&input, room),
         "lex" => Some(lexer::lex(&input, room)),
         _ => None,

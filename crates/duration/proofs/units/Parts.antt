@@ -5,9 +5,9 @@ use native.Mathlib.Nat.{mul-le-mul-right, mul-le-mul-left}
 use native.Mathlib.Omega.{arith}
 use mathlib.Core.List.{List}
 use mathlib.Core.Path.{_≡_, ap}
-use lib.Dec.{leb}
+use lib.Dec.{leb, ltb}
 use lib.ListN.{length}
-use borrow.Author.Tests.{lt-leb, leb-true}
+use borrow.Author.Tests.{lt-leb, lt-ltb, leb-true}
 use Rattle.scan.specs.declared.byte.Class.the-variants.{Digit, Alpha}
 use Rattle.scan.specs.Byte.{isIn}
 use Rattle.proving.proofs.Choice.{either}
@@ -30,6 +30,14 @@ counted-told v = go (decLe v mostTold)
     go : Dec (v ≤ mostTold) → counted (min mostTold v) ≡ counted v
     go (yes l) = let k : min mostTold v ≡ v = omega arith in ap counted k
     go (no l) = rw (lt-leb v mostCounted (omega arith), lt-leb (min mostTold v) mostCounted (omega arith))
+
+-- nor is it oversized in one way and not in the other
+pub over-told : (v : ℕ) → ltb mostCounted (min mostTold v) ≡ ltb mostCounted v
+over-told v = go (decLe v mostTold)
+  where
+    go : Dec (v ≤ mostTold) → ltb mostCounted (min mostTold v) ≡ ltb mostCounted v
+    go (yes l) = let k : min mostTold v ≡ v = omega arith in ap (ltb mostCounted) k
+    go (no l) = rw (lt-ltb mostCounted v (omega arith), lt-ltb mostCounted (min mostTold v) (omega arith))
 
 pub counted-most : (v : ℕ) → counted v ≤ mostCounted
 unfolding counted

@@ -3,16 +3,17 @@
 use Prim.Native.Nat.{ℕ, _+_, _-_, _*_, _/_, _%_, _^_, _≤_}
 use native.Mathlib.Nat.{mul-assoc, mul-add, div-add-mod'}
 use native.Mathlib.Omega.{arith}
-use mathlib.Core.Bool.{true, false}
+use mathlib.Core.Bool.{Bool, true, false, _||_, or-assoc, or-false}
 use mathlib.Core.List.{List, [], _∷_}
 use mathlib.Core.Path.{_≡_, refl, sym, ap, _∙_}
+use lib.Dec.{ltb}
 use lib.ListN.{length, drop, length-drop}
 use borrow.Author.Tests.{eq-eqb, ne-eqb}
 use lib.Seq.{drop-drop}
 use Rattle.proving.proofs.Choice.{either}
 use Rattle.duration.specs.Unit.{Unit, units, second, year}
 use Rattle.duration.specs.declared.units.Progress.{Progress}
-use Rattle.duration.specs.Units.{isPart, partEnd, partValue, behind, sumBy, counted, isUnitText, unitSum}
+use Rattle.duration.specs.Units.{isPart, partEnd, partValue, behind, sumBy, mostCounted, counted, hasOversized, isUnitText, unitSum}
 use Rattle.duration.specs.steps.Units.{withPart, advanced}
 use Rattle.duration.proofs.units.Parts.{part-within, counted-most, seconds-fit, millis-fit}
 
@@ -21,11 +22,12 @@ pub record Reached (xs : List ℕ) (us : List Unit) (k : ℕ) (t : Progress) : T
   pub within : t .at ≤ length xs
   pub left : behind us (drop (t .at) xs) ≡ behind units xs
   pub sum : t .secs * second + t .millis + sumBy counted us (drop (t .at) xs) ≡ unitSum xs
+  pub over : t .oversized || hasOversized us (drop (t .at) xs) ≡ hasOversized units xs
   pub secs-few : t .secs ≤ k * 2 ^ 57
   pub millis-few : t .millis ≤ k * 2 ^ 57
 
-pub begun : (xs : List ℕ) (t : Progress) → t ≡ record { at = 0; secs = 0; millis = 0 } → Reached xs units 0 t
-begun xs t e = rw e (record { within = omega arith; left = refl; sum = omega arith; secs-few = omega arith; millis-few = omega arith })
+pub begun : (xs : List ℕ) (t : Progress) → t ≡ record { at = 0; secs = 0; millis = 0; oversized = false } → Reached xs units 0 t
+begun xs t e = rw e (record { within = omega arith; left = refl; sum = omega arith; over = refl; secs-few = omega arith; millis-few = omega arith })
 
 -- n of a size: its seconds and what is over
 parted : (n size : ℕ) → n * (size / second) * second + n * (size % second) ≡ n * size
@@ -50,6 +52,14 @@ module _ (xs : List ℕ) (u : Unit) (us : List Unit) (k : ℕ) (t : Progress) (h
   unfolding sumBy
   sum-read e = rw e
 
+  over-read : isPart (u .text) ys ≡ true → hasOversized (u ∷ us) ys ≡ ltb mostCounted (partValue ys) || hasOversized us (drop (partEnd ys) ys)
+  unfolding hasOversized
+  over-read e = rw e
+
+  over-left : isPart (u .text) ys ≡ false → hasOversized (u ∷ us) ys ≡ hasOversized us ys
+  unfolding hasOversized
+  over-left e = rw e
+
   behind-left : isPart (u .text) ys ≡ false → behind (u ∷ us) ys ≡ behind us ys
   unfolding behind
   behind-left e = rw e
@@ -64,6 +74,11 @@ module _ (xs : List ℕ) (u : Unit) (us : List Unit) (k : ℕ) (t : Progress) (h
         within = omega (arith, part-within ys, length-drop (t .at) xs, r .within);
         left = ap (behind us) (sym along) ∙ sym (behind-read e) ∙ r .left;
         sum = omega (arith, r .sum, sum-read e, parted n (u .size), ap (sumBy counted us) along);
+        over =
+            or-assoc (t .oversized) (ltb mostCounted (partValue ys)) (hasOversized us (drop (t .at + partEnd ys) xs))
+            ∙ ap (λ (zs : List ℕ). t .oversized || (ltb mostCounted (partValue ys) || hasOversized us zs)) (sym along)
+            ∙ ap (λ (b : Bool). t .oversized || b) (sym (over-read e))
+            ∙ r .over;
         secs-few = omega (arith, r .secs-few, seconds-fit (u .size) n (counted-most (partValue ys)) h);
         millis-few = omega (arith, r .millis-few, millis-fit (u .size) n (counted-most (partValue ys)));
       }
@@ -74,6 +89,7 @@ module _ (xs : List ℕ) (u : Unit) (us : List Unit) (k : ℕ) (t : Progress) (h
         within = r .within;
         left = sym (behind-left e) ∙ r .left;
         sum = omega (arith, r .sum, sum-left e);
+        over = ap (λ (b : Bool). t .oversized || b) (sym (over-left e)) ∙ r .over;
         secs-few = omega (arith, r .secs-few);
         millis-few = omega (arith, r .millis-few);
       }
@@ -100,3 +116,7 @@ module _ (xs : List ℕ) (k : ℕ) (t : Progress) (r : Reached xs [] k t) where
     where
       nothing : sumBy counted [] (drop (t .at) xs) ≡ 0
       nothing = unfold sumBy in refl
+
+  pub over-is : t .oversized ≡ hasOversized units xs
+  unfolding hasOversized
+  over-is = sym (or-false (t .oversized)) ∙ r .over

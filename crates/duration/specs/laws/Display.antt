@@ -45,7 +45,6 @@ TextFew = (d : Duration) → d .secs < 2 ^ 64 → d .nanos < nanosASecond → le
 abbrev pub Denotes : Type 0
 Denotes = (d : Duration) → (behind units (durationText d) ≡ []) × (sumBy (λ v. v) units (durationText d) ≡ millisOf d)
 
--- so it denotes the duration again, where that is a whole number of milliseconds; what `parse_duration` reads of it is not said here, which refuses the empty
--- text and counts a number above 4,294,967,295 for nothing
+-- so it denotes the duration again, where that is a whole number of milliseconds; what is read of it is said in `laws/Exact`
 abbrev pub DenotesAgain : Type 0
 DenotesAgain = (d : Duration) → d .nanos < nanosASecond → d .nanos % nanosAMilli ≡ 0 → lasting (sumBy (λ v. v) units (durationText d)) ≡ d

@@ -1,4 +1,4 @@
--- The laws of durations in `specs/laws/Codes`: an accepted answer is 0, or no more than the buffer's bytes; a refusal's number is at most 54
+-- The laws of durations in `specs/laws/Codes`: an accepted answer is 0, or no more than the buffer's bytes; a refusal's number is at most 55
 -- and its place within the text, by the bounds of `duration`'s answers.
 use native.Mathlib.Omega.{arith}
 use mathlib.Core.Logic.{inl, inr}
@@ -6,7 +6,7 @@ use mathlib.Core.Path.{_≡_, refl, subst}
 use borrow.Author.Tests.{lt-leb}
 use Rattle.duration.specs.declared.Timing.{Timing}
 use Rattle.duration.specs.declared.Timing.the-variants.{Lasts, Refused}
-use Rattle.duration.specs.Duration.{timingOf}
+use Rattle.duration.specs.Duration.{timingBy}
 use Rattle.duration.proofs.Bounds.{timing-bound}
 use Rattle.utf8.specs.declared.Writing.{Writing}
 use Rattle.utf8.specs.declared.Writing.the-variants as writing
@@ -20,14 +20,14 @@ use Rattle.exports.specs.laws.Codes.{looksRefused, isNoDuration, Duratio
 use Rattle.exports.proofs.packing.Laws.{packed-told, placed-kept}
 
 pub duration-told : DurationTold
-duration-told xs = go (timingOf xs)
+duration-told o xs = go (timingBy o xs)
   where
     go : (t : Timing) → looksRefused (durationCode t) ≡ isNoDuration t
     go (Lasts d) = refl
     go (Refused r) = packed-told r
 
 pub duration-kept : DurationKept
-duration-kept xs r e = let b = timing-bound xs r e in omega (arith, b)
+duration-kept o xs r e = let b = timing-bound o xs r e in omega (arith, b)
 
 pub duration-display-told : DurationDisplayTold
 duration-display-told room d h = go (displayingOf room d) (display-answers room d)

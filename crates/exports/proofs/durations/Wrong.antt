@@ -21,8 +21,8 @@ use Rattle.scan.specs.Sign.{isSign}
 use Rattle.scan.specs.Digits.{valueFrom}
 use Rattle.decimal.specs.Grammar.{hasDigits, exponentHasDigits, isNumeral, isInfinite, isNan}
 use Rattle.decimal.specs.Value.{decimalIn, decimalOf}
-use Rattle.duration.specs.Units.{isPart, behind, sumBy, counted, isUnitText, unitsOf}
-use Rattle.duration.specs.Duration.{durationRead, timingOf}
+use Rattle.duration.specs.Units.{isPart, behind, sumBy, counted, hasOversized, isUnitText, unitsOf}
+use Rattle.duration.specs.Duration.{durationRead, timingBy, timingOf, exactTimingOf}
 use Rattle.writing.specs.Decimal.{digitFor, digitsWithin, decimalText}
 use Rattle.duration.specs.Display.{countText, partText, restOf, durationText, displayingOf}
 use Rattle.exports.specs.Packed.{packedAs}
@@ -30,12 +30,14 @@ use Rattle.exports.specs.Duration.{durationCode, secsLeft, nanosLeft, du
 use Rattle.exports.specs.Written.{writtenCode}
 use Rattle.exports.proofs.durations.simmerpath_parse_duration.Kinds as simmerpath-parse-duration
 use Rattle.exports.proofs.durations.simmerpath_parse_duration.Reads as simmerpath-parse-duration-reads
+use Rattle.exports.proofs.durations.simmerpath_parse_duration_exact.Kinds as simmerpath-parse-duration-exact
+use Rattle.exports.proofs.durations.simmerpath_parse_duration_exact.Reads as simmerpath-parse-duration-exact-reads
 use Rattle.exports.proofs.durations.simmerpath_display_duration.Kinds as simmerpath-display-duration
 use Rattle.exports.proofs.durations.simmerpath_display_duration.Reads as simmerpath-display-duration-reads
 
 -- what computes at a text, and at a duration
 reading : Unit {0}
-unfolding timingOf durationRead admitted validityOf charsPast sizeOf charLength sizeIn fits codeOf isWithin sameText decimalOf decimalIn isInfinite isNan isNumeral hasDigits exponentHasDigits isSign lowered isIn isAlpha runLength digitOf valueFrom unitsOf isUnitText behind sumBy isPart counted
+unfolding timingBy durationRead admitted validityOf charsPast sizeOf charLength sizeIn fits codeOf isWithin sameText decimalOf decimalIn isInfinite isNan isNumeral hasDigits exponentHasDigits isSign lowered isIn isAlpha runLength digitOf valueFrom unitsOf isUnitText behind sumBy hasOversized isPart counted
 reading = tt
 
 displaying : Unit {0}
@@ -90,6 +92,51 @@ no-duration-leaves-the-nanoseconds = simmerpath-parse-duration-left-nanos _ _
 -- the duration, and the buffer that is lent
 abbrev Given : ℕ → ℕ → List ℕ → (κs : Lfts 1) → Dens κs simmerpath-display-duration.ps → Type 0
 Given secs nanos out κs a = (a .0 ≡ secs) × (a .1 .0 ≡ nanos) × (now (a .1 .1 .0) ≡ out)
+
+abbrev simmerpath-parse-duration-exact-gives : List ℕ → ℕ → Type 0
+simmerpath-parse-duration-exact-gives xs v =
+    Answers simmerpath-parse-duration-exact.ps simmerpath-parse-duration-exact.r simmerpath-parse-duration-exact-reads.Post (λ κs a. now (a .0) ≡ xs) (λ κs. v)
+
+simmerpath-parse-duration-exact-at : (xs : List ℕ) → simmerpath-parse-duration-exact-gives xs (durationCode (exactTimingOf xs))
+simmerpath-parse-duration-exact-at xs κs a x e p h = cc (p .0, h)
+
+pub oversized-part-is-refused : simmerpath-parse-duration-exact-gives (ascii "4294967296s") (packedAs 55 0 0)
+unfolding reading
+oversized-part-is-refused = simmerpath-parse-duration-exact-at _
+
+pub part-below-2-to-32-is-a-duration : simmerpath-parse-duration-exact-gives (ascii "4294967295s") 0
+unfolding reading
+part-below-2-to-32-is-a-duration = simmerpath-parse-duration-exact-at _
+
+abbrev simmerpath-parse-duration-exact-leaves-secs : List ℕ → ℕ → ℕ → Type 0
+simmerpath-parse-duration-exact-leaves-secs xs old v =
+    Leaves simmerpath-parse-duration-exact.ps simmerpath-parse-duration-exact.r simmerpath-parse-duration-exact-reads.Post (λ κs a. (now (a .0) ≡ xs) × (now (a .1 .0) ≡ old)) (λ κs e. now (e .1 .0)) v
+
+simmerpath-parse-duration-exact-left-secs : (xs : List ℕ) (old : ℕ) → simmerpath-parse-duration-exact-leaves-secs xs old (secsLeft (exactTimingOf xs) old)
+simmerpath-parse-duration-exact-left-secs xs old κs a x e p h = cc (p .1 .0, h .0, h .1)
+
+pub most-seconds-are-written : simmerpath-parse-duration-exact-leaves-secs (ascii "4294967295s") 9 4294967295
+unfolding reading
+most-seconds-are-written = simmerpath-parse-duration-exact-left-secs _ _
+
+pub oversized-part-leaves-the-seconds : simmerpath-parse-duration-exact-leaves-secs (ascii "1d4294967296s") 9 9
+unfolding reading
+oversized-part-leaves-the-seconds = simmerpath-parse-duration-exact-left-secs _ _
+
+abbrev simmerpath-parse-duration-exact-leaves-nanos : List ℕ → ℕ → ℕ → Type 0
+simmerpath-parse-duration-exact-leaves-nanos xs old v =
+    Leaves simmerpath-parse-duration-exact.ps simmerpath-parse-duration-exact.r simmerpath-parse-duration-exact-reads.Post (λ κs a. (now (a .0) ≡ xs) × (now (a .1 .1 .0) ≡ old)) (λ κs e. now (e .1 .1 .0)) v
+
+simmerpath-parse-duration-exact-left-nanos : (xs : List ℕ) (old : ℕ) → simmerpath-parse-duration-exact-leaves-nanos xs old (nanosLeft (exactTimingOf xs) old)
+simmerpath-parse-duration-exact-left-nanos xs old κs a x e p h = cc (p .1 .1, h .0, h .1)
+
+pub milliseconds-are-written : simmerpath-parse-duration-exact-leaves-nanos (ascii "1ms") 9 1000000
+unfolding reading
+milliseconds-are-written = simmerpath-parse-duration-exact-left-nanos _ _
+
+pub oversized-part-leaves-the-nanoseconds : simmerpath-parse-duration-exact-leaves-nanos (ascii "4294967296ms") 9 9
+unfolding reading
+oversized-part-leaves-the-nanoseconds = simmerpath-parse-duration-exact-left-nanos _ _
 
 abbrev simmerpath-display-duration-gives : ℕ → ℕ → List ℕ → ℕ → Type 0
 simmerpath-display-duration-gives secs nanos out v =

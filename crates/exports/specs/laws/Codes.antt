@@ -26,9 +26,10 @@ use Rattle.number.specs.declared.Parsing.{Parsing}
 use Rattle.number.specs.declared.Parsing.the-variants as parsing
 use Rattle.number.specs.Number.{parsingOf}
 use Rattle.duration.specs.declared.span.Duration.{Duration}
+use Rattle.duration.specs.declared.Oversized.{Oversized}
 use Rattle.duration.specs.declared.Timing.{Timing}
 use Rattle.duration.specs.declared.Timing.the-variants as timing
-use Rattle.duration.specs.Duration.{timingOf}
+use Rattle.duration.specs.Duration.{timingBy}
 use Rattle.duration.specs.Display.{displayingOf}
 use Rattle.lex.specs.declared.Lexing.{Lexing}
 use Rattle.lex.specs.declared.Lexing.the-variants as lexing
@@ -131,16 +132,16 @@ ParseTold = (xs : List ℕ) → let p = parsingOf xs in looksRefused (parseCode 
 abbrev pub ParseKept : Type 0
 ParseKept = (xs : List ℕ) (r : Refusal) → parsingOf xs ≡ parsing.Refused r → Packable r
 
--- of `simmerpath_parse_duration`
+-- of `simmerpath_parse_duration` and `simmerpath_parse_duration_exact`
 abbrev pub isNoDuration : Timing → Bool
 isNoDuration (timing.Lasts d) = false
 isNoDuration (timing.Refused r) = true
 
 abbrev pub DurationTold : Type 0
-DurationTold = (xs : List ℕ) → let t = timingOf xs in looksRefused (durationCode t) ≡ isNoDuration t
+DurationTold = (o : Oversized) (xs : List ℕ) → let t = timingBy o xs in looksRefused (durationCode t) ≡ isNoDuration t
 
 abbrev pub DurationKept : Type 0
-DurationKept = (xs : List ℕ) (r : Refusal) → timingOf xs ≡ timing.Refused r → Packable r
+DurationKept = (o : Oversized) (xs : List ℕ) (r : Refusal) → timingBy o xs ≡ timing.Refused r → Packable r
 
 -- of `simmerpath_display_duration`, told in a buffer of less than 2^63 bytes
 abbrev pub DurationDisplayTold : Type 0

@@ -3,15 +3,15 @@ use Prim.Native.Nat.{ℕ, _+_, _^_, _≤_}
 use native.Mathlib.Omega.{arith}
 use mathlib.Core.Bool.{true, false}
 use mathlib.Core.List.{List, _∷_}
-use mathlib.Core.Path.{_≡_, refl, sym, ap, subst, _∙_}
+use mathlib.Core.Path.{_≡_, refl, sym, ap, ap₂, subst, _∙_}
 use lib.ListN.{length, drop}
 use denote.Ref.{now}
 use Rattle.duration.specs.Unit.{Unit, unit, units, milli, second, minute, hour, day, week, year}
 use Rattle.duration.specs.declared.units.Progress.{Progress}
 use Rattle.duration.specs.declared.units.Units.the-variants.{Sum, NotUnits}
-use Rattle.duration.specs.Units.{isUnitText, lasting, unitSum, unitsOf}
+use Rattle.duration.specs.Units.{hasOversized, isUnitText, lasting, unitSum, unitsOf}
 use Rattle.duration.specs.steps.Units.{advanced}
-use Rattle.duration.proofs.units.Steps.{Reached, begun, stepped, none-behind, some-behind, sum-is}
+use Rattle.duration.proofs.units.Steps.{Reached, begun, stepped, none-behind, some-behind, sum-is, over-is}
 use borrow.Author.Needs.{needs}
 use Rattle.duration.proofs.units.read_units.Statement.{statement}
 use Rattle.duration.proofs.units.read_units.Tie as tie
@@ -23,7 +23,7 @@ asked : {xs : List ℕ} {us : List Unit} {k size : ℕ} {t : Progress} → k ≤
 asked l h r = (r .within, h, omega (arith, r .secs-few), omega (arith, r .millis-few))
 
 reached1 : (c : tie.After-take) → Reached (now (c .before .before .before .args .s)) (drop 1 units) 1 (c .take .result)
-reached1 c = on (now (c .before .before .before .args .s)) (unit "y" year) (drop 1 units) 0 (record { at = 0; secs = 0; millis = 0 }) (c .take .result) (omega arith) (begun (now (c .before .before .before .args .s)) (record { at = 0; secs = 0; millis = 0 }) refl) (c .take .ensures)
+reached1 c = on (now (c .before .before .before .args .s)) (unit "y" year) (drop 1 units) 0 (record { at = 0; secs = 0; millis = 0; oversized = false }) (c .take .result) (omega arith) (begun (now (c .before .before .before .args .s)) (record { at = 0; secs = 0; millis = 0; oversized = false }) refl) (c .take .ensures)
 
 reached2 : (c : tie.After-take2) → Reached (now (c .before .before .before .before .before .args .s)) (drop 2 units) 2 (c .take2 .result)
 reached2 c = on (now (c .before .before .before .before .before .args .s)) (unit "w" week) (drop 2 units) 1 (c .before .before .take .result) (c .take2 .result) (omega arith) (reached1 (c .before .before)) (c .take2 .ensures)
@@ -90,7 +90,7 @@ module _ (xs : List ℕ) where
   unfolding unitsOf
   not-units e = rw e
 
-  unit-text : isUnitText xs ≡ true → Sum (lasting (unitSum xs)) ≡ unitsOf xs
+  unit-text : isUnitText xs ≡ true → Sum (lasting (unitSum xs)) (hasOversized units xs) ≡ unitsOf xs
   unfolding unitsOf
   unit-text e = rw e
 
@@ -108,7 +108,7 @@ lasting-requires c κs = let r = reached7 (c .before .before) in (omega (arith, 
 returns-2 : tie.Need-returns-2
 returns-2 c =
     let a = c .before .before .before in
-    ap Sum (c .lasting .ensures ∙ ap lasting (sum-is (text a) 7 (a .take7 .result) (reached7 a)))
+    ap₂ Sum (c .lasting .ensures ∙ ap lasting (sum-is (text a) 7 (a .take7 .result) (reached7 a))) (over-is (text a) 7 (a .take7 .result) (reached7 a))
     ∙ unit-text (text a) (none-behind (text a) 7 (a .take7 .result) (reached7 a) (c .before .if1 .left))
 
 pub read-units-spec : {M : Type 1} → statement M

@@ -1,9 +1,10 @@
 -- Each way out knows what stands behind the digits; that magnitudes are told apart only so far changes nothing that counts.
 use Prim.Native.Nat.{ℕ, _+_, _-_, _*_, _/_, _%_, _<_, _≤_, min}
 use native.Mathlib.Omega.{arith}
-use mathlib.Core.Bool.{true, false, and-false}
+use mathlib.Core.Bool.{Bool, true, false, _||_, and-false}
 use mathlib.Core.List.{List}
 use mathlib.Core.Path.{_≡_, sym, ap, ap₂, _∙_}
+use lib.Dec.{ltb}
 use lib.ListN.{length, drop, length-drop}
 use lib.ListN as listn
 use lib.Seq.{length-take-le}
@@ -21,7 +22,7 @@ use Rattle.decimal.specs.Value.{mostTold}
 use Rattle.duration.specs.declared.units.Progress.{Progress}
 use Rattle.duration.specs.Units.{digitsEnd, partEnd, isPart, partValue, mostCounted, counted}
 use Rattle.duration.specs.steps.Units.{advanced}
-use Rattle.duration.proofs.units.Parts.{digits-within, part-within, counted-told, counted-most, seconds-fit, millis-fit}
+use Rattle.duration.proofs.units.Parts.{digits-within, part-within, counted-told, over-told, counted-most, seconds-fit, millis-fit}
 use borrow.Author.Needs.{needs}
 use Rattle.duration.proofs.units.take.Statement.{statement}
 use Rattle.duration.proofs.units.take.Tie as tie
@@ -39,8 +40,8 @@ run-end-requires : tie.Need-run-end-requires
 run-end-requires c κs = search needs
 
 -- the step by what stands there
-abbrev made : Progress → ℕ → ℕ → ℕ → Progress
-made t size k n = record { at = t .at + k; secs = t .secs + n * (size / second); millis = t .millis + n * (size % second) }
+abbrev made : Progress → ℕ → ℕ → ℕ → Bool → Progress
+made t size k n b = record { at = t .at + k; secs = t .secs + n * (size / second); millis = t .millis + n * (size % second); oversized = b }
 
 module _ (xs : List ℕ) (t : Progress) (name : List ℕ) (size : ℕ) where
   abbrev rest : List ℕ
@@ -54,7 +55,7 @@ module _ (xs : List ℕ) (t : Progress) (name : List ℕ) (size : ℕ) where
   unfolding advanced isPart
   other e = rw (e, and-false)
 
-  some : 0 < digitsEnd rest → sameText (between rest (digitsEnd rest) (partEnd rest)) name ≡ true → made t size (partEnd rest) (counted (partValue rest)) ≡ advanced xs t name size
+  some : 0 < digitsEnd rest → sameText (between rest (digitsEnd rest) (partEnd rest)) name ≡ true → made t size (partEnd rest) (counted (partValue rest)) (t .oversized || ltb mostCounted (partValue rest)) ≡ advanced xs t name size
   unfolding advanced isPart
   some h e = rw (lt-ltb 0 (digitsEnd rest) h, e)
 
@@ -100,12 +101,13 @@ module _ (c : tie.After-counted) where
   abbrev at-rest : tie.After-rest
   at-rest = c .before .before .before .before .before .before .before .before .before
 
-  counts : c .counted .result ≡ counted (partValue (ys at-rest))
-  counts =
+  value : c .before .digits-value .result ≡ min mostTold (partValue (ys at-rest))
+  value =
       let s = c .before .before .before .before .before .before .before .before in
-      c .counted .ensures
-      ∙ ap counted (c .before .digits-value .ensures ∙ ap₂ (λ (n : ℕ) (zs : List ℕ). min mostTold (valueOf 10 (listn.take n zs))) (digits-is s) (rest-is at-rest))
-      ∙ counted-told (partValue (ys at-rest))
+      c .before .digits-value .ensures ∙ ap₂ (λ (n : ℕ) (zs : List ℕ). min mostTold (valueOf 10 (listn.take n zs))) (digits-is s) (rest-is at-rest)
+
+  counts : c .counted .result ≡ counted (partValue (ys at-rest))
+  counts = c .counted .ensures ∙ ap counted value ∙ counted-told (partValue (ys at-rest))
 
   few : c .counted .result ≤ mostCounted
   few = omega (arith, counts, counted-most (partValue (ys at-rest)))
@@ -146,32 +148,37 @@ digits-value-requires c κs = search needs
 counted-requires : tie.Need-counted-requires
 counted-requires c κs = search needs
 
-add-t11 : tie.Need-add-t11
-add-t11 c =
-    let e = c .before .before .before .before .before .before in
+is-oversized-requires : tie.Need-is-oversized-requires
+is-oversized-requires c κs = search needs
+
+add-t13 : tie.Need-add-t13
+add-t13 c =
+    let e = c .before .before .before .before .before .before .before in
     let r = e .before .before .before in
     omega (arith, end-is e, part-within (ys r), length-drop (t r .at) (xs r), a r .pre .0)
 
-mul-t23 : tie.Need-mul-t23
-mul-t23 c = omega (arith, seconds-fit (size (at-rest c)) (c .counted .result) (few c) (a (at-rest c) .pre .1))
+mul-t25 : tie.Need-mul-t25
+mul-t25 c = let d = c .before in omega (arith, seconds-fit (size (at-rest d)) (d .counted .result) (few d) (a (at-rest d) .pre .1))
 
-add-t24 : tie.Need-add-t24
-add-t24 c = let d = c .before in omega (arith, seconds-fit (size (at-rest d)) (d .counted .result) (few d) (a (at-rest d) .pre .1), a (at-rest d) .pre .2)
+add-t26 : tie.Need-add-t26
+add-t26 c = let d = c .before .before in omega (arith, seconds-fit (size (at-rest d)) (d .counted .result) (few d) (a (at-rest d) .pre .1), a (at-rest d) .pre .2)
 
-mul-t26 : tie.Need-mul-t26
-mul-t26 c = let d = c .before in omega (arith, millis-fit (size (at-rest d)) (d .counted .result) (few d))
+mul-t28 : tie.Need-mul-t28
+mul-t28 c = let d = c .before .before in omega (arith, millis-fit (size (at-rest d)) (d .counted .result) (few d))
 
-add-t27 : tie.Need-add-t27
-add-t27 c = let d = c .before .before in omega (arith, millis-fit (size (at-rest d)) (d .counted .result) (few d), a (at-rest d) .pre .3)
+add-t29 : tie.Need-add-t29
+add-t29 c = let d = c .before .before .before in omega (arith, millis-fit (size (at-rest d)) (d .counted .result) (few d), a (at-rest d) .pre .3)
 
 returns-3 : tie.Need-returns-3
 returns-3 c =
-    let d = c .before .before in
+    let o = c .before .before in
+    let d = o .before in
     let r = at-rest d in
     let e = d .before .before .before .before .before .before in
     let i = d .before .before .before .before in
     let s = d .before .before .before .before .before .before .before in
-    ap₂ (λ (k n : ℕ). made (t r) (size r) k n) (end-is e) (counts d)
+    ap₂ (λ (k n : ℕ). made (t r) (size r) k n (o .is-oversized .result)) (end-is e) (counts d)
+    ∙ ap (made (t r) (size r) (partEnd (ys r)) (counted (partValue (ys r)))) (o .is-oversized .ensures ∙ ap (λ (n : ℕ). t r .oversized || ltb mostCounted n) (value d) ∙ ap (λ (b : Bool). t r .oversized || b) (over-told (partValue (ys r))))
     ∙ some (xs r) (t r) (name r) (size r) (omega (arith, digits-is (s .before), s .if1 .left)) (sym (told i) ∙ not-false (i .is-text .result) (d .before .before .before .if2 .left))
 
 pub take-spec : {M : Type 1} → statement M
@@ -192,9 +199,10 @@ take-spec =
     slice-aggregate-digits-value
     digits-value-requires
     counted-requires
-    add-t11
-    mul-t23
-    add-t24
-    mul-t26
-    add-t27
+    is-oversized-requires
+    add-t13
+    mul-t25
+    add-t26
+    mul-t28
+    add-t29
     returns-3)

@@ -12,11 +12,12 @@ use Rattle.decimal.specs.declared.Decimal.{Decimal}
 use Rattle.decimal.specs.declared.Decimal.the-variants.{Exact}
 use Rattle.decimal.specs.Value.{decimalOf}
 use Rattle.decimal.proofs.Decimal as decimal
+use Rattle.duration.specs.declared.Oversized.{Oversized}
 use Rattle.duration.specs.Duration.{timedDecimal}
 use Rattle.duration.proofs.Taken as taken
 use borrow.Author.Needs.{needs}
-use Rattle.duration.proofs.parse_duration.Statement.{statement}
-use Rattle.duration.proofs.parse_duration.Tie as tie
+use Rattle.duration.proofs.parse.Statement.{statement}
+use Rattle.duration.proofs.parse.Tie as tie
 
 read-at-once-requires : tie.Need-read-at-once-requires
 read-at-once-requires c κs = search needs
@@ -37,6 +38,9 @@ returns c = search needs
 module _ (c : tie.After-known-told) where
   abbrev text : List ℕ
   text = now (c .before .before .before .before .before .args .s)
+
+  abbrev o : Oversized
+  o = c .before .before .before .before .before .args .o
 
   abbrev number : Number
   number = c .before .d .given .0 .0
@@ -59,8 +63,8 @@ returns-2 c =
     let k = i .before .before in
     let x = text k in
     c .refused .ensures
-    ∙ taken.zero x (taken.not-empty x (number k) (exact k)) (sym (i .is-text .ensures) ∙ c .before .if1 .taken)
-    ∙ taken.exact-read x (number k) (exact k)
+    ∙ taken.zero (o k) x (taken.not-empty x (number k) (exact k)) (sym (i .is-text .ensures) ∙ c .before .if1 .taken)
+    ∙ taken.exact-read x (number k) (o k) (exact k)
 
 seconds-requires : tie.Need-seconds-requires
 seconds-requires c κs = search needs
@@ -71,12 +75,12 @@ returns-3 c =
     let k = i .before .before in
     let x = text k in
     c .seconds .ensures
-    ∙ ap (timedDecimal x) (sym (exact k))
-    ∙ taken.other x (taken.not-empty x (number k) (exact k)) (sym (i .is-text .ensures) ∙ c .before .if1 .left)
-    ∙ taken.exact-read x (number k) (exact k)
+    ∙ ap (timedDecimal (o k) x) (sym (exact k))
+    ∙ taken.other (o k) x (taken.not-empty x (number k) (exact k)) (sym (i .is-text .ensures) ∙ c .before .if1 .left)
+    ∙ taken.exact-read x (number k) (o k) (exact k)
 
-pub parse-duration-spec : {M : Type 1} → statement M
-parse-duration-spec =
+pub parse-spec : {M : Type 1} → statement M
+parse-spec =
     tie.close
     (tie.spec
     read-at-once-requires
