@@ -14,7 +14,7 @@ use Rattle.utf8.specs.Code.{isScalar, encoded, sixBits, codeOf}
 use Rattle.string.specs.Letters.{lookedUp, letterValue}
 use Rattle.string.specs.Tile.{amountFrom, isAllowed, numbered, escapeOf, beginsEscape, tileOf}
 use Rattle.string.specs.Tiles.{tilesPast, hasBad, pieceBytes, bytesOf}
-use Rattle.string.specs.Literal.{isEnclosed, hasNewline}
+use Rattle.string.specs.Literal.{hasNewline, faultOf}
 use Rattle.scan.specs.Sign.{isSign}
 use Rattle.decimal.specs.Grammar.{hasDigits, exponentHasDigits, isNumeral, isInfinite, isNan}
 use Rattle.decimal.specs.Value.{isScaled, isSome, isExactRange, isInExact, numeralRead, decimalIn, decimalOf}
@@ -66,7 +66,7 @@ unfolding durationText partText restOf countText decimalText digitsWithin digitF
 written-weeks = refl
 
 pub texts-shown : Each Shown texts
-unfolding isWithin isHexDigit digitOf isScalar encoded sixBits letterValue lookedUp isDigitIn amountFrom isAllowed numbered escapeOf beginsEscape tileOf tilesPast hasBad pieceBytes bytesOf isQuote isEnclosed has hasNewline
+unfolding isWithin isHexDigit digitOf isScalar encoded sixBits letterValue lookedUp isDigitIn amountFrom isAllowed numbered escapeOf beginsEscape tileOf tilesPast hasBad pieceBytes bytesOf isQuote faultOf has hasNewline
 texts-shown = ((refl, refl), ((refl, refl), (timed-zero, (timed-none, (timed-decimal, (timed-units, (written-days, (written-weeks, tt))))))))
 
 -- what holds of each row of two tables holds of each of both

@@ -9,7 +9,7 @@ use mathlib.Core.Option.{Option, none, some}
 use mathlib.Core.Path.{_≡_, refl, sym, ap, _∙_}
 use lib.Dec.{eqb}
 use lib.ListN.{length}
-use borrow.Author.Tests.{ne-eqb, eqb-true, eqb-false, le-leb, not-true}
+use borrow.Author.Tests.{ne-eqb, eqb-true, eqb-false, le-ltb, not-true}
 use Rattle.scan.specs.Text.{has}
 use Rattle.scan.specs.Byte.{peekAt, backslash, doubleQuote, isQuote}
 use Rattle.proving.proofs.Below.{below}
@@ -28,7 +28,7 @@ use Rattle.string.specs.Tile.{beginsEscape, escapeOf, tileOf}
 use Rattle.string.specs.Escape.{escaped}
 use Rattle.string.specs.steps.Bytes.{escapedBytes}
 use Rattle.string.specs.Tiles.{tilesOf, hasBad, pieceBytes, bytesOf}
-use Rattle.string.specs.Literal.{lineFeed, isEnclosed, hasNewline}
+use Rattle.string.specs.Literal.{lineFeed, hasNewline, faultOf}
 use Rattle.string.specs.laws.ReadBack.{quoted, ReadBack, ReadBackJoin, ReadBackPart}
 use Rattle.string.proofs.escape.Escapes.{copied, lettered, high-copied, empty-escaped, bytes-join, by-characters-escaped, escape-join, escaped-text}
 use Rattle.string.proofs.Literals.{closed-is}
@@ -140,17 +140,13 @@ module _ (r : Reading) where
       (λ xs e w. rw (none-empty xs e w) at-end)
       (λ bs ys o ih w. one bs ys o (ih (rest-well bs ys o w)))
 
--- a content between double quotes is enclosed
-enclosed : (ys : List ℕ) → isEnclosed (quoted ys) ≡ true
-unfolding isEnclosed isQuote
-enclosed ys = let c = closed-is doubleQuote ys in rw (le-leb 2 (length (quoted ys)) (c .two), c .last)
-
 pub read-back : ReadBack
-unfolding hasNewline
+unfolding faultOf isQuote hasNewline
 read-back r xs w =
     let b = back r xs w in
     let e = by-characters-escaped xs w in
-    rw (e, closed-is doubleQuote (escapedBytes xs) .inner, enclosed (escapedBytes xs), b .whole, b .good) (refl, b .text)
+    let c = closed-is doubleQuote (escapedBytes xs) in
+    rw (e, c .inner, le-ltb (length (quoted (escapedBytes xs))) 2 (c .two), c .last, b .whole, b .good) (refl, b .text)
 
 pub read-back-join : ReadBackJoin
 read-back-join r xs ys w v = rw (← escape-join xs ys w v) (read-back r (xs ++ ys) (text-join xs ys w v))

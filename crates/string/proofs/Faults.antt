@@ -6,6 +6,7 @@ use native.Mathlib.Omega.{arith}
 use mathlib.Core.Bool.{Bool, true, false, cond, not, true≢false}
 use mathlib.Core.List.{List, [], _∷_}
 use mathlib.Core.Logic.{_⊎_, inl, inr}
+use mathlib.Core.Option.{Option, some, Option·getD}
 use mathlib.Core.Path.{_≡_, refl, sym, ap, _∙_}
 use lib.Dec.{eqb, ltb}
 use lib.ListN.{length, drop, length-drop}
@@ -18,7 +19,7 @@ use Rattle.utf8.specs.Text.{WellFormed}
 use Rattle.string.specs.declared.tile.Tile.the-variants.{Bad}
 use Rattle.string.specs.Tile.{tileOf}
 use Rattle.string.specs.Tiles.{tilesOf, hasBad, goodSize}
-use Rattle.string.specs.Literal.{lineFeed, signOf, innerOf, isEnclosed, hasNewline, isBadLiteral, firstOf, faultOf}
+use Rattle.string.specs.Literal.{lineFeed, signOf, innerOf, hasNewline, firstOf, faultOf}
 use Rattle.string.specs.laws.Tile.{EscapeBegun}
 use Rattle.string.specs.laws.Refusals.{TooShort, SignsDiffer, NoQuoteSign, Newline, BadAmong, BareSign, BadEscape, BadLiteral, Fault, short, differ, noSign, newline, bareSign, badEscape, Enclosed, Inside, FirstIn, FaultAt, FaultsBad, OneFault, FaultWithin}
 use Rattle.string.proofs.Literals.{quote-ascii, inner-few, inner-well, encloses}
@@ -90,7 +91,7 @@ module _ (xs : List ℕ) where
 
   -- what each case leads to
   abbrev pub Leads : Fault → ℕ → Type 0
-  Leads f p = (f ≡ caseOf) × (p ≡ faultOf xs)
+  Leads f p = (f ≡ caseOf) × (faultOf xs ≡ some p)
 
   alike : (SignsDiffer xs → ⊥) → eqb (peekAt xs (length xs - 1)) q ≡ true
   alike d = go (ℕ-discrete (peekAt xs (length xs - 1)) q)
@@ -99,31 +100,34 @@ module _ (xs : List ℕ) where
       go (yes e) = eq-eqb _ _ e
       go (no n) = absurd (d n)
 
+  there : {p o : ℕ} → p ≡ o → some o ≡ some p
+  there e = ap (λ (n : ℕ). some n) (sym e)
+
   pub tells : (f : Fault) (p : ℕ) → FaultAt f xs p → Leads f p
   unfolding caseOf faultOf
-  tells short p (s, e) = rw (lt-ltb (length xs) 2 s) (refl, e)
-  tells differ p (s, d, e) = rw (le-ltb (length xs) 2 (omega arith), ne-eqb _ _ d) (refl, e)
-  tells noSign p (s, d, n, e) = rw (le-ltb (length xs) 2 (omega arith), alike d, affirmed tests-quote n) (refl, e)
+  tells short p (s, e) = rw (lt-ltb (length xs) 2 s) (refl, there e)
+  tells differ p (s, d, e) = rw (le-ltb (length xs) 2 (omega arith), ne-eqb _ _ d) (refl, there e)
+  tells noSign p (s, d, n, e) = rw (le-ltb (length xs) 2 (omega arith), alike d, affirmed tests-quote n) (refl, there e)
   tells newline p ((s, d, n), b, (at, e, k, f)) =
       let h : has lineFeed ys ≡ true = tests-has lineFeed ys .1 (stands-at lineFeed ys at k (f .0)) in
       let z = first-one lineFeed ys at (firstOf lineFeed ys) f (first-in lineFeed ys h .1) in
-      rw (le-ltb (length xs) 2 (omega arith), alike d, quote-is n .0, tests-newline .1 (b, tests-has lineFeed ys .0 h)) (refl, omega arith)
+      rw (le-ltb (length xs) 2 (omega arith), alike d, quote-is n .0, tests-newline .1 (b, tests-has lineFeed ys .0 h)) (refl, there (omega arith))
   tells bareSign p ((s, d, n), b, (at, e, k, r)) =
       let u = quote-is n in
-      let z = ends-there q (u .1) ys at k (r .0) (bare-bad q (u .2) ys at r) .1 in
+      let (bad, z) = ends-there q (u .1) ys at k (r .0) (bare-bad q (u .2) ys at r) in
       let t : peekAt (drop (goodSize (tilesOf q ys)) ys) 0 ≡ q = rw z at (r .1) in
-      rw (le-ltb (length xs) 2 (omega arith), alike d, u .0, affirmed tests-newline b, eq-eqb _ _ t) (refl, omega arith)
+      rw (le-ltb (length xs) 2 (omega arith), alike d, u .0, affirmed tests-newline b, bad, eq-eqb _ _ t) (refl, there (omega arith))
   tells badEscape p ((s, d, n), b, (at, e, k, r)) =
       let u = quote-is n in
-      let z = ends-there q (u .1) ys at k (r .0) (escape-bad q (u .2) ys at r) .1 in
+      let (bad, z) = ends-there q (u .1) ys at k (r .0) (escape-bad q (u .2) ys at r) in
       let t : peekAt (drop (goodSize (tilesOf q ys)) ys) 0 ≡ q → ⊥ = λ v. u .3 (sym v ∙ ap (λ (i : ℕ). peekAt (drop i ys) 0) (sym z) ∙ r .1 .0) in
-      rw (le-ltb (length xs) 2 (omega arith), alike d, u .0, affirmed tests-newline b, ne-eqb _ _ t) (refl, omega arith)
+      rw (le-ltb (length xs) 2 (omega arith), alike d, u .0, affirmed tests-newline b, bad, ne-eqb _ _ t) (refl, there (omega arith))
 
 pub one-fault : OneFault
 one-fault xs f g p o a b =
     let s = tells xs f p a in
     let t = tells xs g o b in
-    (s .0 ∙ sym (t .0), s .1 ∙ sym (t .1))
+    (s .0 ∙ sym (t .0), ap (λ (v : Option ℕ). Option·getD v 0) (sym (s .1) ∙ t .1))
 
 pub fault-within : FaultWithin
 fault-within xs short p (s, e) = inr e

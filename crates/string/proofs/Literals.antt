@@ -3,13 +3,14 @@
 use Prim.Native.Nat.{ℕ, suc, _-_, _<_, _≤_}
 use native.Mathlib.Numerals.{add-one}
 use native.Mathlib.Omega.{arith}
-use mathlib.Core.Bool.{Bool, true, false, cond, _&&_, _||_, not}
+use mathlib.Core.Bool.{Bool, true, false, cond, _&&_, _||_, not, true≢false}
 use mathlib.Core.List.{List, [], _∷_, _++_}
+use mathlib.Core.Option.{Option, none, some}
 use mathlib.Core.Path.{_≡_, refl, ap}
-use lib.Dec.{eqb, leb}
+use lib.Dec.{eqb, leb, ltb}
 use lib.ListN.{length, take, drop, getD, length-take, length-append}
 use lib.Seq.{take-append-seam, getD-append-seam}
-use borrow.Author.Tests.{eqb-true, leb-true, not-false, lt-leb, le-leb, lt-ltb, le-ltb}
+use borrow.Author.Tests.{eqb-true, leb-true, le-leb, lt-ltb, le-ltb, ltb-false}
 use Rattle.scan.specs.Text.{has}
 use Rattle.scan.specs.Byte.{end, peekAt, backquote, doubleQuote, singleQuote, isQuote}
 use Rattle.proving.proofs.Choice.{either, and-left, and-right}
@@ -27,10 +28,10 @@ use Rattle.string.specs.declared.Extent.{Extent}
 use Rattle.string.specs.declared.Extent.the-variants as extent
 use Rattle.string.specs.declared.Unquoting.the-variants.{Refused}
 use Rattle.string.specs.Tiles.{tilesOf, hasBad, goodSize}
-use Rattle.string.specs.Literal.{lineFeed, signOf, innerOf, isEnclosed, hasNewline, isBadLiteral, firstOf, faultOf, hasEscape, unquoted, extentOf, unquotingBy, unquotingOf}
+use Rattle.string.specs.Literal.{lineFeed, signOf, innerOf, hasNewline, firstOf, faultOf, isFault, isBadLiteral, hasEscape, unquoted, extentAs, extentOf, unquotingBy, unquotingOf}
 use Rattle.string.specs.steps.Measure.{tilesExtent, contentExtent, behindSign, faultIn, leftIn}
 use Rattle.string.proofs.Contents.{good-within}
-use Rattle.string.proofs.Plain.{neither, unescaped}
+use Rattle.string.proofs.Plain.{unescaped}
 
 pub quote-ascii : (c : ℕ) → isQuote c ≡ true → c < 0x80
 unfolding isQuote
@@ -46,6 +47,10 @@ first-within : (c : ℕ) (ys : List ℕ) → firstOf c ys ≤ length ys
 unfolding firstOf
 first-within c [] = omega arith
 first-within c (y ∷ ys) = either (λ (k : ℕ). k ≤ suc (length ys)) (eqb y c) (λ e. omega arith) (λ e. omega (arith, first-within c ys))
+
+-- two bytes at least, the last the first, and a quote sign
+unfoldable pub isEnclosed : List ℕ → Bool
+isEnclosed xs = leb 2 (length xs) && (eqb (peekAt xs (length xs - 1)) (signOf xs) && isQuote (signOf xs))
 
 -- what encloses a literal
 module _ (xs : List ℕ) (e : isEnclosed xs ≡ true) where
@@ -151,42 +156,60 @@ module _ (xs : List ℕ) (l : 2 ≤ length xs) where
 -- each way through the tests of a literal
 module _ (r : Reading) (xs : List ℕ) where
   pub short : length xs < 2 → extent.Bad 0 ≡ extentOf r xs
-  unfolding extentOf isEnclosed faultOf
-  short l = rw (lt-leb 2 (length xs) l, lt-ltb (length xs) 2 l)
+  unfolding extentOf faultOf
+  short l = rw (lt-ltb (length xs) 2 l)
 
   module _ (l : 2 ≤ length xs) where
     pub differ : eqb (peekAt xs (length xs - 1)) (signOf xs) ≡ false → extent.Bad (length xs - 1) ≡ extentOf r xs
-    unfolding extentOf isEnclosed faultOf
-    differ d = rw (le-leb 2 (length xs) l, le-ltb (length xs) 2 l, d)
+    unfolding extentOf faultOf
+    differ d = rw (le-ltb (length xs) 2 l, d)
 
     module _ (d : eqb (peekAt xs (length xs - 1)) (signOf xs) ≡ true) where
       pub no-sign : isQuote (signOf xs) ≡ false → extent.Bad 0 ≡ extentOf r xs
-      unfolding extentOf isEnclosed faultOf
-      no-sign s = rw (le-leb 2 (length xs) l, le-ltb (length xs) 2 l, d, s)
+      unfolding extentOf faultOf
+      no-sign s = rw (le-ltb (length xs) 2 l, d, s)
 
       pub content-is : isQuote (signOf xs) ≡ true → behindSign (contentExtent r (signOf xs) (innerOf xs)) ≡ extentOf r xs
-      unfolding extentOf isEnclosed faultOf contentExtent
+      unfolding extentOf faultOf contentExtent
       content-is s =
-          rw (le-leb 2 (length xs) l, le-ltb (length xs) 2 l, d, s)
-          (go _ _ _ _ (hasNewline (signOf xs) (innerOf xs)) (hasBad (tilesOf (signOf xs) (innerOf xs))) (hasEscape (signOf xs) (innerOf xs)))
+          rw (le-ltb (length xs) 2 l, d, s)
+          (go _ _ (hasNewline (signOf xs) (innerOf xs)) (hasBad (tilesOf (signOf xs) (innerOf xs))) (text _ _ (hasEscape (signOf xs) (innerOf xs))))
         where
-          go : (n g k l : ℕ) (a b c : Bool) → behindSign (cond a (extent.Bad n) (cond b (extent.Bad g) (cond c (extent.Text true k) (extent.Text false l)))) ≡ cond (a || b) (extent.Bad (cond a (suc n) (suc g))) (cond c (extent.Text true k) (extent.Text false l))
-          go n g k l true b c = ap (λ (i : ℕ). extent.Bad i) (add-one n)
-          go n g k l false true c = ap (λ (i : ℕ). extent.Bad i) (add-one g)
-          go n g k l false false true = refl
-          go n g k l false false false = refl
+          text : (n m : ℕ) (c : Bool) → behindSign (cond c (extent.Text true n) (extent.Text false m)) ≡ cond c (extent.Text true n) (extent.Text false m)
+          text n m true = refl
+          text n m false = refl
+
+          go : (n g : ℕ) (a b : Bool) → behindSign (extentAs r xs none) ≡ extentAs r xs none → behindSign (cond a (extent.Bad n) (cond b (extent.Bad g) (extentAs r xs none))) ≡ extentAs r xs (cond a (some (suc n)) (cond b (some (suc g)) none))
+          go n g true b e = ap (λ (i : ℕ). extent.Bad i) (add-one n)
+          go n g false true e = ap (λ (i : ℕ). extent.Bad i) (add-one g)
+          go n g false false e = e
 
 -- a literal that is not bad
+pub good-none : (xs : List ℕ) → isBadLiteral xs ≡ false → faultOf xs ≡ none
+good-none xs = go (faultOf xs)
+  where
+    go : (o : Option ℕ) → isFault o ≡ false → o ≡ none
+    go (some at) e = absurd (true≢false e)
+    go none e = refl
+
 pub record Sound (xs : List ℕ) : Type 0 where
   pub enclosed : isEnclosed xs ≡ true
   pub whole : hasNewline (signOf xs) (innerOf xs) ≡ false
   pub good : hasBad (tilesOf (signOf xs) (innerOf xs)) ≡ false
 
 pub sound : (xs : List ℕ) → isBadLiteral xs ≡ false → Sound xs
-sound xs e =
-    let a = neither (not (isEnclosed xs)) (hasNewline (signOf xs) (innerOf xs) || hasBad (tilesOf (signOf xs) (innerOf xs))) e in
-    let b = neither (hasNewline (signOf xs) (innerOf xs)) (hasBad (tilesOf (signOf xs) (innerOf xs))) (a .1) in
-    record { enclosed = not-false (isEnclosed xs) (a .0); whole = b .0; good = b .1 }
+unfolding faultOf
+sound xs =
+    by _ _ (ltb (length xs) 2) refl (eqb (peekAt xs (length xs - 1)) (signOf xs)) refl (isQuote (signOf xs)) refl (hasNewline (signOf xs) (innerOf xs)) refl (hasBad (tilesOf (signOf xs) (innerOf xs))) refl
+  where
+    by : (n g : ℕ) (a : Bool) → ltb (length xs) 2 ≡ a → (b : Bool) → eqb (peekAt xs (length xs - 1)) (signOf xs) ≡ b → (c : Bool) → isQuote (signOf xs) ≡ c → (d : Bool) → hasNewline (signOf xs) (innerOf xs) ≡ d → (t : Bool) → hasBad (tilesOf (signOf xs) (innerOf xs)) ≡ t
+        → isFault (cond a (some 0) (cond (not b) (some (length xs - 1)) (cond (not c) (some 0) (cond d (some n) (cond t (some g) none))))) ≡ false → Sound xs
+    by n g true a b eb c ec d ed t et e = absurd (true≢false e)
+    by n g false a false eb c ec d ed t et e = absurd (true≢false e)
+    by n g false a true eb false ec d ed t et e = absurd (true≢false e)
+    by n g false a true eb true ec true ed t et e = absurd (true≢false e)
+    by n g false a true eb true ec false ed true et e = absurd (true≢false e)
+    by n g false a true eb true ec false ed false et e = record { enclosed = encloses xs (omega (arith, ltb-false (length xs) 2 a)) eb ec; whole = ed; good = et }
 
 -- the answer, by what is admitted and what the literal comes to
 module _ (r : Reading) (room : ℕ) (xs : List ℕ) where

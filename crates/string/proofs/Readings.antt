@@ -4,6 +4,7 @@ use Prim.Native.Nat.{ℕ, _-_, _≤_}
 use native.Mathlib.Omega.{arith}
 use mathlib.Core.Bool.{Bool, true, false, cond, _&&_, true≢false}
 use mathlib.Core.List.{List, [], _∷_, _++_}
+use mathlib.Core.Option.{Option, none, some}
 use mathlib.Core.Path.{_≡_, refl, sym, ap, _∙_}
 use lib.Dec.{leb}
 use lib.ListN.{length, drop, length-append, length-drop}
@@ -26,10 +27,10 @@ use Rattle.string.specs.declared.Extent.{Extent}
 use Rattle.string.specs.declared.Extent.the-variants as extent
 use Rattle.string.specs.declared.Unquoting.the-variants.{Written, Refused}
 use Rattle.string.specs.Tiles.{tilesOf, pieceBytes, bytesOf}
-use Rattle.string.specs.Literal.{signOf, innerOf, isBadLiteral, faultOf, hasEscape, unquoted, extentOf, unquotingBy, unquotingAs, unquotingOf, textBy, partOf}
+use Rattle.string.specs.Literal.{signOf, innerOf, faultOf, isFault, isBadLiteral, hasEscape, unquoted, extentAs, extentOf, unquotingBy, unquotingAs, unquotingOf, textBy, partOf}
 use Rattle.string.specs.laws.ReadBack.{isRead, PartIsText, GoodRead, hasHighByte, ReadingsAgree}
 use Rattle.string.proofs.Plain.{neither, unescaped}
-use Rattle.string.proofs.Literals.{Sound, sound, two, sign-ascii, inner-well}
+use Rattle.string.proofs.Literals.{good-none, Sound, sound, two, sign-ascii, inner-well}
 
 -- a literal without escapes stands for what is between its signs
 pub as-between : (r : Reading) (xs : List ℕ) → WellFormed xs → Sound xs → hasEscape (signOf xs) (innerOf xs) ≡ false → unquoted r xs ≡ innerOf xs
@@ -63,12 +64,15 @@ module _ (r : Reading) (xs d : List ℕ) (w : WellFormed xs) where
 
   named : Named (extentOf r xs)
   unfolding extentOf
-  named = go (isBadLiteral xs) refl (hasEscape (signOf xs) (innerOf xs)) refl
+  named = go (faultOf xs) refl
     where
-      go : (s : Bool) → isBadLiteral xs ≡ s → (t : Bool) → hasEscape (signOf xs) (innerOf xs) ≡ t → Named (cond s (extent.Bad (faultOf xs)) (cond t (extent.Text true (length (unquoted r xs))) (extent.Text false (length (innerOf xs)))))
-      go true a t b h = absurd (true≢false (sym h))
-      go false a true b h = written h
-      go false a false b h = between (sound xs a) b h
+      by : isBadLiteral xs ≡ false → (t : Bool) → hasEscape (signOf xs) (innerOf xs) ≡ t → Named (cond t (extent.Text true (length (unquoted r xs))) (extent.Text false (length (innerOf xs))))
+      by a true b h = written h
+      by a false b h = between (sound xs a) b h
+
+      go : (o : Option ℕ) → faultOf xs ≡ o → Named (extentAs r xs o)
+      go (some at) e h = absurd (true≢false (sym h))
+      go none e h = by (ap isFault e) (hasEscape (signOf xs) (innerOf xs)) refl h
 
 pub part-is-text : PartIsText
 unfolding unquotingOf
@@ -81,7 +85,7 @@ part-is-text r xs d = go (admitted textLimit xs) refl
 -- a literal that is not bad is read where the limit and the room are kept
 pub good-read : GoodRead
 unfolding unquotingOf extentOf
-good-read r room xs t b h = rw (given-exactly textLimit xs .2 .1 t, b) (go (hasEscape (signOf xs) (innerOf xs)))
+good-read r room xs t b h = rw (given-exactly textLimit xs .2 .1 t, good-none xs b) (go (hasEscape (signOf xs) (innerOf xs)))
   where
     go : (e : Bool) → isRead (unquotingBy room xs (cond e (extent.Text true (length (unquoted r xs))) (extent.Text false (length (innerOf xs))))) ≡ true
     go true = rw (le-leb (length (unquoted r xs)) room h)
@@ -106,7 +110,11 @@ same-bytes (Bad ∷ ts) e = same-bytes ts e
 
 same-extent : (xs : List ℕ) → unquoted Crate xs ≡ unquoted Documented xs → extentOf Crate xs ≡ extentOf Documented xs
 unfolding extentOf
-same-extent xs s = rw s
+same-extent xs s = go (faultOf xs)
+  where
+    go : (o : Option ℕ) → extentAs Crate xs o ≡ extentAs Documented xs o
+    go (some at) = refl
+    go none = rw s
 
 pub readings-agree : ReadingsAgree
 unfolding unquotingOf

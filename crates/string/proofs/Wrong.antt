@@ -22,7 +22,7 @@ use Rattle.string.specs.Tile.{amountFrom, isAllowed, numbered, escapeOf,
 use Rattle.string.specs.declared.Unquoting.{Unquoting}
 use Rattle.string.specs.declared.Unquoting.the-variants.{Inner, Written, Refused}
 use Rattle.string.specs.Tiles.{tilesPast, hasBad, goodSize, pieceBytes, bytesOf}
-use Rattle.string.specs.Literal.{isEnclosed, hasNewline, firstOf, faultOf, hasEscape, unquoted, extentOf, unquotingOf, textBy, partOf, notUnquoted}
+use Rattle.string.specs.Literal.{hasNewline, firstOf, faultOf, hasEscape, unquoted, extentOf, unquotingOf, textBy, partOf, notUnquoted}
 use Rattle.utf8.specs.declared.Refusal.{Refusal}
 use Rattle.string.proofs.Given.{unquoting-given}
 use Rattle.string.proofs.unquote_string.Kinds as unquote-string
@@ -38,7 +38,7 @@ unquote-string-gives xs r room v =
     Answers unquote-string.ps unquote-string.r unquote-string-reads.Post (λ κs a. (now (a .0) ≡ xs) × (a .1 .0 ≡ r) × (length (now (a .1 .1 .0)) ≡ room)) (λ κs. v)
 
 unquote-string-at : (xs : List ℕ) (r : Reading) (room : ℕ) → unquote-string-gives xs r room (unquotingOf r room xs)
-unfolding unquotingOf extentOf faultOf firstOf goodSize isEnclosed isQuote hasNewline hasEscape has tilesPast hasBad bytesOf pieceBytes tileOf beginsEscape escapeOf letterValue lookedUp numbered amountFrom isDigitIn isHexDigit digitOf isAllowed isScalar encoded sixBits characterAt admitted validityOf charNumber begunIn charsPast sizeOf charLength sizeIn fits codeOf isWithin
+unfolding unquotingOf extentOf faultOf firstOf goodSize isQuote hasNewline hasEscape has tilesPast hasBad bytesOf pieceBytes tileOf beginsEscape escapeOf letterValue lookedUp numbered amountFrom isDigitIn isHexDigit digitOf isAllowed isScalar encoded sixBits characterAt admitted validityOf charNumber begunIn charsPast sizeOf charLength sizeIn fits codeOf isWithin
 unquote-string-at xs r room κs a x e p h = cc (p .0, h .0, h .1, h .2)
 
 abbrev bad-at : ℕ → ℕ → Refusal

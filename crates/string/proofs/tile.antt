@@ -3,6 +3,7 @@ pub mod Forms
 pub mod Letters
 pub mod Tiles
 pub mod Bad
+pub mod Sizes
 pub mod Behind
 pub mod Unique
 pub mod Wrong

@@ -2,8 +2,9 @@
 -- which a literal is found bad.
 use Prim.Native.Nat.{ℕ, suc, _-_}
 use Prim.Native.Char.{code}
-use mathlib.Core.Bool.{Bool, true, false, cond, _&&_, _||_, not}
+use mathlib.Core.Bool.{Bool, true, false, cond, _&&_, not}
 use mathlib.Core.List.{List, [], _∷_, _++_}
+use mathlib.Core.Option.{Option, none, some}
 use lib.Dec.{eqb, leb, ltb}
 use lib.ListN.{length, take, drop}
 use Rattle.scan.specs.Byte.{peekAt, backslash, backquote, isQuote}
@@ -29,35 +30,35 @@ signOf xs = peekAt xs 0
 abbrev pub innerOf : List ℕ → List ℕ
 innerOf xs = take (length xs - 2) (drop 1 xs)
 
--- "At least two bytes, first byte equal to last and a quote sign."
-unfoldable pub isEnclosed : List ℕ → Bool
-isEnclosed xs = leb 2 (length xs) && (eqb (peekAt xs (length xs - 1)) (signOf xs) && isQuote (signOf xs))
-
 -- "Backquotes: content taken as it is .. Else: no LF in it"
 unfoldable pub hasNewline : ℕ → List ℕ → Bool
 hasNewline q ys = not (eqb q backquote) && has lineFeed ys
-
-abbrev pub isBadLiteral : List ℕ → Bool
-isBadLiteral xs =
-    not (isEnclosed xs)
-    || (hasNewline (signOf xs) (innerOf xs)
-    || hasBad (tilesOf (signOf xs) (innerOf xs)))
 
 -- where a byte first stands in a text; its end, where it stands nowhere
 unfoldable pub firstOf : ℕ → List ℕ → ℕ
 firstOf c [] = 0
 firstOf c (x ∷ xs) = cond (eqb x c) 0 (suc (firstOf c xs))
 
--- where a bad literal goes wrong, document 02, L1: "0 if it has fewer than two bytes; the last byte's offset if it differs from the first; 0 if
--- they agree but aren't a quote sign; then the first newline between `'` or `"` signs; otherwise the first inner backquote or bare closing sign,
--- or the backslash of the first bad escape, whichever reading meets first": there the first bad tile begins
-unfoldable pub faultOf : List ℕ → ℕ
+-- "At least two bytes, first byte equal to last and a quote sign." Where a literal goes wrong, document 02, L1: "0 if it has fewer than two
+-- bytes; the last byte's offset if it differs from the first; 0 if they agree but aren't a quote sign; then the first newline between `'` or `"`
+-- signs; otherwise the first inner backquote or bare closing sign, or the backslash of the first bad escape, whichever reading meets first": there
+-- the first bad tile begins
+unfoldable pub faultOf : List ℕ → Option ℕ
 faultOf xs =
-    cond (ltb (length xs) 2) 0
-    (cond (not (eqb (peekAt xs (length xs - 1)) (signOf xs))) (length xs - 1)
-    (cond (not (isQuote (signOf xs))) 0
-    (cond (hasNewline (signOf xs) (innerOf xs)) (suc (firstOf lineFeed (innerOf xs)))
-    (suc (goodSize (tilesOf (signOf xs) (innerOf xs)))))))
+    cond (ltb (length xs) 2) (some 0)
+    (cond (not (eqb (peekAt xs (length xs - 1)) (signOf xs))) (some (length xs - 1))
+    (cond (not (isQuote (signOf xs))) (some 0)
+    (cond (hasNewline (signOf xs) (innerOf xs)) (some (suc (firstOf lineFeed (innerOf xs))))
+    (cond (hasBad (tilesOf (signOf xs) (innerOf xs))) (some (suc (goodSize (tilesOf (signOf xs) (innerOf xs)))))
+    none))))
+
+-- it is bad where it goes wrong somewhere
+abbrev pub isFault : Option ℕ → Bool
+isFault (some at) = true
+isFault none = false
+
+abbrev pub isBadLiteral : List ℕ → Bool
+isBadLiteral xs = isFault (faultOf xs)
 
 -- "A literal with no escape": a backquoted one, or one without a backslash
 unfoldable pub hasEscape : ℕ → List ℕ → Bool
@@ -68,11 +69,14 @@ abbrev pub unquoted : Reading → List ℕ → List ℕ
 unquoted r xs = bytesOf r (tilesOf (signOf xs) (innerOf xs))
 
 -- "handed back as that part of the literal itself, otherwise as the first bytes of the text buffer"
+abbrev pub extentAs : Reading → List ℕ → Option ℕ → Extent
+extentAs r xs (some at) = extent.Bad at
+extentAs r xs none =
+    cond (hasEscape (signOf xs) (innerOf xs)) (extent.Text true (length (unquoted r xs)))
+    (extent.Text false (length (innerOf xs)))
+
 unfoldable pub extentOf : Reading → List ℕ → Extent
-extentOf r xs =
-    cond (isBadLiteral xs) (extent.Bad (faultOf xs))
-    (cond (hasEscape (signOf xs) (innerOf xs)) (extent.Text true (length (unquoted r xs)))
-    (extent.Text false (length (innerOf xs))))
+extentOf r xs = extentAs r xs (faultOf xs)
 
 -- 40 "bad literal"; "Every 40 shall carry an offset in the literal"
 abbrev pub badLiteral : List ℕ → ℕ → Refusal

@@ -25,7 +25,7 @@ use Rattle.string.specs.Escape.{escapedCodes, escaped, escapingOf}
 use Rattle.string.proofs.escape.Given.{escaping-given}
 use Rattle.string.specs.Tile.{amountFrom, isAllowed, numbered, escapeOf, beginsEscape, tileOf}
 use Rattle.string.specs.Tiles.{tilesPast, hasBad, pieceBytes, bytesOf}
-use Rattle.string.specs.Literal.{isEnclosed, hasNewline, hasEscape, unquoted, faultOf, extentOf, unquotingOf, textBy}
+use Rattle.string.specs.Literal.{hasNewline, hasEscape, unquoted, faultOf, extentOf, unquotingOf, textBy}
 use Rattle.exports.specs.Packed.{packedAs}
 use Rattle.exports.specs.Written.{writtenCode}
 use Rattle.exports.specs.String.{readingOf, innerFrom, unquoteCode}
@@ -40,7 +40,7 @@ unfolding escapingOf admitted validityOf charsPast sizeOf charLength sizeIn fits
 escaping = tt
 
 unquoting : Unit {0}
-unfolding readingOf unquotingOf extentOf faultOf charNumber begunIn admitted validityOf charsPast sizeOf charLength sizeIn fits codeOf isWithin isHexDigit digitOf isScalar encoded sixBits characterAt letterValue lookedUp isDigitIn amountFrom isAllowed numbered escapeOf beginsEscape tileOf tilesPast hasBad pieceBytes bytesOf isQuote isEnclosed has hasNewline hasEscape
+unfolding readingOf unquotingOf extentOf faultOf charNumber begunIn admitted validityOf charsPast sizeOf charLength sizeIn fits codeOf isWithin isHexDigit digitOf isScalar encoded sixBits characterAt letterValue lookedUp isDigitIn amountFrom isAllowed numbered escapeOf beginsEscape tileOf tilesPast hasBad pieceBytes bytesOf isQuote has hasNewline hasEscape
 unquoting = tt
 
 abbrev simmerpath-escape-string-gives : List ℕ → ℕ → ℕ → Type 0

@@ -12,10 +12,10 @@ use borrow.Author.Tests.{eq-eqb, ne-eqb, not-true, not-false}
 use Rattle.scan.specs.Byte.{peekAt, isQuote}
 use Rattle.utf8.specs.declared.Reading.{Reading}
 use Rattle.string.specs.declared.Extent.{Extent}
-use Rattle.string.specs.Literal.{signOf, innerOf, isEnclosed, unquoted}
+use Rattle.string.specs.Literal.{signOf, innerOf, unquoted}
 use Rattle.string.specs.steps.Measure.{contentExtent, behindSign, faultIn, leftIn}
 use Rattle.string.proofs.Literals as literals
-use Rattle.string.proofs.Literals.{inner-few}
+use Rattle.string.proofs.Literals.{isEnclosed, inner-few}
 use Rattle.string.proofs.read_literal.Statement.{statement}
 use Rattle.string.proofs.read_literal.Tie as tie
 

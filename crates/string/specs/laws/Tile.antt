@@ -1,4 +1,4 @@
--- When a tile is bad, by 01's list of escapes; `proofs/tile/Bad` has the proof.
+-- When a tile is bad, by 01's list of escapes, and how many bytes one has that is good; `proofs/tile/Bad` and `proofs/tile/Sizes` have the proofs.
 use Prim.Native.Nat.{ℕ, _<_, _≤_}
 use Prim.Native.Char.{code}
 use mathlib.Core.Bool.{true}
@@ -10,7 +10,9 @@ use Rattle.scan.specs.Byte.{peekAt, backslash, backquote}
 use Rattle.scan.specs.Text.{Stands}
 use Rattle.utf8.specs.Table.{charLength}
 use Rattle.utf8.specs.Code.{isScalar}
-use Rattle.string.specs.declared.tile.Tile.the-variants.{Bad}
+use Rattle.string.specs.declared.tile.Form.{Form}
+use Rattle.string.specs.declared.tile.Form.the-variants.{Plain, Letter, Hex, Octal, Point}
+use Rattle.string.specs.declared.tile.Tile.the-variants.{Piece, Bad}
 use Rattle.string.specs.declared.tile.Amount.the-variants.{Value}
 use Rattle.string.specs.Tile.{amountFrom, tileOf}
 
@@ -48,3 +50,14 @@ abbrev pub BadWhen : Type 0
 BadWhen =
     (q : ℕ) (xs : List ℕ) → 0 < q →
     tileOf q xs ≡ Bad ↔ (peekAt xs 0 ≡ q) ⊎ ((EscapeBegun q xs × (¬ (IsEscape q xs))) ⊎ ((¬ (EscapeBegun q xs)) × (charLength xs ≡ 0)))
+
+-- how many bytes a good tile has: a character those of its own; `\a` and the like two; `\xhh` and three octal digits four; `\uhhhh` six and `\Uhhhhhhhh` ten
+abbrev pub SizedAs : Form → List ℕ → ℕ → Type 0
+SizedAs Plain xs n = n ≡ charLength xs
+SizedAs Letter xs n = n ≡ 2
+SizedAs Hex xs n = n ≡ 4
+SizedAs Octal xs n = n ≡ 4
+SizedAs Point xs n = ((peekAt xs 1 ≡ code "u") × (n ≡ 6)) ⊎ ((peekAt xs 1 ≡ code "U") × (n ≡ 10))
+
+abbrev pub PieceSized : Type 0
+PieceSized = (q : ℕ) (xs : List ℕ) (f : Form) (v n : ℕ) → tileOf q xs ≡ Piece f v n → SizedAs f xs n
