@@ -89,10 +89,6 @@ pub no-duration-leaves-the-nanoseconds : simmerpath-parse-duration-leaves-nanos 
 unfolding reading
 no-duration-leaves-the-nanoseconds = simmerpath-parse-duration-left-nanos _ _
 
--- the duration, and the buffer that is lent
-abbrev Given : ℕ → ℕ → List ℕ → (κs : Lfts 1) → Dens κs simmerpath-display-duration.ps → Type 0
-Given secs nanos out κs a = (a .0 ≡ secs) × (a .1 .0 ≡ nanos) × (now (a .1 .1 .0) ≡ out)
-
 abbrev simmerpath-parse-duration-exact-gives : List ℕ → ℕ → Type 0
 simmerpath-parse-duration-exact-gives xs v =
     Answers simmerpath-parse-duration-exact.ps simmerpath-parse-duration-exact.r simmerpath-parse-duration-exact-reads.Post (λ κs a. now (a .0) ≡ xs) (λ κs. v)
@@ -137,6 +133,10 @@ milliseconds-are-written = simmerpath-parse-duration-exact-left-nanos _ _
 pub oversized-part-leaves-the-nanoseconds : simmerpath-parse-duration-exact-leaves-nanos (ascii "4294967296ms") 9 9
 unfolding reading
 oversized-part-leaves-the-nanoseconds = simmerpath-parse-duration-exact-left-nanos _ _
+
+-- the duration, and the buffer that is lent
+abbrev Given : ℕ → ℕ → List ℕ → (κs : Lfts 1) → Dens κs simmerpath-display-duration.ps → Type 0
+Given secs nanos out κs a = (a .0 ≡ secs) × (a .1 .0 ≡ nanos) × (now (a .1 .1 .0) ≡ out)
 
 abbrev simmerpath-display-duration-gives : ℕ → ℕ → List ℕ → ℕ → Type 0
 simmerpath-display-duration-gives secs nanos out v =
