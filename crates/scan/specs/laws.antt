@@ -2,5 +2,6 @@ pub mod Classes
 pub mod Edge
 pub mod Inside
 pub mod Runs
+pub mod Separated
 pub mod Sign
 pub mod Text

@@ -8,6 +8,9 @@ use Rattle.numeral.proofs.number_end.Tie as tie
 is-hex-requires : tie.Need-is-hex-requires
 is-hex-requires c κs = search needs
 
+behind-prefix-requires : tie.Need-behind-prefix-requires
+behind-prefix-requires c κs = search needs
+
 mantissa-end-requires : tie.Need-mantissa-end-requires
 mantissa-end-requires c κs = search needs
 
@@ -16,7 +19,10 @@ exponent-end-requires c κs = search needs
 
 returns : tie.Need-returns
 unfolding numberEnd
-returns c = search (sym (c .before .before .before .is-hex .ensures), c .before .before .if1 .taken, sym (c .before .mantissa-end .ensures), c .exponent-end .ensures)
+returns c = search (sym (c .before .before .before .before .is-hex .ensures), c .before .before .before .if1 .taken, sym (c .before .before .behind-prefix .ensures), sym (c .before .mantissa-end .ensures), c .exponent-end .ensures)
+
+between-digits-requires : tie.Need-between-digits-requires
+between-digits-requires c κs = search needs
 
 mantissa-end-requires-2 : tie.Need-mantissa-end-requires-2
 mantissa-end-requires-2 c κs = search needs
@@ -26,16 +32,18 @@ exponent-end-requires-2 c κs = search needs
 
 returns-2 : tie.Need-returns-2
 unfolding numberEnd
-returns-2 c = search (sym (c .before .before .before .is-hex .ensures), c .before .before .if1 .left, sym (c .before .mantissa-end2 .ensures), c .exponent-end2 .ensures)
+returns-2 c = search (sym (c .before .before .before .before .is-hex .ensures), c .before .before .before .if1 .left, sym (c .before .before .between-digits .ensures), sym (c .before .mantissa-end2 .ensures), c .exponent-end2 .ensures)
 
 pub number-end-spec : {M : Type 1} → statement M
 number-end-spec =
     tie.close
     (tie.spec
     is-hex-requires
+    behind-prefix-requires
     mantissa-end-requires
     exponent-end-requires
     returns
+    between-digits-requires
     mantissa-end-requires-2
     exponent-end-requires-2
     returns-2)

@@ -7,13 +7,14 @@ use mathlib.Core.Path.{_≡_}
 use lib.Dec.{eqb}
 use Rattle.scan.specs.Byte.{peekAt, isDigit}
 use Rattle.scan.specs.laws.Edge.{Edge}
+use Rattle.utf8.specs.declared.Reading.{Reading}
 use Rattle.numeral.specs.Numeral.{taken, numeralOf}
 
 -- what begins with a digit or a point takes one byte at least, and ends within the bytes, behind one that is ASCII
 abbrev pub NumeralWithin : Type 0
 NumeralWithin =
-    (xs : List ℕ) → isDigit (peekAt xs 0) || eqb (peekAt xs 0) (code ".") ≡ true → (1 ≤ taken (numeralOf xs)) × Edge xs (taken (numeralOf xs))
+    (r : Reading) (xs : List ℕ) → isDigit (peekAt xs 0) || eqb (peekAt xs 0) (code ".") ≡ true → (1 ≤ taken (numeralOf r xs)) × Edge xs (taken (numeralOf r xs))
 
 -- a newline behind the bytes changes nothing
 abbrev pub NumeralSeam : Type 0
-NumeralSeam = (xs ys : List ℕ) → numeralOf (xs ++ code "\n" ∷ ys) ≡ numeralOf xs
+NumeralSeam = (r : Reading) (xs ys : List ℕ) → numeralOf r (xs ++ code "\n" ∷ ys) ≡ numeralOf r xs

@@ -1,0 +1,54 @@
+-- What a run with separators is, over any test of digits, as statements: the longest text in which each byte is a digit or a separator so placed.
+-- `proofs/separated/Runs` has the proofs.
+use Prim.Native.Nat.{ℕ, suc, _<_, _≤_, max}
+use mathlib.Core.Bool.{Bool, true, false}
+use mathlib.Core.List.{List, _∷_, _++_}
+use mathlib.Core.Logic.{_⊎_}
+use mathlib.Core.Path.{_≡_}
+use lib.Dec.{eqb}
+use lib.ListN.{length}
+use Rattle.scan.specs.declared.separated.Separators.{Separators}
+use Rattle.scan.specs.declared.separated.Separators.the-variants.{Never}
+use Rattle.scan.specs.Byte.{end, peekAt}
+use Rattle.scan.specs.Run.{runEnd}
+use Rattle.scan.specs.Separated.{separator, isOpen, separatedRun, separatedEnd}
+use Rattle.scan.specs.laws.Edge.{Edge, AsciiAlone}
+
+-- where a separator may stand: behind a digit, and at the front, where the choice has it so
+pub data Opens (p : ℕ → Bool) (k : Separators) (xs : List ℕ) : ℕ → Type 0 where
+  front : isOpen k false ≡ true → Opens p k xs 0
+  behind : (i : ℕ) → isOpen k true ≡ true → p (peekAt xs i) ≡ true → Opens p k xs (suc i)
+
+-- one that stands so, with a digit behind it
+abbrev pub Placed : (ℕ → Bool) → Separators → List ℕ → ℕ → Type 0
+Placed p k xs i = (eqb (peekAt xs i) separator ≡ true) × (p (peekAt xs (suc i)) ≡ true) × Opens p k xs i
+
+-- without separators it is a run
+abbrev pub SeparatedNever : Type 0
+SeparatedNever = (p : ℕ → Bool) (xs : List ℕ) (n : ℕ) → separatedEnd p Never xs n ≡ runEnd p xs n
+
+-- it is within the list
+abbrev pub SeparatedWithin : Type 0
+SeparatedWithin = (p : ℕ → Bool) (k : Separators) (xs : List ℕ) (n : ℕ) → separatedEnd p k xs n ≤ max n (length xs)
+
+-- each byte of it is a digit or a separator so placed
+abbrev pub SeparatedPasses : Type 0
+SeparatedPasses =
+    (p : ℕ → Bool) (k : Separators) (xs : List ℕ) (i : ℕ) → i < separatedRun p k xs → (p (peekAt xs i) ≡ true) ⊎ Placed p k xs i
+
+-- and past it stands neither
+abbrev pub SeparatedStopped : Type 0
+SeparatedStopped =
+    (p : ℕ → Bool) → p end ≡ false → (k : Separators) (xs : List ℕ) →
+    (p (peekAt xs (separatedRun p k xs)) ≡ false) × (Placed p k xs (separatedRun p k xs) → ⊥)
+
+-- a byte that is neither digit nor separator, and what follows it, change nothing
+abbrev pub SeparatedAppend : Type 0
+SeparatedAppend =
+    (p : ℕ → Bool) → p end ≡ false → (k : Separators) (xs : List ℕ) (y : ℕ) (ys : List ℕ) → p y ≡ false → eqb y separator ≡ false →
+    (n : ℕ) → n ≤ length xs → separatedEnd p k (xs ++ (y ∷ ys)) n ≡ separatedEnd p k xs n
+
+-- it goes from an edge to an edge
+abbrev pub EdgeSeparated : Type 0
+EdgeSeparated =
+    (p : ℕ → Bool) → AsciiAlone p → (k : Separators) (xs : List ℕ) (n : ℕ) → Edge xs n → Edge xs (separatedEnd p k xs n)
