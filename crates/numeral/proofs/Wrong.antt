@@ -7,6 +7,8 @@ use denote.Ref.{now}
 use Rattle.scan.specs.Ascii.{ascii}
 use Rattle.scan.specs.Byte.{isWithin, isHexDigit, lowered, isAlpha, isIn}
 use Rattle.proving.proofs.One.{Answers}
+use Rattle.scan.specs.declared.separated.Separators.{Separators}
+use Rattle.scan.specs.declared.separated.Separators.the-variants.{Never, Between, Before}
 use Rattle.scan.specs.Separated.{separatedLength}
 use Rattle.scan.specs.Text.{has}
 use Rattle.utf8.specs.declared.Reading.{Reading}
@@ -14,18 +16,22 @@ use Rattle.utf8.specs.declared.Reading.the-variants.{Crate, Documented}
 use Rattle.scan.specs.Sign.{isSign}
 use Rattle.numeral.specs.declared.Numeral.{Numeral}
 use Rattle.numeral.specs.declared.Numeral.the-variants.{Number, Duration, Neither}
-use Rattle.numeral.specs.Numeral.{isHex, fractionEnd, exponentEnd, numberEnd, isUnit, stopOf, turnOf, durationFrom, numeralOf, taken}
+use Rattle.numeral.specs.Numeral.{betweenDigits, behindPrefix, isHex, fractionEnd, exponentEnd, numberEnd, isUnit, stopOf, turnOf, durationFrom, numeralOf, taken}
+use Rattle.numeral.proofs.between_digits.Kinds as between-digits
+use Rattle.numeral.proofs.between_digits.Reads as between-digits-reads
+use Rattle.numeral.proofs.behind_prefix.Kinds as behind-prefix
+use Rattle.numeral.proofs.behind_prefix.Reads as behind-prefix-reads
 use Rattle.numeral.proofs.scan_number.Kinds as scan-number
 use Rattle.numeral.proofs.scan_number.Reads as scan-number-reads
 use Rattle.numeral.proofs.taken.Kinds as taken
 use Rattle.numeral.proofs.taken.Reads as taken-reads
 
 abbrev scan-number-gives : Reading → List ℕ → Numeral → Type 0
-scan-number-gives r s v = Answers scan-number.ps scan-number.r scan-number-reads.Post (λ κs a. (a .0 ≡ r) × (now (a .1 .0) ≡ s)) (λ κs. v)
+scan-number-gives r s v = Answers scan-number.ps scan-number.r scan-number-reads.Post (λ κs a. (now (a .0) ≡ s) × (a .1 .0 ≡ r)) (λ κs. v)
 
 scan-number-at : (r : Reading) (s : List ℕ) → scan-number-gives r s (numeralOf r s)
 unfolding numeralOf numberEnd isHex fractionEnd exponentEnd isSign separatedLength has isIn isAlpha isWithin lowered isUnit durationFrom turnOf stopOf isHexDigit
-scan-number-at r s κs a x e p h = p ∙ ap₂ numeralOf (h .0) (h .1)
+scan-number-at r s κs a x e p h = p ∙ ap₂ numeralOf (h .1) (h .0)
 
 pub digit-is-a-number-of-one-byte : scan-number-gives Crate (ascii "1") (Number 1)
 unfolding scan-number-at
@@ -138,3 +144,27 @@ duration-takes-its-length = taken-at _
 
 pub neither-takes-what-was-read : taken-gives (Neither 3) 3
 neither-takes-what-was-read = taken-at _
+
+abbrev between-digits-gives : Reading → Separators → Type 0
+between-digits-gives r v = Answers between-digits.ps between-digits.r between-digits-reads.Post (λ κs a. a .0 ≡ r) (λ κs. v)
+
+between-digits-at : (r : Reading) → between-digits-gives r (betweenDigits r)
+between-digits-at r κs a x e p h = p ∙ ap betweenDigits h
+
+pub crate-reading-has-none-between-digits : between-digits-gives Crate Never
+crate-reading-has-none-between-digits = between-digits-at _
+
+pub none-stands-before-the-first-digit : between-digits-gives Documented Between
+none-stands-before-the-first-digit = between-digits-at _
+
+abbrev behind-prefix-gives : Reading → Separators → Type 0
+behind-prefix-gives r v = Answers behind-prefix.ps behind-prefix.r behind-prefix-reads.Post (λ κs a. a .0 ≡ r) (λ κs. v)
+
+behind-prefix-at : (r : Reading) → behind-prefix-gives r (behindPrefix r)
+behind-prefix-at r κs a x e p h = p ∙ ap behindPrefix h
+
+pub crate-reading-has-none-behind-a-prefix : behind-prefix-gives Crate Never
+crate-reading-has-none-behind-a-prefix = behind-prefix-at _
+
+pub one-stands-before-the-first-digit-of-a-hex-number : behind-prefix-gives Documented Before
+one-stands-before-the-first-digit-of-a-hex-number = behind-prefix-at _

@@ -45,20 +45,20 @@ pub enum Turn {
 }
 
 // Where separators stand in digits, as a reading has it.
-fn between_digits(r: Reading) -> Separators
-    ensures { λ x. ⌜ x ≡ betweenDigits r ⌝ }
+pub fn between_digits(reading: Reading) -> Separators
+    ensures { λ r. ⌜ r ≡ betweenDigits reading ⌝ }
 {
-    match r {
+    match reading {
         Reading::Crate => Separators::Never,
         Reading::Documented => Separators::Between,
     }
 }
 
 // Where they stand in digits behind the mark of a hexadecimal number.
-fn behind_prefix(r: Reading) -> Separators
-    ensures { λ x. ⌜ x ≡ behindPrefix r ⌝ }
+pub fn behind_prefix(reading: Reading) -> Separators
+    ensures { λ r. ⌜ r ≡ behindPrefix reading ⌝ }
 {
-    match r {
+    match reading {
         Reading::Crate => Separators::Never,
         Reading::Documented => Separators::Before,
     }
@@ -188,10 +188,10 @@ fn duration(s: &[u8], from: usize) -> Numeral
 }
 
 // What bytes begin with that are begun by a digit, or by a point and a digit.
-pub fn scan_number(r: Reading, s: &[u8]) -> Numeral
-    ensures { λ x. ⌜ x ≡ numeralOf r (now (s .entry)) ⌝ }
+pub fn scan_number(s: &[u8], reading: Reading) -> Numeral
+    ensures { λ r. ⌜ r ≡ numeralOf reading (now (s .entry)) ⌝ }
 {
-    let n = number_end(r, s);
+    let n = number_end(reading, s);
     let c = byte::peek(s, n);
     if c == b'.' as usize {
         return Numeral::Neither(n);

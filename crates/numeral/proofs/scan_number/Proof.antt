@@ -62,10 +62,10 @@ duration-requires c κs = search needs
 
 tests :
     (c : tie.After-peek) → let a = c .before .before .before .args in let n = c .before .number-end .result in let b = c .peek .result in
-    numeralOf (a .r) (now (a .s)) ≡ answer (eqb b (code ".")) (isAlpha b) (isFirstUnit b && not (has separator (take n (now (a .s))))) n (now (a .s))
+    numeralOf (a .reading) (now (a .s)) ≡ answer (eqb b (code ".")) (isAlpha b) (isFirstUnit b && not (has separator (take n (now (a .s))))) n (now (a .s))
 tests c =
     let a = c .before .before .before .args in
-    by-tests (a .r) (now (a .s)) (c .before .number-end .result) (c .peek .result) (c .before .number-end .ensures) (c .peek .ensures)
+    by-tests (a .reading) (now (a .s)) (c .before .number-end .result) (c .peek .result) (c .before .number-end .ensures) (c .peek .ensures)
 
 returns : tie.Need-returns
 returns c = sym (tests (c .before) ∙ rw (eq-eqb _ _ (c .if1 .taken)) refl)
@@ -89,7 +89,7 @@ first-unit c =
 number-within : (c : tie.After-peek) → c .before .number-end .result ≤ length (now (c .before .before .before .args .s))
 number-within c =
     let a = c .before .before .before .args in
-    subst (λ n. n ≤ length (now (a .s))) (sym (c .before .number-end .ensures)) (edge-within _ _ (number-edge (a .r) (now (a .s))))
+    subst (λ n. n ≤ length (now (a .s))) (sym (c .before .number-end .ensures)) (edge-within _ _ (number-edge (a .reading) (now (a .s))))
 
 slice-aggregate-contains : tie.Need-slice-aggregate-contains
 slice-aggregate-contains c =
@@ -105,7 +105,7 @@ add-duration c =
 -- the answer where a letter stands behind the number, by whether a duration may go on with it
 with-letter :
     (c : tie.Else2) (t : Bool) → let p = c .before .before .before in let a = p .before .before .before .args in let n = p .before .number-end .result in
-    isFirstUnit (p .peek .result) && not (has separator (take n (now (a .s)))) ≡ t → answer false true t n (now (a .s)) ≡ numeralOf (a .r) (now (a .s))
+    isFirstUnit (p .peek .result) && not (has separator (take n (now (a .s)))) ≡ t → answer false true t n (now (a .s)) ≡ numeralOf (a .reading) (now (a .s))
 with-letter c t h = sym (tests (c .before .before .before) ∙ rw (ne-eqb _ _ (c .before .before .if1 .left), letter c, h) refl)
 
 returns-3 : tie.Need-returns-3
