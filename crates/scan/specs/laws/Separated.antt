@@ -23,6 +23,10 @@ pub data Opens (p : ℕ → Bool) (k : Separators) (xs : List ℕ) : ℕ → Typ
 abbrev pub Placed : (ℕ → Bool) → Separators → List ℕ → ℕ → Type 0
 Placed p k xs i = (eqb (peekAt xs i) separator ≡ true) × (p (peekAt xs (suc i)) ≡ true) × Opens p k xs i
 
+-- the texts of digits with separators so placed, the empty one among them
+abbrev pub Digits : (ℕ → Bool) → Separators → List ℕ → Type 0
+Digits p k t = (i : ℕ) → i < length t → (p (peekAt t i) ≡ true) ⊎ Placed p k t i
+
 -- without separators it is a run
 abbrev pub SeparatedNever : Type 0
 SeparatedNever = (p : ℕ → Bool) (xs : List ℕ) (n : ℕ) → separatedEnd p Never xs n ≡ runEnd p xs n
