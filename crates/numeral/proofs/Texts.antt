@@ -6,12 +6,12 @@ use native.Mathlib.Nat.{zero-add, add-zero}
 use native.Mathlib.Numerals.{add-one}
 use native.Mathlib.Omega.{arith}
 use mathlib.Core.Bool.{Bool, true, false, cond, _&&_, _||_, not, true≢false}
-use mathlib.Core.List.{List, [], _∷_, _++_, append-assoc}
+use mathlib.Core.List.{List, [], _∷_, _++_, append-assoc, append-nil}
 use mathlib.Core.Logic.{_⊎_, inl, inr, ⊎-elim}
 use mathlib.Core.Path.{_≡_, refl, sym, ap, ap₂, subst, _∙_}
 use lib.Dec.{eqb}
 use lib.Seq.{drop-drop, getD-drop, getD-take, drop-append-seam, take-append-add}
-use lib.ListN.{length, take, drop, length-append}
+use lib.ListN.{length, getD, take, drop, length-append}
 use borrow.Author.Tests.{eqb-true}
 use Rattle.proving.proofs.Below.{below}
 use Rattle.proving.proofs.Choice.{either, and-left, and-right}
@@ -26,9 +26,9 @@ use Rattle.scan.specs.Sign.{isSign, pastSign}
 use Rattle.scan.specs.laws.Separated.{Opens, front, behind, Digits}
 use Rattle.scan.proofs.byte.Classes.{end-in-none}
 use Rattle.scan.proofs.Edges.{class-ascii}
-use Rattle.scan.proofs.Greedy.{Greedy, optionally, thenTakes, empty-greedy, optional-greedy, then-greedy, greedy-longest}
+use Rattle.scan.proofs.Greedy.{Greedy, optionally, thenTakes, empty-greedy, optional-greedy, then-greedy, split, Cut, empty-cut, optional-cut, then-cut}
 use Rattle.scan.proofs.separated.Runs.{separated-stopped}
-use Rattle.scan.proofs.separated.Texts.{digits-greedy}
+use Rattle.scan.proofs.separated.Texts.{digits-greedy, digits-cut}
 use Rattle.utf8.specs.declared.Reading.{Reading}
 use Rattle.utf8.specs.declared.Reading.the-variants.{Crate, Documented}
 use Rattle.numeral.specs.Numeral.{betweenDigits, behindPrefix, isHex, fractionEnd, mantissaEnd, exponentEnd, numberEnd}
@@ -57,7 +57,7 @@ inMantissa k c = inDigits k c || (isPoint c || inDigits k c)
 abbrev PointApart : Class → Type 0
 PointApart k = inDigits k (code ".") ≡ false
 
-not-both : (a b : Bool) → not (a && b) ≡ true → a ≡ true → b ≡ false
+pub not-both : (a b : Bool) → not (a && b) ≡ true → a ≡ true → b ≡ false
 not-both true true t e = sym t
 not-both true false t e = refl
 not-both false b t e = absurd (true≢false (sym e))
@@ -289,3 +289,51 @@ number-longest r xs b = go (isHex xs) refl
             ; there = (begun-front r xs (decimalTakes r xs) (begun-decimal r xs b), inl (decimal-greedy r .taken xs))
             ; most = λ t rest e n. rw (← decimal-end r xs h) (at-most t rest e n)
             }
+
+-- a number text may be cut behind any byte but a separator, where what is left is begun as a number is
+module _ (r : Reading) where
+  digits-of : (k : Class) (q : Separators) → Cut (Digits (isIn k) q)
+  digits-of k q = digits-cut (isIn k) (end-in-none k) q
+
+  mantissa-cut : (k : Class) (q : Separators) → Cut (Mantissa r k q)
+  mantissa-cut k q = then-cut (digits-of k q) (optional-cut isPoint (digits-of k (betweenDigits r)))
+
+  decimal-cut : Cut (DecimalText r)
+  decimal-cut = then-cut (mantissa-cut Digit (betweenDigits r)) (optional-cut isExponentMark (then-cut (optional-cut isSign empty-cut) (digits-of Digit (betweenDigits r))))
+
+  one-decimal : (c : ℕ) → Begun (c ∷ []) → DecimalText r (c ∷ [])
+  unfolding isIn isWithin
+  one-decimal c (inl d) = plain r (c ∷ []) [] (one-digit r c d (betweenDigits r)) nothing
+  one-decimal c (inr b) = absurd (true≢false (sym (b .1)))
+
+  hex-cut : (u : List ℕ) (c : ℕ) (rest : List ℕ) → eqb c separator ≡ false → Begun (u ++ (c ∷ [])) → HexText r (u ++ (c ∷ rest)) → DecimalText r (u ++ (c ∷ [])) ⊎ HexText r (u ++ (c ∷ []))
+  hex-cut u c rest s b x =
+      ⊎-elim (λ q. inr (behind-prefix (q .0) (q .1) (q .2))) (λ q. within-prefix (q .0) (q .1) (q .2))
+      (split u (c ∷ rest) (x .front) (x .back) (x .whole))
+    where
+      behind-prefix : (w : List ℕ) → u ≡ x .front ++ w → x .back ≡ w ++ (c ∷ rest) → HexText r (u ++ (c ∷ []))
+      behind-prefix w e f =
+          record
+            { front = x .front
+            ; back = w ++ (c ∷ [])
+            ; first = x .first
+            ; second = mantissa-cut HexDigit (behindPrefix r) .cut w c rest s (subst (Mantissa r HexDigit (behindPrefix r)) f (x .second))
+            ; whole = ap (λ (t : List ℕ). t ++ (c ∷ [])) e ∙ append-assoc (x .front) w (c ∷ [])
+            }
+
+      two : length (x .front) ≡ 2
+      two = prefix-length (x .front) (x .first)
+
+      in-prefix : (u : List ℕ) (z : ℕ) (w : List ℕ) → Begun (u ++ (c ∷ [])) → x .front ≡ u ++ (z ∷ w) → z ≡ c → DecimalText r (u ++ (c ∷ [])) ⊎ HexText r (u ++ (c ∷ []))
+      in-prefix [] z w b e f = inl (one-decimal c b)
+      in-prefix (y ∷ []) z [] b e f =
+          inr (record { front = x .front; back = []; first = x .first; second = mantissa-cut HexDigit (behindPrefix r) .none; whole = sym (append-nil (x .front) ∙ e ∙ ap (λ (a : ℕ). y ∷ a ∷ []) f) })
+      in-prefix (y ∷ []) z (v ∷ w) b e f = absurd (omega (arith, two, ap (λ (t : List ℕ). length t) e))
+      in-prefix (y ∷ v ∷ u) z w b e f = absurd (omega (arith, two, ap (λ (t : List ℕ). length t) e, length-append u (z ∷ w)))
+
+      within-prefix : (w : List ℕ) → x .front ≡ u ++ w → c ∷ rest ≡ w ++ x .back → DecimalText r (u ++ (c ∷ [])) ⊎ HexText r (u ++ (c ∷ []))
+      within-prefix [] e f = inr (behind-prefix [] (sym (e ∙ append-nil u) ∙ sym (append-nil (x .front))) (sym f))
+      within-prefix (z ∷ w) e f = in-prefix u z w b e (sym (ap (λ (t : List ℕ). getD t 0 end) f))
+
+  pub number-cut : (u : List ℕ) (c : ℕ) (rest : List ℕ) → eqb c separator ≡ false → Begun (u ++ (c ∷ [])) → NumberText r (u ++ (c ∷ rest)) → NumberText r (u ++ (c ∷ []))
+  number-cut u c rest s b n = (b, ⊎-elim (λ d. inl (decimal-cut .cut u c rest s d)) (hex-cut u c rest s b) (n .1))

@@ -1,6 +1,6 @@
 -- A run with separators is the longest text of digits with separators so placed that bytes begin with, since each byte of it is one and past it
 -- stands neither; and such a text may be cut behind any byte but a separator, since one that is placed has its digit behind it still.
-use Prim.Native.Nat.{ℕ, suc, _<_, _≤_}
+use Prim.Native.Nat.{ℕ, zero, suc, _<_, _≤_}
 use native.Mathlib.Nat.{add-zero}
 use native.Mathlib.Omega.{arith}
 use mathlib.Core.Bool.{Bool, true, false, _||_, or-true, true≢false}
@@ -12,6 +12,7 @@ use borrow.Author.Tests.{ltb-true, ltb-false}
 use lib.Seq.{getD-append-add, getD-append-seam, length-take-le}
 use lib.ListN.{length, take, drop, length-append, take-append-drop, List·getD-append}
 use Rattle.scan.specs.declared.separated.Separators.{Separators}
+use Rattle.scan.specs.declared.separated.Separators.the-variants.{Never}
 use Rattle.scan.specs.Byte.{end, peekAt}
 use Rattle.scan.specs.Separated.{separator, separatedRun}
 use Rattle.scan.specs.laws.Separated.{Opens, front, behind, Placed, Digits}
@@ -124,3 +125,22 @@ module _ (p : ℕ → Bool) (ends : p end ≡ false) (k : Separators) where
 
   pub digits-cut : Cut (Digits p k)
   digits-cut = record { none = λ i l. absurd (omega arith); cut = digits-cut-at }
+
+-- where no separators stand, such a text is digits alone
+none-placed : (p : ℕ → Bool) (t : List ℕ) (i : ℕ) → Placed p Never t i → ⊥
+none-placed p t i q = shut i (q .2)
+  where
+    shut : (i : ℕ) → Opens p Never t i → ⊥
+    shut _ (front o) = true≢false (sym o)
+    shut _ (behind i o e) = true≢false (sym o)
+
+pub digits-alone : (p : ℕ → Bool) (t : List ℕ) → Digits p Never t → (i : ℕ) → i < length t → p (peekAt t i) ≡ true
+digits-alone p t d i l = ⊎-elim (λ e. e) (λ q. absurd (none-placed p t i q)) (d i l)
+
+-- digit by digit
+pub digits-cons : (p : ℕ → Bool) (x : ℕ) (t : List ℕ) → Digits p Never (x ∷ t) → (p x ≡ true) × Digits p Never t
+digits-cons p x t d = let a = digits-alone p (x ∷ t) d in (a 0 (omega arith), λ i l. inl (a (suc i) (omega (arith, l))))
+
+pub cons-digits : (p : ℕ → Bool) (x : ℕ) (t : List ℕ) → p x ≡ true → Digits p Never t → Digits p Never (x ∷ t)
+cons-digits p x t e d zero l = inl e
+cons-digits p x t e d (suc i) l = inl (digits-alone p t d i (omega (arith, l)))
