@@ -4,5 +4,7 @@ pub mod Seam
 pub mod Texts
 pub mod Units
 pub mod Plain
+pub mod Given
+pub mod Places
 pub mod Unique
 pub mod Wrong

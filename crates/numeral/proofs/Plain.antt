@@ -71,9 +71,9 @@ pub crate-plain : Plain (NumberText Crate)
 unfolding isIn isHexDigit isWithin lowered isSign
 crate-plain t n =
     ⊎-elim
-      (then-plain (mantissa-plain Digit refl) (optional-plain isExponentMark refl (then-plain (optional-plain isSign refl empty-plain) (digits-plain (isIn Digit) refl))) t)
-      (then-plain prefix-plain (mantissa-plain HexDigit refl) t)
-      (n .1)
+    (then-plain (mantissa-plain Digit refl) (optional-plain isExponentMark refl (then-plain (optional-plain isSign refl empty-plain) (digits-plain (isIn Digit) refl))) t)
+    (then-plain prefix-plain (mantissa-plain HexDigit refl) t)
+    (n .1)
 
 pub duration-plain : (r : Reading) → Plain (DurationText r)
 duration-plain r = then-plain (λ t n. n .1) units-plain

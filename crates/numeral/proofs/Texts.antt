@@ -62,7 +62,11 @@ not-both true true t e = sym t
 not-both true false t e = refl
 not-both false b t e = absurd (true≢false (sym e))
 
-implied : (a b : Bool) → not a || b ≡ true → a ≡ true → b ≡ true
+pub neither-of : (a b : Bool) → a || b ≡ false → (a ≡ false) × (b ≡ false)
+neither-of true b e = absurd (true≢false e)
+neither-of false b e = (refl, e)
+
+pub implied : (a b : Bool) → not a || b ≡ true → a ≡ true → b ≡ true
 implied true b t e = t
 implied false b t e = absurd (true≢false (sym e))
 
@@ -92,12 +96,11 @@ module _ (r : Reading) where
       at-front : Opens (isIn Digit) (betweenDigits r) (x ∷ t) 0 → isIn Digit x ≡ true
       at-front (front o) = absurd (true≢false (sym o ∙ none-before r))
 
-
   exponent-greedy : Greedy (Exponent r) (exponentTakes r) (λ c. isExponentMark c || ((isSign c || false) || inDigits Digit c))
   unfolding lowered isSign isWithin
   exponent-greedy =
       optional-greedy isExponentMark refl
-        (then-greedy (optional-greedy isSign refl empty-greedy) (digits-greedy (isIn Digit) (end-in-none Digit) (betweenDigits r)) (λ x t d. digit-no-sign x (begins-with-digit x t d)))
+      (then-greedy (optional-greedy isSign refl empty-greedy) (digits-greedy (isIn Digit) (end-in-none Digit) (betweenDigits r)) (λ x t d. digit-no-sign x (begins-with-digit x t d)))
 
   pub decimal-greedy : Greedy (DecimalText r) (decimalTakes r) (λ c. inMantissa Digit c || (isExponentMark c || ((isSign c || false) || inDigits Digit c)))
   unfolding isIn isWithin
@@ -163,6 +166,16 @@ module _ (r : Reading) where
   mantissa-stopped k q xs at =
       let n = separatedEnd (isIn k) q xs at in
       either (λ m. isIn k (peekAt xs m) ≡ false) (isPoint (peekAt xs n)) (λ e. end-stopped k (betweenDigits r) xs (n + 1)) (λ e. end-stopped k q xs at)
+
+  -- nor is the byte behind a number a digit
+  pub number-stopped : (xs : List ℕ) → isDigit (peekAt xs (numberEnd r xs)) ≡ false
+  unfolding numberEnd exponentEnd isIn isHexDigit
+  number-stopped xs =
+      let m = cond (isHex xs) (mantissaEnd r HexDigit (behindPrefix r) xs 2) (mantissaEnd r Digit (betweenDigits r) xs 0) in
+      either (λ n. isDigit (peekAt xs n) ≡ false) (isExponentMark (peekAt xs m)) (λ e. end-stopped Digit (betweenDigits r) xs (pastSign xs (m + 1)))
+      (λ e. either (λ n. isDigit (peekAt xs n) ≡ false) (isHex xs)
+      (λ h. neither-of (isDigit (peekAt xs (mantissaEnd r HexDigit (behindPrefix r) xs 2))) _ (mantissa-stopped HexDigit (behindPrefix r) xs 2) .0)
+      (λ h. mantissa-stopped Digit (betweenDigits r) xs 0))
 
   no-exponent : (xs : List ℕ) (at : ℕ) → isIn HexDigit (peekAt xs at) ≡ false → exponentEnd r xs at ≡ at
   unfolding exponentEnd
@@ -274,21 +287,21 @@ number-longest r xs b = go (isHex xs) refl
         let two = prefix-length (p .0) (p .1) in
         let k : length xs ≡ 2 + length (drop 2 xs) = ap (λ (s : List ℕ). length s) (p .2) ∙ length-append (p .0) (drop 2 xs) ∙ ap (λ (n : ℕ). n + length (drop 2 xs)) two in
         let w : take (2 + m) xs ≡ p .0 ++ take m (drop 2 xs) =
-            ap₂ (λ (n : ℕ) (s : List ℕ). take (n + m) s) (sym two) (p .2) ∙ take-append-add (p .0) (drop 2 xs) m in
+        ap₂ (λ (n : ℕ) (s : List ℕ). take (n + m) s) (sym two) (p .2) ∙ take-append-add (p .0) (drop 2 xs) m in
         let zeroth : isDigit (peekAt xs 0) ≡ true = digit-first xs h in
         rw (hex-end r xs h)
-          record
-            { within = omega (arith, k, hex-greedy r .within (drop 2 xs))
-            ; there = (begun-front r xs (2 + m) (inl (zeroth, omega arith)), inr (record { front = p .0; back = take m (drop 2 xs); first = p .1; second = hex-greedy r .taken (drop 2 xs); whole = w }))
-            ; most = λ t rest e n. rw (← hex-end r xs h) (at-most t rest e n)
-            }
+        record {
+          within = omega (arith, k, hex-greedy r .within (drop 2 xs));
+          there = (begun-front r xs (2 + m) (inl (zeroth, omega arith)), inr (record { front = p .0; back = take m (drop 2 xs); first = p .1; second = hex-greedy r .taken (drop 2 xs); whole = w }));
+          most = λ t rest e n. rw (← hex-end r xs h) (at-most t rest e n);
+        }
     go false h =
         rw (decimal-end r xs h)
-          record
-            { within = decimal-greedy r .within xs
-            ; there = (begun-front r xs (decimalTakes r xs) (begun-decimal r xs b), inl (decimal-greedy r .taken xs))
-            ; most = λ t rest e n. rw (← decimal-end r xs h) (at-most t rest e n)
-            }
+        record {
+          within = decimal-greedy r .within xs;
+          there = (begun-front r xs (decimalTakes r xs) (begun-decimal r xs b), inl (decimal-greedy r .taken xs));
+          most = λ t rest e n. rw (← decimal-end r xs h) (at-most t rest e n);
+        }
 
 -- a number text may be cut behind any byte but a separator, where what is left is begun as a number is
 module _ (r : Reading) where
@@ -313,13 +326,13 @@ module _ (r : Reading) where
     where
       behind-prefix : (w : List ℕ) → u ≡ x .front ++ w → x .back ≡ w ++ (c ∷ rest) → HexText r (u ++ (c ∷ []))
       behind-prefix w e f =
-          record
-            { front = x .front
-            ; back = w ++ (c ∷ [])
-            ; first = x .first
-            ; second = mantissa-cut HexDigit (behindPrefix r) .cut w c rest s (subst (Mantissa r HexDigit (behindPrefix r)) f (x .second))
-            ; whole = ap (λ (t : List ℕ). t ++ (c ∷ [])) e ∙ append-assoc (x .front) w (c ∷ [])
-            }
+          record {
+            front = x .front;
+            back = w ++ (c ∷ []);
+            first = x .first;
+            second = mantissa-cut HexDigit (behindPrefix r) .cut w c rest s (subst (Mantissa r HexDigit (behindPrefix r)) f (x .second));
+            whole = ap (λ (t : List ℕ). t ++ (c ∷ [])) e ∙ append-assoc (x .front) w (c ∷ []);
+          }
 
       two : length (x .front) ≡ 2
       two = prefix-length (x .front) (x .first)

@@ -31,7 +31,7 @@ use Rattle.numeral.specs.declared.Numeral.{Numeral}
 use Rattle.numeral.specs.declared.Numeral.the-variants.{Number, Duration, Neither}
 use Rattle.numeral.specs.Numeral.{isUnit, isFirstUnit, stopOf, turnOf, turned, partBehind, durationFrom, taken}
 use Rattle.numeral.specs.Texts.{OptionalS, SomeDigits, Repeat, Repeats, none, more, Units}
-use Rattle.numeral.proofs.Texts.{not-both}
+use Rattle.numeral.proofs.Texts.{not-both, neither-of}
 use Rattle.numeral.proofs.Turns.{unit-ascii, not-on, on-inside, turned-at}
 
 -- a duration may end behind a unit and behind its s, but not in digits
@@ -103,8 +103,8 @@ repeats-path _ (more u v r rs) p m =
     let d = r .front in
     let w = r .second in
     let e : u ++ v ≡ d ++ (w .front ++ (w .back ++ v)) =
-        ap (λ (t : List ℕ). t ++ v) (r .whole ∙ ap (λ (t : List ℕ). d ++ t) (w .whole)) ∙ append-assoc d (w .front ++ w .back) v
-        ∙ ap (λ (t : List ℕ). d ++ t) (append-assoc (w .front) (w .back) v) in
+    ap (λ (t : List ℕ). t ++ v) (r .whole ∙ ap (λ (t : List ℕ). d ++ t) (w .whole)) ∙ append-assoc d (w .front ++ w .back) v
+    ∙ ap (λ (t : List ℕ). d ++ t) (append-assoc (w .front) (w .back) v) in
     subst (Path p) (sym e) (some-path p d _ (r .first) (unit-path (w .front) _ (w .first) (s-path (w .back) v (w .second) (λ q n. repeats-path v rs q n))))
 
 rest-path : (t : List ℕ) → Then OptionalS Repeats t → Path part.Unit t
@@ -129,18 +129,18 @@ one-repeat x t e q =
     let o = w .second in
     let u = x ∷ (d ++ (w .front ++ o .front)) in
     let f : x ∷ t ≡ u ++ o .back =
-        ap (λ (l : List ℕ). x ∷ l)
-          (q .whole ∙ ap (λ (l : List ℕ). d ++ l) (w .whole ∙ ap (λ (l : List ℕ). w .front ++ l) (o .whole) ∙ sym (append-assoc (w .front) (o .front) (o .back))) ∙ sym (append-assoc d (w .front ++ o .front) (o .back))) in
+    ap (λ (l : List ℕ). x ∷ l)
+    (q .whole ∙ ap (λ (l : List ℕ). d ++ l) (w .whole ∙ ap (λ (l : List ℕ). w .front ++ l) (o .whole) ∙ sym (append-assoc (w .front) (o .front) (o .back))) ∙ sym (append-assoc d (w .front ++ o .front) (o .back))) in
     subst Repeats (sym f)
-      (more u (o .back)
-        (record
-          { front = x ∷ d
-          ; back = w .front ++ o .front
-          ; first = (cons-digits (isIn Digit) x d e (q .first), omega arith)
-          ; second = record { front = w .front; back = o .front; first = w .first; second = o .first; whole = refl }
-          ; whole = refl
-          })
-        (o .second))
+    (more u (o .back)
+    (record {
+      front = x ∷ d;
+      back = w .front ++ o .front;
+      first = (cons-digits (isIn Digit) x d e (q .first), omega arith);
+      second = record { front = w .front; back = o .front; first = w .first; second = o .first; whole = refl };
+      whole = refl;
+    })
+    (o .second))
 
 no-digits : Digits (isIn Digit) Never []
 no-digits i l = absurd (omega arith)
@@ -173,10 +173,6 @@ on-not-ends p e = told turnNumber e refl (λ n. absurd (omega (arith, n)))
 
 fails-not-ends : {A : Type 0} → Fails ≡ Ends → A
 fails-not-ends e = told turnNumber e refl (λ n. absurd (omega (arith, n)))
-
-neither-of : (a b : Bool) → a || b ≡ false → (a ≡ false) × (b ≡ false)
-neither-of true b e = absurd (true≢false e)
-neither-of false b e = (refl, e)
 
 alpha-stop : (b : Bool) → cond b Fails Ends ≡ Ends → b ≡ false
 alpha-stop true e = fails-not-ends e
@@ -253,29 +249,29 @@ further p q x xs k h g (y ∷ u) w z e a =
 ends-here : (p : Part) (n : ℕ) (xs : List ℕ) → turnOf p (peekAt xs 0) ≡ Ends → Reads p n xs (Duration n)
 ends-here p n xs h =
     let q = ends-plain (peekAt xs 0) p h in
-    record
-      { front = []
-      ; back = xs
-      ; whole = refl
-      ; size = sym (add-zero n)
-      ; begins = ([], q .0)
-      ; most = not-further p xs (λ r e. on-not-ends r (sym e ∙ h))
-      ; ended = λ m e. q
-      ; no-number = λ m e. told numeralNumber e refl (λ k. absurd (omega (arith, k)))
-      }
+    record {
+      front = [];
+      back = xs;
+      whole = refl;
+      size = sym (add-zero n);
+      begins = ([], q .0);
+      most = not-further p xs (λ r e. on-not-ends r (sym e ∙ h));
+      ended = λ m e. q;
+      no-number = λ m e. told numeralNumber e refl (λ k. absurd (omega (arith, k)));
+    }
 
 fails-here : (p : Part) (n : ℕ) (xs : List ℕ) → ((q : Part) → turnOf p (peekAt xs 0) ≡ On q → ⊥) → Reads p n xs (Neither n)
 fails-here p n xs h =
-    record
-      { front = []
-      ; back = xs
-      ; whole = refl
-      ; size = sym (add-zero n)
-      ; begins = goes-on p
-      ; most = not-further p xs h
-      ; ended = λ m e. told numeralNumber e refl (λ k. absurd (omega (arith, k)))
-      ; no-number = λ m e. told numeralNumber e refl (λ k. absurd (omega (arith, k)))
-      }
+    record {
+      front = [];
+      back = xs;
+      whole = refl;
+      size = sym (add-zero n);
+      begins = goes-on p;
+      most = not-further p xs h;
+      ended = λ m e. told numeralNumber e refl (λ k. absurd (omega (arith, k)));
+      no-number = λ m e. told numeralNumber e refl (λ k. absurd (omega (arith, k)));
+    }
 
 pub reading-path : (p : Part) (n : ℕ) (xs : List ℕ) → Reads p n xs (durationFrom p n xs)
 unfolding durationFrom
@@ -290,16 +286,16 @@ reading-path p n (x ∷ xs) = go (turnOf p x) refl (λ q. reading-path q (n + 1)
     go : (t : Turn) → turnOf p x ≡ t → ((q : Part) → Reads q (n + 1) xs (durationFrom q (n + 1) xs)) → Reads p n (x ∷ xs) (turned t n (durationFrom (partBehind t) (n + 1) xs))
     go (On q) h f =
         let r = f q in
-        record
-          { front = x ∷ r .front
-          ; back = r .back
-          ; whole = ap (λ (t : List ℕ). x ∷ t) (r .whole)
-          ; size = omega (arith, r .size)
-          ; begins = (r .begins .0, (q, h, r .begins .1))
-          ; most = further p q x xs (length (r .front)) h (r .most)
-          ; ended = λ m e. let d = r .ended m e in ((q, h, d .0), d .1)
-          ; no-number = r .no-number
-          }
+        record {
+          front = x ∷ r .front;
+          back = r .back;
+          whole = ap (λ (t : List ℕ). x ∷ t) (r .whole);
+          size = omega (arith, r .size);
+          begins = (r .begins .0, (q, h, r .begins .1));
+          most = further p q x xs (length (r .front)) h (r .most);
+          ended = λ m e. let d = r .ended m e in ((q, h, d .0), d .1);
+          no-number = r .no-number;
+        }
     go Ends h f = ends-here p n (x ∷ xs) h
     go Fails h f = fails-here p n (x ∷ xs) (λ r e. not-on true r (sym h ∙ e))
 
