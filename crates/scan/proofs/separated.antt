@@ -1,3 +1,4 @@
 pub mod Runs
+pub mod Whole
 pub mod Unique
 pub mod Wrong
