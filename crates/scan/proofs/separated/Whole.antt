@@ -13,7 +13,7 @@ use Rattle.scan.specs.declared.separated.Separators.the-variants.{Never}
 use Rattle.scan.specs.Byte.{peekAt}
 use Rattle.scan.specs.Separated.{separator, isOpen, allPlacedFrom, withoutSeparators}
 use Rattle.scan.specs.Text.{has}
-use Rattle.scan.specs.laws.Separated.{PlacedTold, PlacedNever, NoneLeft, NoneDropped, WithoutWithin}
+use Rattle.scan.specs.laws.Separated.{Opens, front, behind, PlacedTold, PlacedNever, PlacedWithout, NoneLeft, NoneDropped, WithoutWithin}
 use Rattle.scan.proofs.Stands.{tests-has}
 use Rattle.scan.proofs.separated.Runs.{OpensAt, PlacedAt, opens, opens-at}
 
@@ -79,6 +79,13 @@ placed-never p xs =
     let t = placed-told p Never xs in
     let n = tests-not (tests-has separator xs) in
     ((λ f. n .0 (sym (never p xs) ∙ t .1 f)), λ f. t .0 (never p xs ∙ n .1 f))
+
+pub placed-without : PlacedWithout
+placed-without p k xs n i h = absurd (nowhere i (placed-never p xs .1 n i h .2))
+  where
+    nowhere : (j : ℕ) → Opens p Never xs j → ⊥
+    nowhere _ (front t) = true≢false (sym t)
+    nowhere _ (behind j t d) = true≢false (sym t)
 
 none-left-told : (xs : List ℕ) → has separator (withoutSeparators xs) ≡ false
 unfolding withoutSeparators has

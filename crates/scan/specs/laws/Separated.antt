@@ -66,6 +66,10 @@ PlacedTold = (p : ℕ → Bool) (k : Separators) (xs : List ℕ) → allPlaced p
 abbrev pub PlacedNever : Type 0
 PlacedNever = (p : ℕ → Bool) (xs : List ℕ) → EachPlaced p Never xs ↔ (¬ (Stands separator xs))
 
+-- where none stands, all are placed
+abbrev pub PlacedWithout : Type 0
+PlacedWithout = (p : ℕ → Bool) (k : Separators) (xs : List ℕ) → (¬ (Stands separator xs)) → EachPlaced p k xs
+
 -- what a text is without its separators has none, and is the text itself where that has none
 abbrev pub NoneLeft : Type 0
 NoneLeft = (xs : List ℕ) → ¬ (Stands separator (withoutSeparators xs))
