@@ -112,7 +112,7 @@ unfoldable pub isPlaced : Reading → List ℕ → Bool
 isPlaced r t =
     cond (isHexText t) (allPlaced (isIn HexDigit) (behindPrefix r) (behindHex t)) (allPlaced (isIn Digit) (betweenDigits r) t)
 
--- ".. and has no effect on the value. .. Refusals: .. 60"
+-- ".. and has no effect on the value. .. Refusals: .. 60 for both in number texts"
 unfoldable pub numberIn : Reading → List ℕ → Parsing
 numberIn r t = cond (isPlaced r t) (numberOf (withoutSeparators t)) (Refused notNumber)
 

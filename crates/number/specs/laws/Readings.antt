@@ -15,7 +15,7 @@ use Rattle.number.specs.White.{plainText}
 use Rattle.number.specs.Number.{notNumber, numberOf, numberIn, parsingOf}
 use Rattle.number.specs.laws.Refusals.{SeparatorsPlaced}
 
--- document 01's rule has no text with a separator
+-- by document 01's rule no text with a separator is a number
 abbrev pub SeparatorRefused : Type 0
 SeparatorRefused = (t : List ℕ) → Stands separator t → numberOf t ≡ Refused notNumber
 

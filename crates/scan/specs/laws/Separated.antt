@@ -62,15 +62,15 @@ EachPlaced p k xs = (i : ℕ) → eqb (peekAt xs i) separator ≡ true → Place
 abbrev pub PlacedTold : Type 0
 PlacedTold = (p : ℕ → Bool) (k : Separators) (xs : List ℕ) → allPlaced p k xs ≡ true ↔ EachPlaced p k xs
 
--- and where none may stand, that none does
+-- which says, where none may stand, that none does,
 abbrev pub PlacedNever : Type 0
 PlacedNever = (p : ℕ → Bool) (xs : List ℕ) → EachPlaced p Never xs ↔ (¬ (Stands separator xs))
 
--- where none stands, all are placed
+-- and always holds where none does
 abbrev pub PlacedWithout : Type 0
 PlacedWithout = (p : ℕ → Bool) (k : Separators) (xs : List ℕ) → (¬ (Stands separator xs)) → EachPlaced p k xs
 
--- what a text is without its separators has none, and is the text itself where that has none
+-- what a text is without its separators has none, is the text itself where that has none, and is no longer than it
 abbrev pub NoneLeft : Type 0
 NoneLeft = (xs : List ℕ) → ¬ (Stands separator (withoutSeparators xs))
 
