@@ -1,5 +1,5 @@
-// Lexing a query, in a reading, to three lent lists. A pass reads it into lists of the lexer's own, so that nothing lent is written before the query is measured; where all
-// lexemes had room there they are copied, and otherwise a second pass writes them. A refused query writes nothing.
+// Lexing a query, in a reading, to three lent lists. A pass reads it into lists of the lexer's own, so that nothing lent is written before the
+// query is measured; where all lexemes had room there they are copied, and otherwise a second pass writes them. A refused query writes nothing.
 use munch::Inside;
 use munch::Mode;
 use munch::Step;

@@ -1,4 +1,5 @@
--- A turn has its step's share of what is still to come (`Turns`), in every reading, since a step in braces is the same in each. Behind a lexeme the braces are closed or still open (`step-leads`), as the test says.
+-- A turn has its step's share of what is still to come (`Turns`), in every reading, since a step in braces is the same in each. Behind a lexeme
+-- the braces are closed or still open (`step-leads`), as the test says.
 use Prim.Native.Nat.{ℕ, _+_, _-_, _≤_}
 use native.Mathlib.Omega.{arith}
 use mathlib.Core.List.{List, [], _∷_}
