@@ -241,6 +241,10 @@ pub separator-is-taken-in-the-documented-reading : munch-gives Documented (ascii
 unfolding munching
 separator-is-taken-in-the-documented-reading = munch-at _ _ _
 
+pub unit-behind-a-separator-is-refused : munch-gives Documented (ascii "1_0m") outside (Refused 20 3)
+unfolding munching
+unit-behind-a-separator-is-refused = munch-at _ _ _
+
 pub separator-behind-a-point-is-no-digit : munch-gives Documented (ascii "._1") outside (Refused 14 1)
 unfolding munching
 separator-behind-a-point-is-no-digit = munch-at _ _ _
