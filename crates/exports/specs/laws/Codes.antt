@@ -158,7 +158,7 @@ isNotLexed (lexing.Count n) = false
 isNotLexed (lexing.Refused r) = true
 
 abbrev pub LexerTold : Type 0
-LexerTold = (room : ℕ) (q : List ℕ) → let x = lexed room q in looksRefused (lexerCode x) ≡ isNotLexed x
+LexerTold = (r : Reading) (room : ℕ) (q : List ℕ) → let x = lexed r room q in looksRefused (lexerCode x) ≡ isNotLexed x
 
 abbrev pub LexerKept : Type 0
-LexerKept = (room : ℕ) (q : List ℕ) (r : Refusal) → lexed room q ≡ lexing.Refused r → Packable r
+LexerKept = (r : Reading) (room : ℕ) (q : List ℕ) (refusal : Refusal) → lexed r room q ≡ lexing.Refused refusal → Packable refusal
