@@ -7,16 +7,21 @@ use native.Mathlib.Omega.{arith}
 use mathlib.Core.Bool.{true, false}
 use mathlib.Core.List.{List}
 use mathlib.Core.Logic.{inl, inr}
-use mathlib.Core.Path.{_≡_, refl, ap, subst, _∙_}
+use mathlib.Core.Path.{_≡_, refl, sym, ap, subst, _∙_}
 use lib.Dec.{eqb}
 use lib.ListN.{drop}
 use borrow.Author.Tests.{eqb-true, eqb-false, ne-eqb}
 use Rattle.scan.specs.Byte.{end, peekAt, isWithin, isSpace, isAlpha, isDigit, isQuote}
 use Rattle.proving.proofs.Choice.{either}
+use Rattle.proving.proofs.Choice as choice
 use Rattle.utf8.specs.declared.Reading.{Reading}
 use Rattle.numeral.specs.declared.Numeral.{Numeral}
 use Rattle.numeral.specs.declared.Numeral.the-variants.{Number, Duration, Neither}
 use Rattle.numeral.specs.Numeral.{numeralOf}
+use Rattle.numeral.specs.Texts.{Begun}
+use Rattle.numeral.proofs.Given.{number-given, duration-given}
+use Rattle.numeral.proofs.Places.{neither-given}
+use Rattle.token.specs.Kinds.{number, duration}
 use Rattle.quoted.specs.declared.Quoted.{Quoted}
 use Rattle.quoted.specs.declared.Quoted.the-variants as quoting
 use Rattle.quoted.specs.Quoted.{unknownEscape, endInEscape, endInString, quotedOf}
@@ -28,10 +33,10 @@ use Rattle.munch.specs.declared.Mode.{Mode}
 use Rattle.munch.specs.declared.Step.{Step}
 use Rattle.munch.specs.declared.Step.the-variants.{Lexeme, Space, Comment, Refused, Finished}
 use Rattle.munch.specs.Word.{isWordStart}
-use Rattle.munch.specs.Munch.{ifNext, refuse, numberBy, numberStep, dotStep, quotedBy, quotedStep, commentStep, wordStep, equalsStep, bangStep, compareStep, rightParenStep, endStep, braceWord, braceEquals, braceBang, colonStep, outsideTable, braceTable, bracketTable, stepIn, munched}
+use Rattle.munch.specs.Munch.{mode, ifNext, refuse, numberBy, numberStep, dotStep, quotedBy, quotedStep, commentStep, wordStep, equalsStep, bangStep, compareStep, rightParenStep, endStep, braceWord, braceEquals, braceBang, colonStep, outsideTable, braceTable, bracketTable, stepIn, munched}
 use Rattle.munch.proofs.Openings.{by-rows, none-takes}
 use Rattle.munch.proofs.Starts.{digit-outside, digit-in-brackets, quote-outside, quote-in-braces}
-use Rattle.munch.specs.laws.Rows.{Outside, InBraces, InBrackets, Begins, Follows, namedOutside, namedInBraces, namedInBrackets, NumberBegins, StringBegins, StringFails, Row, row10, row11, row12, row13, row14, row15, row16, row17, row18, row19, row20, row21, row22, row23, row24, row25, row26, row27, row28, row29, row30, row31, row32, RowsGiven, RowNumbers, OneRow}
+use Rattle.munch.specs.laws.Rows.{Outside, InBraces, InBrackets, Begins, Follows, namedOutside, namedInBraces, namedInBrackets, NumberBegins, StringBegins, StringFails, Row, row10, row11, row12, row13, row14, row15, row16, row17, row18, row19, row20, row21, row22, row23, row24, row25, row26, row27, row28, row29, row30, row31, row32, StepIs, RowsGiven, NumbersGiven, RowNumbers, OneRow}
 
 -- what a step tells: of a refusal, its row
 abbrev Told : Reading → Mode → List ℕ → Step → Type 0
@@ -45,6 +50,11 @@ Told r m xs Finished = Unit {0}
 by-second : (P : Step → Type 0) (xs : List ℕ) (c : ℕ) {two one : Step} → (Follows c xs → P two) → (¬ (Follows c xs) → P one) → P (ifNext xs c two one)
 by-second P xs c f g = either P (eqb (peekAt xs 1) c) (λ e. f (eqb-true (peekAt xs 1) c e)) (λ e. g (eqb-false (peekAt xs 1) c e))
 
+-- what begins a number is begun as its text is
+begun-as-number : (m : Mode) (xs : List ℕ) → NumberBegins m xs → Begun xs
+begun-as-number m xs (inl (w, d)) = inl d
+begun-as-number m xs (inr (o, b, d)) = inr (b, d)
+
 -- forward: what each clause of the definition tells
 module _ (r : Reading) (m : Mode) (xs : List ℕ) where
   number-told : NumberBegins m xs → (m′ : Mode) → Told r m xs (numberStep r m′ xs)
@@ -54,7 +64,7 @@ module _ (r : Reading) (m : Mode) (xs : List ℕ) where
       go : (n : Numeral) → numeralOf r xs ≡ n → Told r m xs (numberBy m′ n)
       go (Number n) e = tt
       go (Duration n) e = tt
-      go (Neither n) e = row20 n (b, e)
+      go (Neither n) e = row20 n (b, neither-given r xs (begun-as-number m xs b) n .0 e)
 
   -- a string is closed, or refused with one of three numbers
   string-told : StringBegins m xs → (m′ : Mode) → Told r m xs (quotedStep m′ xs)
@@ -167,12 +177,12 @@ module _ (r : Reading) (m : Mode) (xs : List ℕ) where
   brackets-at : (i : InBrackets m) {y : ℕ} → Begins y xs → munched r m xs ≡ stepIn r (m .depth) (Brackets (i .seen) (i .fresh)) y xs
   brackets-at i b = brackets-by i (ap (stepIn r (m .depth) (Brackets (i .seen) (i .fresh))) b)
 
-  -- where a number or a string has its fault
-  number-fails : (n : ℕ) → NumberBegins m xs → numeralOf r xs ≡ Neither n → munched r m xs ≡ Refused 20 n
+  -- where a number begins, or a string has its fault
+  number-begun : NumberBegins m xs → (m′ : Mode) × (munched r m xs ≡ numberBy m′ (numeralOf r xs))
   unfolding stepIn outsideTable dotStep numberStep isWordStart isQuote isAlpha isSpace isWithin
-  number-fails n (inl (inl o, d)) e = outside-by o (digit-outside r (m .depth) (peekAt xs 0) d) ∙ rw e
-  number-fails n (inl (inr i, d)) e = brackets-by i (digit-in-brackets r (m .depth) (i .seen) (i .fresh) (peekAt xs 0) d) ∙ rw e
-  number-fails n (inr (o, b, d)) e = outside-at o b ∙ rw (d, e)
+  number-begun (inl (inl o, d)) = (mode (m .depth) Nothing, outside-by o (digit-outside r (m .depth) (peekAt xs 0) d))
+  number-begun (inl (inr i, d)) = (mode (m .depth) (Brackets (i .seen) false), brackets-by i (digit-in-brackets r (m .depth) (i .seen) (i .fresh) (peekAt xs 0) d))
+  number-begun (inr (o, b, d)) = (mode (m .depth) Nothing, outside-at o b ∙ rw d)
 
   string-fails : (number n : ℕ) → StringFails number n m xs → munched r m xs ≡ Refused number (suc n)
   unfolding quotedStep
@@ -205,7 +215,7 @@ module _ (r : Reading) (m : Mode) (xs : List ℕ) where
   gives (row17 (o, b)) = outside-at o b
   gives (row18 (o, b)) = outside-at o b
   gives (row19 (o, n)) = other-outside o n
-  gives (row20 n (b, e)) = number-fails n b e
+  gives (row20 n (b, e)) = let s = number-begun b in s .1 ∙ ap (numberBy (s .0)) (neither-given r xs (begun-as-number m xs b) n .1 e)
   gives (row21 n h) = string-fails unknownEscape n h
   gives (row22 n h) = string-fails endInEscape n h
   gives (row23 n h) = string-fails endInString n h
@@ -256,3 +266,43 @@ row-bounds (row32 h) = (omega arith, omega arith)
 
 pub row-numbers : RowNumbers
 row-numbers r m xs number o h = row-bounds h
+
+-- a lexeme's kind and how many bytes it has
+abbrev kindIn : Step → ℕ
+kindIn (Lexeme k n m) = k
+kindIn (Space m) = 0
+kindIn (Comment n) = 0
+kindIn (Refused number o) = 0
+kindIn Finished = 0
+
+abbrev sizeIn : Step → ℕ
+sizeIn (Lexeme k n m) = n
+sizeIn (Space m) = 0
+sizeIn (Comment n) = 0
+sizeIn (Refused number o) = 0
+sizeIn Finished = 0
+
+pub numbers-given : NumbersGiven
+numbers-given r m xs n b = ((λ e. number-given r xs (begun-as-number m xs b) n .0 (number-back e), λ i. given (number-given r xs (begun-as-number m xs b) n .1 i)), (λ e. duration-given r xs (begun-as-number m xs b) n .0 (duration-back e), λ i. given (duration-given r xs (begun-as-number m xs b) n .1 i)))
+  where
+    step : (m′ : Mode) × (munched r m xs ≡ numberBy m′ (numeralOf r xs))
+    step = number-begun r m xs b
+
+    given : {v : Numeral} → numeralOf r xs ≡ v → (m′ : Mode) × (munched r m xs ≡ numberBy m′ v)
+    given e = (step .0, step .1 ∙ ap (numberBy (step .0)) e)
+
+    number-back : StepIs number n (munched r m xs) → numeralOf r xs ≡ Number n
+    number-back (m′, e) = go (numeralOf r xs) (sym (step .1) ∙ e)
+      where
+        go : (v : Numeral) → numberBy (step .0) v ≡ Lexeme number n m′ → v ≡ Number n
+        go (Number k) f = ap Number (ap sizeIn f)
+        go (Duration k) f = choice.told kindIn f refl (λ h. absurd (omega (arith, h)))
+        go (Neither k) f = choice.told kindIn f refl (λ h. absurd (omega (arith, h)))
+
+    duration-back : StepIs duration n (munched r m xs) → numeralOf r xs ≡ Duration n
+    duration-back (m′, e) = go (numeralOf r xs) (sym (step .1) ∙ e)
+      where
+        go : (v : Numeral) → numberBy (step .0) v ≡ Lexeme duration n m′ → v ≡ Duration n
+        go (Number k) f = choice.told kindIn f refl (λ h. absurd (omega (arith, h)))
+        go (Duration k) f = ap Duration (ap sizeIn f)
+        go (Neither k) f = choice.told kindIn f refl (λ h. absurd (omega (arith, h)))

@@ -6,5 +6,6 @@ pub mod Units
 pub mod Plain
 pub mod Given
 pub mod Places
+pub mod Readings
 pub mod Unique
 pub mod Wrong

@@ -28,7 +28,7 @@ use Rattle.numeral.specs.declared.Numeral.{Numeral}
 use Rattle.numeral.specs.declared.Numeral.the-variants.{Number, Duration, Neither}
 use Rattle.numeral.specs.Numeral.{isFirstUnit, numberEnd, durationFrom, taken, numeralOf}
 use Rattle.numeral.specs.Texts.{Begun, NumberText, Units, DurationText}
-use Rattle.numeral.specs.laws.Texts.{IsNumber, IsDuration, NeitherGiven, TakenText, BegunText, CratePlace, SoPlaced, FirstMisplaced, UnitAfterSeparated, MisplacedGiven, UnitGiven, OtherPlace}
+use Rattle.numeral.specs.laws.Texts.{IsNeither, NeitherGiven, TakenText, BegunText, CratePlace, SoPlaced, FirstMisplaced, UnitAfterSeparated, MisplacedGiven, UnitGiven, OtherPlace}
 use Rattle.numeral.proofs.Given.{front-take, front-peek, front-within, unit-letter, Way, number, stopped, units, way, in-three, is-stopped, number-given, duration-given}
 use Rattle.numeral.proofs.Plain.{has-append, crate-plain, duration-plain}
 use Rattle.numeral.proofs.Texts.{neither-of, number-longest, number-stopped, number-cut}
@@ -164,20 +164,17 @@ module _ (r : Reading) (xs : List ℕ) (b : Begun xs) where
       go _ (stopped u) = number-taken (λ t rest y. true≢false (sym (ap₂ (λ x i. x && not i) (y .unit) (y .plain)) ∙ u))
       go _ (units u h) = units-taken u h
 
-abbrev NeitherOf : Reading → List ℕ → ℕ → Type 0
-NeitherOf r xs n = ((m : ℕ) → IsNumber r xs m → ⊥) × ((m : ℕ) → IsDuration r xs m → ⊥) × Longest (TakenText r) xs n
-
 pub neither-given : NeitherGiven
 neither-given r xs b n = (to, from)
   where
-    to : numeralOf r xs ≡ Neither n → NeitherOf r xs n
+    to : numeralOf r xs ≡ Neither n → IsNeither r xs n
     to e = (
       (λ m i. told numeralNumber (number-given r xs b m .1 i) e (λ j. absurd (omega (arith, j)))),
       (λ m i. told numeralNumber (duration-given r xs b m .1 i) e (λ j. absurd (omega (arith, j)))),
       subst (Longest (TakenText r) xs) (ap taken e) (taken-longest r xs b),
     )
 
-    from : NeitherOf r xs n → numeralOf r xs ≡ Neither n
+    from : IsNeither r xs n → numeralOf r xs ≡ Neither n
     from i = go (numeralOf r xs) refl
       where
         go : (v : Numeral) → numeralOf r xs ≡ v → v ≡ Neither n

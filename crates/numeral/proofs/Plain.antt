@@ -67,13 +67,15 @@ prefix-plain t (inr e) = ap (has separator) e
 mantissa-plain : (k : Class) → isIn k separator ≡ false → Plain (Mantissa Crate k Never)
 mantissa-plain k h = then-plain (digits-plain (isIn k) h) (optional-plain isPoint refl (digits-plain (isIn k) h))
 
-pub crate-plain : Plain (NumberText Crate)
+pub form-plain : Plain (λ t. DecimalText Crate t ⊎ HexText Crate t)
 unfolding isIn isHexDigit isWithin lowered isSign
-crate-plain t n =
+form-plain t =
     ⊎-elim
     (then-plain (mantissa-plain Digit refl) (optional-plain isExponentMark refl (then-plain (optional-plain isSign refl empty-plain) (digits-plain (isIn Digit) refl))) t)
     (then-plain prefix-plain (mantissa-plain HexDigit refl) t)
-    (n .1)
+
+pub crate-plain : Plain (NumberText Crate)
+crate-plain t n = form-plain t (n .1)
 
 pub duration-plain : (r : Reading) → Plain (DurationText r)
 duration-plain r = then-plain (λ t n. n .1) units-plain

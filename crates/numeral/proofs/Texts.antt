@@ -274,13 +274,11 @@ module _ (r : Reading) where
   begun-front xs n (inr b) =
       inr (getD-take n xs 0 end (omega (arith, b .2)) ∙ b .0, ap isDigit (getD-take n xs 1 end (omega (arith, b .2))) ∙ b .1)
 
-pub number-longest : NumberLongest
-number-longest r xs b = go (isHex xs) refl
+-- what is taken is a decimal's text or a hex number's, however the bytes begin
+pub number-form : (r : Reading) (xs : List ℕ) → (numberEnd r xs ≤ length xs) × (DecimalText r (take (numberEnd r xs) xs) ⊎ HexText r (take (numberEnd r xs) xs))
+number-form r xs = go (isHex xs) refl
   where
-    at-most : (t rest : List ℕ) → xs ≡ t ++ rest → NumberText r t → length t ≤ numberEnd r xs
-    at-most t rest e n = subst (λ ys. length t ≤ numberEnd r ys) (sym e) (most r t rest n)
-
-    go : (h : Bool) → isHex xs ≡ h → Longest (NumberText r) xs (numberEnd r xs)
+    go : (h : Bool) → isHex xs ≡ h → (numberEnd r xs ≤ length xs) × (DecimalText r (take (numberEnd r xs) xs) ⊎ HexText r (take (numberEnd r xs) xs))
     go true h =
         let p = hex-prefix xs h in
         let m = mantissaTakes r HexDigit (behindPrefix r) (drop 2 xs) in
@@ -288,20 +286,24 @@ number-longest r xs b = go (isHex xs) refl
         let k : length xs ≡ 2 + length (drop 2 xs) = ap (λ (s : List ℕ). length s) (p .2) ∙ length-append (p .0) (drop 2 xs) ∙ ap (λ (n : ℕ). n + length (drop 2 xs)) two in
         let w : take (2 + m) xs ≡ p .0 ++ take m (drop 2 xs) =
         ap₂ (λ (n : ℕ) (s : List ℕ). take (n + m) s) (sym two) (p .2) ∙ take-append-add (p .0) (drop 2 xs) m in
-        let zeroth : isDigit (peekAt xs 0) ≡ true = digit-first xs h in
-        rw (hex-end r xs h)
-        record {
-          within = omega (arith, k, hex-greedy r .within (drop 2 xs));
-          there = (begun-front r xs (2 + m) (inl (zeroth, omega arith)), inr (record { front = p .0; back = take m (drop 2 xs); first = p .1; second = hex-greedy r .taken (drop 2 xs); whole = w }));
-          most = λ t rest e n. rw (← hex-end r xs h) (at-most t rest e n);
-        }
-    go false h =
-        rw (decimal-end r xs h)
-        record {
-          within = decimal-greedy r .within xs;
-          there = (begun-front r xs (decimalTakes r xs) (begun-decimal r xs b), inl (decimal-greedy r .taken xs));
-          most = λ t rest e n. rw (← decimal-end r xs h) (at-most t rest e n);
-        }
+        rw (hex-end r xs h) (
+          omega (arith, k, hex-greedy r .within (drop 2 xs)),
+          inr (record { front = p .0; back = take m (drop 2 xs); first = p .1; second = hex-greedy r .taken (drop 2 xs); whole = w }),
+        )
+    go false h = rw (decimal-end r xs h) (decimal-greedy r .within xs, inl (decimal-greedy r .taken xs))
+
+pub number-longest : NumberLongest
+number-longest r xs b =
+    let f = number-form r xs in
+    record {
+      within = f .0;
+      there = (begun-front r xs (numberEnd r xs) (go (isHex xs) refl), f .1);
+      most = λ t rest e n. subst (λ ys. length t ≤ numberEnd r ys) (sym e) (most r t rest n);
+    }
+  where
+    go : (h : Bool) → isHex xs ≡ h → ((isDigit (peekAt xs 0) ≡ true) × (1 ≤ numberEnd r xs)) ⊎ ((peekAt xs 0 ≡ code ".") × (isDigit (peekAt xs 1) ≡ true) × (2 ≤ numberEnd r xs))
+    go true h = inl (digit-first xs h, omega (arith, hex-end r xs h))
+    go false h = rw (decimal-end r xs h) (begun-decimal r xs b)
 
 -- a number text may be cut behind any byte but a separator, where what is left is begun as a number is
 module _ (r : Reading) where

@@ -11,13 +11,14 @@ use mathlib.Core.Path.{_≡_}
 use lib.ListN.{drop}
 use Rattle.scan.specs.Byte.{end, peekAt, isSpace, isAlpha, isDigit, isQuote}
 use Rattle.utf8.specs.declared.Reading.{Reading}
-use Rattle.numeral.specs.declared.Numeral.the-variants.{Neither}
-use Rattle.numeral.specs.Numeral.{numeralOf}
+use Rattle.token.specs.Kinds.{number, duration}
+use Rattle.numeral.specs.laws.Texts.{IsNumber, IsDuration, IsNeither}
 use Rattle.quoted.specs.declared.Quoted.the-variants as quoting
 use Rattle.quoted.specs.Quoted.{unknownEscape, endInEscape, endInString, quotedOf}
 use Rattle.munch.specs.declared.Inside.the-variants.{Nothing, Braces, Brackets}
 use Rattle.munch.specs.declared.Mode.{Mode}
-use Rattle.munch.specs.declared.Step.the-variants.{Refused}
+use Rattle.munch.specs.declared.Step.{Step}
+use Rattle.munch.specs.declared.Step.the-variants.{Lexeme, Refused}
 use Rattle.munch.specs.Word.{isWordStart}
 use Rattle.munch.specs.Munch.{is, isEnd, munched}
 
@@ -96,9 +97,9 @@ namedOutside c = isOneOf (isWordStart ∷ isSpace ∷ isQuote ∷ isDigit ∷ is
 abbrev pub OtherOutside : Mode → List ℕ → Type 0
 OtherOutside m xs = Outside m × (namedOutside (peekAt xs 0) ≡ false)
 
--- 20 "neither number nor duration", as `numeral` says of the bytes in the reading
+-- 20 "neither number nor duration", as `numeral` says of the texts that the bytes begin with
 abbrev pub NeitherThere : Reading → ℕ → Mode → List ℕ → Type 0
-NeitherThere r n m xs = NumberBegins m xs × (numeralOf r xs ≡ Neither n)
+NeitherThere r n m xs = NumberBegins m xs × IsNeither r xs n
 
 -- 21, 22, 23: the string is refused with the number, n bytes behind its opening sign, as `quoted` says of them
 abbrev pub StringFails : ℕ → ℕ → Mode → List ℕ → Type 0
@@ -175,6 +176,15 @@ pub data Row (r : Reading) (m : Mode) (xs : List ℕ) : ℕ → ℕ → Type 0 w
 
 abbrev pub RowsGiven : Type 0
 RowsGiven = (r : Reading) (m : Mode) (xs : List ℕ) (number o : ℕ) → munched r m xs ≡ Refused number o ↔ Row r m xs number o
+
+-- and where a number begins, a step is a NUMBER or a DURATION of so many bytes exactly when `numeral` says so of the texts there
+abbrev pub StepIs : ℕ → ℕ → Step → Type 0
+StepIs kind n s = (m : Mode) × (s ≡ Lexeme kind n m)
+
+abbrev pub NumbersGiven : Type 0
+NumbersGiven =
+    (r : Reading) (m : Mode) (xs : List ℕ) (n : ℕ) → NumberBegins m xs →
+    (StepIs number n (munched r m xs) ↔ IsNumber r xs n) × (StepIs duration n (munched r m xs) ↔ IsDuration r xs n)
 
 -- the first and the last of their numbers
 abbrev pub RowNumbers : Type 0

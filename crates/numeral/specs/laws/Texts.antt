@@ -1,5 +1,5 @@
--- What is read is what document 01's and document 02's sentences say of texts, as statements; `proofs/texts` has their proofs. All are said of
--- bytes that are begun as a number is: no others are read as one.
+-- What is read is what document 01's and document 02's sentences say of texts, as statements; `proofs/Texts`, `proofs/Given` and `proofs/Places` have
+-- their proofs. All are said of bytes that are begun as a number is: no others are read as one.
 use Prim.Native.Nat.{ℕ, _<_, _≤_}
 use Prim.Native.Char.{code}
 use mathlib.Core.Bool.{true, false}
@@ -44,11 +44,11 @@ DurationGiven = (r : Reading) (xs : List ℕ) → Begun xs → (n : ℕ) → num
 abbrev pub TakenText : Reading → List ℕ → Type 0
 TakenText r t = NumberText r t ⊎ Begins (DurationText r) t
 
+abbrev pub IsNeither : Reading → List ℕ → ℕ → Type 0
+IsNeither r xs n = ((m : ℕ) → ¬ (IsNumber r xs m)) × ((m : ℕ) → ¬ (IsDuration r xs m)) × Longest (TakenText r) xs n
+
 abbrev pub NeitherGiven : Type 0
-NeitherGiven =
-    (r : Reading) (xs : List ℕ) → Begun xs → (n : ℕ) →
-    numeralOf r xs ≡ Neither n
-    ↔ (((m : ℕ) → ¬ (IsNumber r xs m)) × ((m : ℕ) → ¬ (IsDuration r xs m)) × Longest (TakenText r) xs n)
+NeitherGiven = (r : Reading) (xs : List ℕ) → Begun xs → (n : ℕ) → numeralOf r xs ≡ Neither n ↔ IsNeither r xs n
 
 -- in the crate reading that is the longest text that some number or duration begins with
 abbrev pub BegunText : Reading → List ℕ → Type 0

@@ -12,7 +12,7 @@ use Rattle.scan.specs.declared.separated.Separators.the-variants.{Never}
 use Rattle.scan.specs.Byte.{end, peekAt}
 use Rattle.scan.specs.Run.{runEnd}
 use Rattle.scan.specs.Separated.{separator, isOpen, separatedRun, separatedEnd, allPlaced, withoutSeparators}
-use Rattle.scan.specs.Text.{Stands}
+use Rattle.scan.specs.Text.{has, Stands}
 use Rattle.scan.specs.laws.Edge.{Edge, AsciiAlone}
 
 -- where a separator may stand: behind a digit, and at the front, where the choice has it so
@@ -31,6 +31,11 @@ Digits p k t = (i : ℕ) → i < length t → (p (peekAt t i) ≡ true) ⊎ Plac
 -- without separators it is a run
 abbrev pub SeparatedNever : Type 0
 SeparatedNever = (p : ℕ → Bool) (xs : List ℕ) (n : ℕ) → separatedEnd p Never xs n ≡ runEnd p xs n
+
+-- and so in a text that has none
+abbrev pub SeparatedPlain : Type 0
+SeparatedPlain =
+    (p : ℕ → Bool) (k : Separators) (xs : List ℕ) (n : ℕ) → has separator xs ≡ false → separatedEnd p k xs n ≡ runEnd p xs n
 
 -- it is within the list
 abbrev pub SeparatedWithin : Type 0
