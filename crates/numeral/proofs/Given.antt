@@ -18,7 +18,7 @@ use borrow.Author.Tests.{eqb-true, ltb-true, ltb-false}
 use Rattle.proving.proofs.Below.{below}
 use Rattle.proving.proofs.Choice.{either, and-left, and-right, told}
 use Rattle.scan.specs.Byte.{end, peekAt, isWithin, isAlpha, isDigit, isAlphaNumeric}
-use Rattle.scan.specs.Language.{Then, Begins, Longest}
+use Rattle.scan.specs.Language.{Then, FrontOf, Longest}
 use Rattle.scan.specs.Separated.{separator}
 use Rattle.scan.specs.Text.{has}
 use Rattle.scan.specs.laws.Edge.{AsciiAlone}
@@ -121,14 +121,14 @@ number-given r xs b n = (λ e. to (numeralOf r xs) (way r xs) e, from)
 
     from : IsNumber r xs n → numeralOf r xs ≡ Number n
     from i =
-        let m : numberEnd r xs ≡ n = longest-one xs (numberEnd r xs) n long (i .0) in
+        let m : numberEnd r xs ≡ n = longest-one _ xs (numberEnd r xs) n long (i .0) in
         is-number r xs (not-point (i .2)) (ap (λ j. isAlpha (peekAt xs j)) m ∙ i .1) ∙ ap Number m
       where
         not-point : (peekAt xs n ≡ code "." → ⊥) → isPoint (peekAt xs (numberEnd r xs)) ≡ false
         not-point h = go (isPoint (peekAt xs (numberEnd r xs))) refl
           where
             go : (t : Bool) → isPoint (peekAt xs (numberEnd r xs)) ≡ t → t ≡ false
-            go true e = absurd (h (sym (ap (peekAt xs) (longest-one xs (numberEnd r xs) n long (i .0))) ∙ eqb-true (peekAt xs (numberEnd r xs)) (code ".") e))
+            go true e = absurd (h (sym (ap (peekAt xs) (longest-one _ xs (numberEnd r xs) n long (i .0))) ∙ eqb-true (peekAt xs (numberEnd r xs)) (code ".") e))
             go false e = refl
 
 pub duration-given : DurationGiven
@@ -161,7 +161,7 @@ duration-given r xs b n = (λ e. to (numeralOf r xs) (way r xs) e, from)
         }
 
     from : IsDuration r xs n → numeralOf r xs ≡ Duration n
-    from i = from-there (i .k) (longest-one xs (numberEnd r xs) (i .k) long (i .number)) (i .plain) (units-path (drop (i .k) (take n xs)) (i .units))
+    from i = from-there (i .k) (longest-one _ xs (numberEnd r xs) (i .k) long (i .number)) (i .plain) (units-path (drop (i .k) (take n xs)) (i .units))
       where
         from-there :
             (k : ℕ) → numberEnd r xs ≡ k → has separator (take k xs) ≡ false →

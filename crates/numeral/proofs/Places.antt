@@ -16,7 +16,7 @@ use lib.ListN.{length, getD, take, drop, length-append, length-drop, take-append
 use borrow.Author.Tests.{eqb-true, ltb-true, ltb-false}
 use Rattle.proving.proofs.Choice.{told}
 use Rattle.scan.specs.Byte.{end, peekAt, isDigit, isAlpha, isAlphaNumeric, isWithin}
-use Rattle.scan.specs.Language.{Then, Begins, Longest}
+use Rattle.scan.specs.Language.{Then, FrontOf, Longest}
 use Rattle.scan.specs.Separated.{separator}
 use Rattle.scan.specs.Text.{has}
 use Rattle.scan.proofs.Edges.{ascii-inside}
@@ -180,7 +180,7 @@ neither-given r xs b n = (to, from)
         go : (v : Numeral) → numeralOf r xs ≡ v → v ≡ Neither n
         go (Number m) e = absurd (i .0 m (number-given r xs b m .0 e))
         go (Duration m) e = absurd (i .1 m (duration-given r xs b m .0 e))
-        go (Neither m) e = ap Neither (longest-one xs m n (subst (Longest (TakenText r) xs) (ap taken e) (taken-longest r xs b)) (i .2))
+        go (Neither m) e = ap Neither (longest-one _ xs m n (subst (Longest (TakenText r) xs) (ap taken e) (taken-longest r xs b)) (i .2))
 
 -- what is taken has the longest number text in it
 number-within : (r : Reading) (xs : List ℕ) → Begun xs → (n : ℕ) → Longest (TakenText r) xs n → numberEnd r xs ≤ n
@@ -313,14 +313,14 @@ unit-given xs b n = (to, from)
             let m : n ≤ numberEnd Documented xs = omega (arith, long .most (take n xs) (drop n xs) (sym (take-append-drop n xs)) p, length-take-le n xs (h .within)) in
             subst (Longest (NumberText Documented) xs) (omega (arith, m, number-within Documented xs b n h)) long
 
-        there : Begins (DurationText Documented) (take n xs) → Longest (NumberText Documented) xs n
+        there : FrontOf (DurationText Documented) (take n xs) → Longest (NumberText Documented) xs n
         there q =
             let f : has separator (take n xs) || has separator (q .0) ≡ false = sym (has-append separator (take n xs) (q .0)) ∙ duration-plain Documented _ (q .1) in
             absurd (true≢false (sym (e .1) ∙ neither-of (has separator (take n xs)) _ f .0))
 
     from : UnitAfterSeparated xs n → (numeralOf Documented xs ≡ Neither n) × (has separator (take n xs) ≡ true) × (isFirstUnit (peekAt xs n) ≡ true)
     from u =
-        let m : numberEnd Documented xs ≡ n = longest-one xs (numberEnd Documented xs) n long (u .number) in
+        let m : numberEnd Documented xs ≡ n = longest-one _ xs (numberEnd Documented xs) n long (u .number) in
         let c : isFirstUnit (peekAt xs (numberEnd Documented xs)) ≡ true = ap (λ i. isFirstUnit (peekAt xs i)) m ∙ u .unit in
         let s : has separator (take (numberEnd Documented xs) xs) ≡ true = ap (λ (i : ℕ). has separator (take i xs)) m ∙ u .separated in
         (is-stopped Documented xs (unit-letter _ c) (ap₂ (λ x y. x && not y) c s) ∙ ap Neither m, u .separated, u .unit)

@@ -14,11 +14,11 @@ use Rattle.scan.specs.Language.{Empty, Then, Optional, nothing, marked}
 use Rattle.scan.specs.Separated.{separator}
 use Rattle.scan.specs.Sign.{isSign}
 use Rattle.scan.specs.Text.{has}
-use Rattle.scan.specs.laws.Separated.{Digits}
-use Rattle.scan.proofs.separated.Texts.{digits-cons}
+use Rattle.scan.specs.laws.Separated.{SeparatedDigits}
+use Rattle.scan.proofs.separated.Texts.{digits-apart}
 use Rattle.utf8.specs.declared.Reading.{Reading}
 use Rattle.utf8.specs.declared.Reading.the-variants.{Crate}
-use Rattle.numeral.specs.Texts.{Prefix, isPoint, Mantissa, isExponentMark, DecimalText, HexText, NumberText, DurationText}
+use Rattle.numeral.specs.Texts.{Prefix, isPoint, Mantissa, isExponentMark, DecimalNumber, HexNumber, NumberText, DurationText}
 use Rattle.numeral.proofs.Units.{units-plain}
 
 abbrev Plain : (List ℕ → Type 0) → Type 0
@@ -54,10 +54,10 @@ empty-plain : Plain Empty
 unfolding has
 empty-plain t e = ap (has separator) e
 
-digits-plain : (p : ℕ → Bool) → p separator ≡ false → Plain (Digits p Never)
+digits-plain : (p : ℕ → Bool) → p separator ≡ false → Plain (SeparatedDigits p Never)
 unfolding has
 digits-plain p h [] d = refl
-digits-plain p h (x ∷ t) d = let e = digits-cons p x t d in ap₂ _||_ (other p h x (e .0)) (digits-plain p h t (e .1))
+digits-plain p h (x ∷ t) d = let e = digits-apart p x t .0 d in ap₂ _||_ (other p h x (e .0)) (digits-plain p h t (e .1))
 
 prefix-plain : Plain Prefix
 unfolding has
@@ -67,7 +67,7 @@ prefix-plain t (inr e) = ap (has separator) e
 mantissa-plain : (k : Class) → isIn k separator ≡ false → Plain (Mantissa Crate k Never)
 mantissa-plain k h = then-plain (digits-plain (isIn k) h) (optional-plain isPoint refl (digits-plain (isIn k) h))
 
-pub form-plain : Plain (λ t. DecimalText Crate t ⊎ HexText Crate t)
+pub form-plain : Plain (λ t. DecimalNumber Crate t ⊎ HexNumber Crate t)
 unfolding isIn isHexDigit isWithin lowered isSign
 form-plain t =
     ⊎-elim

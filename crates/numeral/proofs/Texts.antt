@@ -23,18 +23,19 @@ use Rattle.scan.specs.Byte.{end, peekAt, isWithin, isDigit, isHexDigit, isIn, l
 use Rattle.scan.specs.Language.{Empty, Then, Optional, nothing, marked, Longest}
 use Rattle.scan.specs.Separated.{separator, separatedLength, separatedRun, separatedEnd}
 use Rattle.scan.specs.Sign.{isSign, pastSign}
-use Rattle.scan.specs.laws.Separated.{Opens, front, behind, Digits}
+use Rattle.scan.specs.laws.Separated.{Opens, front, behind, SeparatedDigits}
 use Rattle.scan.proofs.byte.Classes.{end-in-none}
 use Rattle.scan.proofs.Edges.{class-ascii}
-use Rattle.scan.proofs.Greedy.{Greedy, optionally, thenTakes, empty-greedy, optional-greedy, then-greedy, split, Cut, empty-cut, optional-cut, then-cut}
+use Rattle.scan.specs.laws.Language.{Greedy, optionally, thenTakes, Cut}
+use Rattle.scan.proofs.Greedy.{empty-greedy, optional-greedy, then-greedy, split, empty-cut, optional-cut, then-cut}
 use Rattle.scan.proofs.separated.Runs.{separated-stopped}
 use Rattle.scan.proofs.separated.Texts.{digits-greedy, digits-cut}
 use Rattle.utf8.specs.declared.Reading.{Reading}
 use Rattle.utf8.specs.declared.Reading.the-variants.{Crate, Documented}
 use Rattle.numeral.specs.Numeral.{betweenDigits, behindPrefix, isHex, fractionEnd, mantissaEnd, exponentEnd, numberEnd}
-use Rattle.numeral.specs.Texts.{Begun, Prefix, isPoint, Mantissa, isExponentMark, Exponent, DecimalText, HexText, NumberText}
+use Rattle.numeral.specs.Texts.{Begun, Prefix, isPoint, Mantissa, isExponentMark, Exponent, DecimalNumber, HexNumber, NumberText}
 use Rattle.numeral.specs.laws.Texts.{NumberLongest}
-use Rattle.numeral.proofs.Within.{letter-ascii, none-before}
+use Rattle.numeral.proofs.Within.{letter-ascii, none-before, one-digit}
 
 -- how many bytes each part takes
 abbrev mantissaTakes : Reading → Class → Separators → List ℕ → ℕ
@@ -84,13 +85,13 @@ digit-no-sign x e = not-both _ _ (below (λ c. not (isIn Digit c && (isSign c ||
 
 module _ (r : Reading) where
   mantissa-greedy : (k : Class) → PointApart k → (q : Separators) → Greedy (Mantissa r k q) (mantissaTakes r k q) (inMantissa k)
-  mantissa-greedy k a q = then-greedy (digits-greedy (isIn k) (end-in-none k) q) (optional-greedy isPoint refl (digits-greedy (isIn k) (end-in-none k) (betweenDigits r))) apart
+  mantissa-greedy k a q = then-greedy _ _ _ _ _ _ (digits-greedy (isIn k) (end-in-none k) q) (optional-greedy isPoint refl _ _ _ (digits-greedy (isIn k) (end-in-none k) (betweenDigits r))) apart
     where
-      apart : (x : ℕ) (t : List ℕ) → Optional isPoint (Digits (isIn k) (betweenDigits r)) (x ∷ t) → inDigits k x ≡ false
+      apart : (x : ℕ) (t : List ℕ) → Optional isPoint (SeparatedDigits (isIn k) (betweenDigits r)) (x ∷ t) → inDigits k x ≡ false
       apart x t (marked _ _ e p) = ap (inDigits k) (eqb-true x (code ".") e) ∙ a
 
   -- digits of a fraction or an exponent begin with a digit
-  begins-with-digit : (x : ℕ) (t : List ℕ) → Digits (isIn Digit) (betweenDigits r) (x ∷ t) → isIn Digit x ≡ true
+  begins-with-digit : (x : ℕ) (t : List ℕ) → SeparatedDigits (isIn Digit) (betweenDigits r) (x ∷ t) → isIn Digit x ≡ true
   begins-with-digit x t d = ⊎-elim (λ e. e) (λ q. at-front (q .2)) (d 0 (omega arith))
     where
       at-front : Opens (isIn Digit) (betweenDigits r) (x ∷ t) 0 → isIn Digit x ≡ true
@@ -99,12 +100,12 @@ module _ (r : Reading) where
   exponent-greedy : Greedy (Exponent r) (exponentTakes r) (λ c. isExponentMark c || ((isSign c || false) || inDigits Digit c))
   unfolding lowered isSign isWithin
   exponent-greedy =
-      optional-greedy isExponentMark refl
-      (then-greedy (optional-greedy isSign refl empty-greedy) (digits-greedy (isIn Digit) (end-in-none Digit) (betweenDigits r)) (λ x t d. digit-no-sign x (begins-with-digit x t d)))
+      optional-greedy isExponentMark refl _ _ _
+      (then-greedy _ _ _ _ _ _ (optional-greedy isSign refl _ _ _ empty-greedy) (digits-greedy (isIn Digit) (end-in-none Digit) (betweenDigits r)) (λ x t d. digit-no-sign x (begins-with-digit x t d)))
 
-  pub decimal-greedy : Greedy (DecimalText r) (decimalTakes r) (λ c. inMantissa Digit c || (isExponentMark c || ((isSign c || false) || inDigits Digit c)))
+  pub decimal-greedy : Greedy (DecimalNumber r) (decimalTakes r) (λ c. inMantissa Digit c || (isExponentMark c || ((isSign c || false) || inDigits Digit c)))
   unfolding isIn isWithin
-  decimal-greedy = then-greedy (mantissa-greedy Digit refl (betweenDigits r)) exponent-greedy apart
+  decimal-greedy = then-greedy _ _ _ _ _ _ (mantissa-greedy Digit refl (betweenDigits r)) exponent-greedy apart
     where
       apart : (x : ℕ) (t : List ℕ) → Exponent r (x ∷ t) → inMantissa Digit x ≡ false
       apart x t (marked _ _ e p) = mark-apart x e
@@ -193,14 +194,10 @@ module _ (r : Reading) where
   hex-greedy = mantissa-greedy HexDigit refl (behindPrefix r)
 
   -- a digit, and a point and a digit, are number texts
-  one-digit : (x : ℕ) → isIn Digit x ≡ true → (q : Separators) → Digits (isIn Digit) q (x ∷ [])
-  one-digit x e q zero l = inl e
-  one-digit x e q (suc i) l = absurd (omega arith)
-
-  no-digits : (q : Separators) → Digits (isIn Digit) q []
+  no-digits : (q : Separators) → SeparatedDigits (isIn Digit) q []
   no-digits q i l = absurd (omega arith)
 
-  plain : (u v : List ℕ) → Digits (isIn Digit) (betweenDigits r) u → Optional isPoint (Digits (isIn Digit) (betweenDigits r)) v → DecimalText r ((u ++ v) ++ [])
+  plain : (u v : List ℕ) → SeparatedDigits (isIn Digit) (betweenDigits r) u → Optional isPoint (SeparatedDigits (isIn Digit) (betweenDigits r)) v → DecimalNumber r ((u ++ v) ++ [])
   plain u v d f = record { front = u ++ v; back = []; first = record { front = u; back = v; first = d; second = f; whole = refl }; second = nothing; whole = refl }
 
   begun-decimal : (xs : List ℕ) → Begun xs → ((isDigit (peekAt xs 0) ≡ true) × (1 ≤ decimalTakes r xs)) ⊎ ((peekAt xs 0 ≡ code ".") × (isDigit (peekAt xs 1) ≡ true) × (2 ≤ decimalTakes r xs))
@@ -253,7 +250,7 @@ module _ (r : Reading) where
       xs : List ℕ
       xs = t ++ rest
 
-      go : (b : Bool) → isHex (t ++ rest) ≡ b → DecimalText r t ⊎ HexText r t → length t ≤ numberEnd r (t ++ rest)
+      go : (b : Bool) → isHex (t ++ rest) ≡ b → DecimalNumber r t ⊎ HexNumber r t → length t ≤ numberEnd r (t ++ rest)
       go true h (inl d) =
           let p = hex-prefix (t ++ rest) h in
           let one : decimalTakes r (t ++ rest) ≡ 1 = ap (decimalTakes r) (p .2) ∙ decimal-ends r (p .0) (drop 2 (t ++ rest)) (p .1) in
@@ -275,10 +272,10 @@ module _ (r : Reading) where
       inr (getD-take n xs 0 end (omega (arith, b .2)) ∙ b .0, ap isDigit (getD-take n xs 1 end (omega (arith, b .2))) ∙ b .1)
 
 -- what is taken is a decimal's text or a hex number's, however the bytes begin
-pub number-form : (r : Reading) (xs : List ℕ) → (numberEnd r xs ≤ length xs) × (DecimalText r (take (numberEnd r xs) xs) ⊎ HexText r (take (numberEnd r xs) xs))
+pub number-form : (r : Reading) (xs : List ℕ) → (numberEnd r xs ≤ length xs) × (DecimalNumber r (take (numberEnd r xs) xs) ⊎ HexNumber r (take (numberEnd r xs) xs))
 number-form r xs = go (isHex xs) refl
   where
-    go : (h : Bool) → isHex xs ≡ h → (numberEnd r xs ≤ length xs) × (DecimalText r (take (numberEnd r xs) xs) ⊎ HexText r (take (numberEnd r xs) xs))
+    go : (h : Bool) → isHex xs ≡ h → (numberEnd r xs ≤ length xs) × (DecimalNumber r (take (numberEnd r xs) xs) ⊎ HexNumber r (take (numberEnd r xs) xs))
     go true h =
         let p = hex-prefix xs h in
         let m = mantissaTakes r HexDigit (behindPrefix r) (drop 2 xs) in
@@ -307,26 +304,26 @@ number-longest r xs b =
 
 -- a number text may be cut behind any byte but a separator, where what is left is begun as a number is
 module _ (r : Reading) where
-  digits-of : (k : Class) (q : Separators) → Cut (Digits (isIn k) q)
+  digits-of : (k : Class) (q : Separators) → Cut (SeparatedDigits (isIn k) q)
   digits-of k q = digits-cut (isIn k) (end-in-none k) q
 
   mantissa-cut : (k : Class) (q : Separators) → Cut (Mantissa r k q)
-  mantissa-cut k q = then-cut (digits-of k q) (optional-cut isPoint (digits-of k (betweenDigits r)))
+  mantissa-cut k q = then-cut _ _ (digits-of k q) (optional-cut isPoint _ (digits-of k (betweenDigits r)))
 
-  decimal-cut : Cut (DecimalText r)
-  decimal-cut = then-cut (mantissa-cut Digit (betweenDigits r)) (optional-cut isExponentMark (then-cut (optional-cut isSign empty-cut) (digits-of Digit (betweenDigits r))))
+  decimal-cut : Cut (DecimalNumber r)
+  decimal-cut = then-cut _ _ (mantissa-cut Digit (betweenDigits r)) (optional-cut isExponentMark _ (then-cut _ _ (optional-cut isSign _ empty-cut) (digits-of Digit (betweenDigits r))))
 
-  one-decimal : (c : ℕ) → Begun (c ∷ []) → DecimalText r (c ∷ [])
+  one-decimal : (c : ℕ) → Begun (c ∷ []) → DecimalNumber r (c ∷ [])
   unfolding isIn isWithin
-  one-decimal c (inl d) = plain r (c ∷ []) [] (one-digit r c d (betweenDigits r)) nothing
+  one-decimal c (inl d) = plain r (c ∷ []) [] (one-digit c d (betweenDigits r)) nothing
   one-decimal c (inr b) = absurd (true≢false (sym (b .1)))
 
-  hex-cut : (u : List ℕ) (c : ℕ) (rest : List ℕ) → eqb c separator ≡ false → Begun (u ++ (c ∷ [])) → HexText r (u ++ (c ∷ rest)) → DecimalText r (u ++ (c ∷ [])) ⊎ HexText r (u ++ (c ∷ []))
+  hex-cut : (u : List ℕ) (c : ℕ) (rest : List ℕ) → eqb c separator ≡ false → Begun (u ++ (c ∷ [])) → HexNumber r (u ++ (c ∷ rest)) → DecimalNumber r (u ++ (c ∷ [])) ⊎ HexNumber r (u ++ (c ∷ []))
   hex-cut u c rest s b x =
       ⊎-elim (λ q. inr (behind-prefix (q .0) (q .1) (q .2))) (λ q. within-prefix (q .0) (q .1) (q .2))
       (split u (c ∷ rest) (x .front) (x .back) (x .whole))
     where
-      behind-prefix : (w : List ℕ) → u ≡ x .front ++ w → x .back ≡ w ++ (c ∷ rest) → HexText r (u ++ (c ∷ []))
+      behind-prefix : (w : List ℕ) → u ≡ x .front ++ w → x .back ≡ w ++ (c ∷ rest) → HexNumber r (u ++ (c ∷ []))
       behind-prefix w e f =
           record {
             front = x .front;
@@ -339,14 +336,14 @@ module _ (r : Reading) where
       two : length (x .front) ≡ 2
       two = prefix-length (x .front) (x .first)
 
-      in-prefix : (u : List ℕ) (z : ℕ) (w : List ℕ) → Begun (u ++ (c ∷ [])) → x .front ≡ u ++ (z ∷ w) → z ≡ c → DecimalText r (u ++ (c ∷ [])) ⊎ HexText r (u ++ (c ∷ []))
+      in-prefix : (u : List ℕ) (z : ℕ) (w : List ℕ) → Begun (u ++ (c ∷ [])) → x .front ≡ u ++ (z ∷ w) → z ≡ c → DecimalNumber r (u ++ (c ∷ [])) ⊎ HexNumber r (u ++ (c ∷ []))
       in-prefix [] z w b e f = inl (one-decimal c b)
       in-prefix (y ∷ []) z [] b e f =
           inr (record { front = x .front; back = []; first = x .first; second = mantissa-cut HexDigit (behindPrefix r) .none; whole = sym (append-nil (x .front) ∙ e ∙ ap (λ (a : ℕ). y ∷ a ∷ []) f) })
       in-prefix (y ∷ []) z (v ∷ w) b e f = absurd (omega (arith, two, ap (λ (t : List ℕ). length t) e))
       in-prefix (y ∷ v ∷ u) z w b e f = absurd (omega (arith, two, ap (λ (t : List ℕ). length t) e, length-append u (z ∷ w)))
 
-      within-prefix : (w : List ℕ) → x .front ≡ u ++ w → c ∷ rest ≡ w ++ x .back → DecimalText r (u ++ (c ∷ [])) ⊎ HexText r (u ++ (c ∷ []))
+      within-prefix : (w : List ℕ) → x .front ≡ u ++ w → c ∷ rest ≡ w ++ x .back → DecimalNumber r (u ++ (c ∷ [])) ⊎ HexNumber r (u ++ (c ∷ []))
       within-prefix [] e f = inr (behind-prefix [] (sym (e ∙ append-nil u) ∙ sym (append-nil (x .front))) (sym f))
       within-prefix (z ∷ w) e f = in-prefix u z w b e (sym (ap (λ (t : List ℕ). getD t 0 end) f))
 

@@ -21,8 +21,8 @@ use Rattle.scan.specs.Byte.{end, peekAt, isWithin, isAlpha, isAlphaNumeric, isD
 use Rattle.scan.specs.Language.{One, one, Then, Optional, nothing, marked}
 use Rattle.scan.specs.Separated.{separator}
 use Rattle.scan.specs.Text.{has}
-use Rattle.scan.specs.laws.Separated.{Digits}
-use Rattle.scan.proofs.separated.Texts.{digits-cons, cons-digits}
+use Rattle.scan.specs.laws.Separated.{SeparatedDigits}
+use Rattle.scan.proofs.separated.Texts.{digits-apart}
 use Rattle.numeral.specs.declared.Part.{Part}
 use Rattle.numeral.specs.declared.Part.the-variants as part
 use Rattle.numeral.specs.declared.Turn.{Turn}
@@ -80,15 +80,15 @@ goes p q c = either (λ t. t ≡ On q → Goes c p q) (isDigit c) (λ d e. subst
     stops part.Digits = either (λ t. t ≡ On q → Goes c part.Digits q) (isUnit c) (λ i e. subst (Goes c part.Digits) (on-same part.Unit q e) (unit i)) (λ i e. not-on true q e)
 
 -- the grammar's texts are paths
-digits-path : (ds t : List ℕ) → Digits (isIn Digit) Never ds → Path part.Digits t → Path part.Digits (ds ++ t)
+digits-path : (ds t : List ℕ) → SeparatedDigits (isIn Digit) Never ds → Path part.Digits t → Path part.Digits (ds ++ t)
 unfolding isIn
 digits-path [] t d p = p
-digits-path (x ∷ ds) t d p = let e = digits-cons (isIn Digit) x ds d in (part.Digits, turn-digit part.Digits x (e .0), digits-path ds t (e .1) p)
+digits-path (x ∷ ds) t d p = let e = digits-apart (isIn Digit) x ds .0 d in (part.Digits, turn-digit part.Digits x (e .0), digits-path ds t (e .1) p)
 
 some-path : (p : Part) (ds t : List ℕ) → SomeDigits ds → Path part.Digits t → Path p (ds ++ t)
 unfolding isIn
 some-path p [] t d q = absurd (omega (arith, d .1))
-some-path p (x ∷ ds) t d q = let e = digits-cons (isIn Digit) x ds (d .0) in (part.Digits, turn-digit p x (e .0), digits-path ds t (e .1) q)
+some-path p (x ∷ ds) t d q = let e = digits-apart (isIn Digit) x ds .0 (d .0) in (part.Digits, turn-digit p x (e .0), digits-path ds t (e .1) q)
 
 unit-path : (u t : List ℕ) → One isUnit u → Path part.Unit t → Path part.Digits (u ++ t)
 unit-path _ t (one x e) p = (part.Unit, turn-unit x e, p)
@@ -120,7 +120,7 @@ units-path t q = go (q .front) (q .first) (q .whole)
 abbrev Rest : Part → List ℕ → Type 0
 Rest part.Unit = Then OptionalS Repeats
 Rest part.UnitS = Repeats
-Rest part.Digits = Then (Digits (isIn Digit) Never) (Then (One isUnit) (Then OptionalS Repeats))
+Rest part.Digits = Then (SeparatedDigits (isIn Digit) Never) (Then (One isUnit) (Then OptionalS Repeats))
 
 one-repeat : (x : ℕ) (t : List ℕ) → isIn Digit x ≡ true → Rest part.Digits t → Repeats (x ∷ t)
 one-repeat x t e q =
@@ -136,13 +136,13 @@ one-repeat x t e q =
     (record {
       front = x ∷ d;
       back = w .front ++ o .front;
-      first = (cons-digits (isIn Digit) x d e (q .first), omega arith);
+      first = (digits-apart (isIn Digit) x d .1 (e, q .first), omega arith);
       second = record { front = w .front; back = o .front; first = w .first; second = o .first; whole = refl };
       whole = refl;
     })
     (o .second))
 
-no-digits : Digits (isIn Digit) Never []
+no-digits : SeparatedDigits (isIn Digit) Never []
 no-digits i l = absurd (omega arith)
 
 path-rest : (p : Part) (t : List ℕ) → Path p t → Rest p t
@@ -155,7 +155,7 @@ path-rest p (c ∷ t) q = go p (q .0) (goes p (q .0) c (q .1)) (path-rest (q .0)
     go : (p q : Part) → Goes c p q → Rest q t → Rest p (c ∷ t)
     go part.Unit _ (digit _ d) r = record { front = []; back = c ∷ t; first = nothing; second = one-repeat c t d r; whole = refl }
     go part.UnitS _ (digit _ d) r = one-repeat c t d r
-    go part.Digits _ (digit _ d) r = record { front = c ∷ r .front; back = r .back; first = cons-digits (isIn Digit) c (r .front) d (r .first); second = r .second; whole = ap (λ (l : List ℕ). c ∷ l) (r .whole) }
+    go part.Digits _ (digit _ d) r = record { front = c ∷ r .front; back = r .back; first = digits-apart (isIn Digit) c (r .front) .1 (d, r .first); second = r .second; whole = ap (λ (l : List ℕ). c ∷ l) (r .whole) }
     go _ _ (s e) r = record { front = c ∷ []; back = t; first = marked c [] e refl; second = r; whole = refl }
     go _ _ (unit e) r = record { front = []; back = c ∷ t; first = no-digits; second = record { front = c ∷ []; back = t; first = one c e; second = r; whole = refl }; whole = refl }
 

@@ -4,9 +4,10 @@ use Prim.Native.Nat.{ℕ, zero, suc, _+_, _<_, _≤_}
 use Prim.Native.Char.{code}
 use native.Mathlib.Omega.{arith}
 use native.Mathlib.Numerals.{add-one}
-use mathlib.Core.Bool.{Bool, true, false, cond, _&&_, _||_, not}
-use mathlib.Core.List.{List}
-use mathlib.Core.Path.{_≡_, refl, ap}
+use mathlib.Core.Bool.{Bool, true, false, cond, _&&_, _||_, not, true≢false}
+use mathlib.Core.List.{List, [], _∷_}
+use mathlib.Core.Logic.{inl}
+use mathlib.Core.Path.{_≡_, refl, sym, _∙_}
 use lib.Dec.{eqb}
 use lib.ListN.{length, take, drop}
 use Rattle.scan.specs.declared.byte.Class.{Class}
@@ -14,15 +15,16 @@ use Rattle.scan.specs.declared.byte.Class.the-variants.{Alpha, Digit, HexDigit}
 use Rattle.scan.specs.Byte.{peekAt, lowered, isWithin, isAlpha, isDigit, isIn}
 use Rattle.scan.specs.laws.Edge.{Edge, first, behind, AsciiAlone}
 use Rattle.scan.specs.declared.separated.Separators.{Separators}
-use Rattle.scan.specs.Separated.{isOpen, separator, separatedEnd}
+use Rattle.scan.specs.Separated.{isOpen, separator, separatedRun, separatedEnd}
 use Rattle.scan.specs.Text.{has}
-use Rattle.scan.proofs.separated.Runs.{digits-end, no-more, edge-separated}
+use Rattle.scan.specs.laws.Separated.{SeparatedDigits}
+use Rattle.scan.proofs.separated.Runs.{edge-separated}
+use Rattle.scan.proofs.separated.Texts.{digits-greedy}
 use Rattle.utf8.specs.declared.Reading.{Reading}
 use Rattle.utf8.specs.declared.Reading.the-variants.{Crate, Documented}
 use Rattle.proving.proofs.Choice.{either, and-right}
 use Rattle.scan.proofs.byte.Classes.{end-in-none, within-bounds}
 use Rattle.scan.proofs.Edges.{class-ascii, one-ascii, or-ascii}
-use Rattle.scan.proofs.Runs.{run-goes-on}
 use Rattle.scan.specs.Sign.{isSign, pastSign}
 use Rattle.scan.proofs.sign.Places.{sign-ascii}
 use Rattle.numeral.specs.declared.Part.{Part}
@@ -51,6 +53,16 @@ letter-ascii c =
 pub none-before : (r : Reading) → isOpen (betweenDigits r) false ≡ false
 none-before Crate = refl
 none-before Documented = refl
+
+-- a digit is taken, by itself and before others
+pub one-digit : (x : ℕ) → isIn Digit x ≡ true → (q : Separators) → SeparatedDigits (isIn Digit) q (x ∷ [])
+one-digit x e q zero l = inl e
+one-digit x e q (suc i) l = absurd (omega (arith, l))
+
+digit-taken : (q : Separators) (xs : List ℕ) → isDigit (peekAt xs 0) ≡ true → 1 ≤ separatedRun (isIn Digit) q xs
+unfolding isIn isWithin
+digit-taken q [] d = absurd (true≢false (sym d))
+digit-taken q (x ∷ xs) d = digits-greedy (isIn Digit) (end-in-none Digit) q .longest (x ∷ []) xs (one-digit x d q)
 
 module _ (r : Reading) (xs : List ℕ) where
   pub past : {p : ℕ → Bool} → AsciiAlone p → (at : ℕ) → p (peekAt xs at) ≡ true → Edge xs (at + 1)
@@ -104,13 +116,12 @@ module _ (r : Reading) (xs : List ℕ) where
   -- and one that begins with a digit or a point has a byte
   mantissa-byte : isDigit (peekAt xs 0) || eqb (peekAt xs 0) (code ".") ≡ true → 1 ≤ mantissaEnd r Digit (betweenDigits r) xs 0
   unfolding isIn fractionEnd
-  mantissa-byte b = go (isDigit (peekAt xs 0)) refl b
+  mantissa-byte b = go (isDigit (peekAt xs 0)) refl b (separatedEnd (isIn Digit) (betweenDigits r) xs 0) refl
     where
-      go : (d : Bool) → isDigit (peekAt xs 0) ≡ d → d || eqb (peekAt xs 0) (code ".") ≡ true → 1 ≤ mantissaEnd r Digit (betweenDigits r) xs 0
-      go true d t = omega (arith, run-goes-on (isIn Digit) (end-in-none Digit) xs 0 d, digits-end (isIn Digit) (betweenDigits r) xs 0, fraction-on Digit (separatedEnd (isIn Digit) (betweenDigits r) xs 0))
-      go false d t =
-          let z : separatedEnd (isIn Digit) (betweenDigits r) xs 0 ≡ 0 = omega (arith, no-more (isIn Digit) (isOpen (betweenDigits r) true) (isOpen (betweenDigits r) false) xs 0 d (ap (λ o. o && (eqb (peekAt xs 0) separator && isIn Digit (peekAt xs 1))) (none-before r))) in
-          rw (z, t) (omega arith)
+      go : (d : Bool) → isDigit (peekAt xs 0) ≡ d → d || eqb (peekAt xs 0) (code ".") ≡ true → (n : ℕ) → separatedEnd (isIn Digit) (betweenDigits r) xs 0 ≡ n → 1 ≤ fractionEnd r Digit xs n
+      go true d t n e = omega (arith, digit-taken (betweenDigits r) xs d, e, fraction-on Digit n)
+      go false d t zero e = rw t (omega arith)
+      go false d t (suc n) e = omega (arith, fraction-on Digit (suc n))
 
   number-byte : isDigit (peekAt xs 0) || eqb (peekAt xs 0) (code ".") ≡ true → 1 ≤ numberEnd r xs
   unfolding numberEnd

@@ -18,7 +18,7 @@ use Rattle.scan.specs.Language.{Empty, One, Then, Optional}
 use Rattle.scan.specs.Separated.{separator}
 use Rattle.scan.specs.Sign.{isSign}
 use Rattle.scan.specs.Text.{has}
-use Rattle.scan.specs.laws.Separated.{Digits}
+use Rattle.scan.specs.laws.Separated.{SeparatedDigits}
 use Rattle.utf8.specs.declared.Reading.{Reading}
 use Rattle.numeral.specs.Numeral.{betweenDigits, behindPrefix, isUnit, isFirstUnit}
 
@@ -35,24 +35,24 @@ abbrev pub isPoint : ℕ → Bool
 isPoint c = eqb c (code ".")
 
 abbrev pub Mantissa : Reading → Class → Separators → List ℕ → Type 0
-Mantissa r k q = Then (Digits (isIn k) q) (Optional isPoint (Digits (isIn k) (betweenDigits r)))
+Mantissa r k q = Then (SeparatedDigits (isIn k) q) (Optional isPoint (SeparatedDigits (isIn k) (betweenDigits r)))
 
 -- .. optional e or E with optional sign and decimal digits."
 abbrev pub isExponentMark : ℕ → Bool
 isExponentMark c = eqb (lowered c) (code "e")
 
 abbrev pub Exponent : Reading → List ℕ → Type 0
-Exponent r = Optional isExponentMark (Then (Optional isSign Empty) (Digits (isIn Digit) (betweenDigits r)))
+Exponent r = Optional isExponentMark (Then (Optional isSign Empty) (SeparatedDigits (isIn Digit) (betweenDigits r)))
 
 -- an e is a hex digit, so that a hex number has no exponent: `0x1e+5` is no number text
-abbrev pub DecimalText : Reading → List ℕ → Type 0
-DecimalText r = Then (Mantissa r Digit (betweenDigits r)) (Exponent r)
+abbrev pub DecimalNumber : Reading → List ℕ → Type 0
+DecimalNumber r = Then (Mantissa r Digit (betweenDigits r)) (Exponent r)
 
-abbrev pub HexText : Reading → List ℕ → Type 0
-HexText r = Then Prefix (Mantissa r HexDigit (behindPrefix r))
+abbrev pub HexNumber : Reading → List ℕ → Type 0
+HexNumber r = Then Prefix (Mantissa r HexDigit (behindPrefix r))
 
 abbrev pub NumberText : Reading → List ℕ → Type 0
-NumberText r t = Begun t × (DecimalText r t ⊎ HexText r t)
+NumberText r t = Begun t × (DecimalNumber r t ⊎ HexNumber r t)
 
 -- "one of `smhdwy` follows, then an optional s, ..
 abbrev pub OptionalS : List ℕ → Type 0
@@ -60,7 +60,7 @@ OptionalS = Optional (λ c. eqb c (code "s")) Empty
 
 -- .. then any repeats of (digits, one of `smhdw`, optional s)", where digits are one or more
 abbrev pub SomeDigits : List ℕ → Type 0
-SomeDigits t = Digits (isIn Digit) Never t × (0 < length t)
+SomeDigits t = SeparatedDigits (isIn Digit) Never t × (0 < length t)
 
 abbrev pub Repeat : List ℕ → Type 0
 Repeat = Then SomeDigits (Then (One isUnit) OptionalS)

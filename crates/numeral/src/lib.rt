@@ -10,8 +10,6 @@ ghost use mathlib.Core.Path.{_≡_};
 ghost use lib.ListN.{drop};
 ghost use Rattle.numeral.specs.Numeral.{betweenDigits, behindPrefix, isHex, fractionEnd, exponentEnd, mantissaEnd, numberEnd, isUnit, stopOf, turnOf, durationFrom, taken, numeralOf};
 
-const SEPARATOR: u8 = b'_';
-
 // What bytes begin with: a number or a duration of so many bytes, or neither, where so many were taken.
 pub enum Numeral {
     Number(usize),
@@ -199,7 +197,7 @@ pub fn scan_number(s: &[u8], reading: Reading) -> Numeral
     if !byte::is_alpha(c) {
         return Numeral::Number(n);
     }
-    if (c == b'y' as usize || is_unit(c)) && !scan::contains(&s[..n], SEPARATOR) {
+    if (c == b'y' as usize || is_unit(c)) && !scan::contains(&s[..n], separated::SEPARATOR) {
         return duration(s, n + 1);
     }
     Numeral::Neither(n)

@@ -1,7 +1,6 @@
--- Reading a text of a set greedily. `Greedy l g n` says that what `g` takes of any bytes is the longest text of the set `l` that they begin with,
--- and that a shorter one has a byte behind it that passes the test `n`. Where no text of a second set begins with such a byte, reading the one and then
--- the other is greedy again (`then-greedy`): a shorter first text leaves nothing for the second. `Cut l` says that a text of the set may be cut
--- behind any byte that is no separator.
+-- Reading a text of a set greedily. Where no text of a second set begins with a byte that the first could have gone on with, reading the one and
+-- then the other is greedy again (`then-greedy`): a shorter first text leaves nothing for the second. A text put together may be cut where its parts
+-- may (`then-cut`), since a cut falls into one of them.
 use Prim.Native.Nat.{ℕ, zero, suc, _+_, _-_, _<_, _≤_}
 use native.Mathlib.Nat.{zero-add, suc-add, not-suc-le-zero}
 use native.Mathlib.Omega.{arith}
@@ -17,25 +16,20 @@ use Rattle.proving.proofs.Choice.{either}
 use Rattle.scan.specs.Byte.{end, peekAt}
 use Rattle.scan.specs.Separated.{separator}
 use Rattle.scan.specs.Language.{Empty, Then, Optional, nothing, marked, Longest}
+use Rattle.scan.specs.laws.Language.{Greedy, GreedyLongest, LongestOne, optionally, thenTakes, EmptyGreedy, OptionalGreedy, ThenGreedy, Cut, EmptyCut, OptionalCut, ThenCut, SplitTwice}
 
-pub record Greedy (l : List ℕ → Type 0) (g : List ℕ → ℕ) (n : ℕ → Bool) : Type 0 where
-  pub within : (xs : List ℕ) → g xs ≤ length xs
-  pub taken : (xs : List ℕ) → l (take (g xs) xs)
-  pub longest : (t rest : List ℕ) → l t → length t ≤ g (t ++ rest)
-  pub tight : (t rest : List ℕ) → l t → length t < g (t ++ rest) → n (peekAt rest 0) ≡ true
-
-pub greedy-longest : {l : List ℕ → Type 0} {g : List ℕ → ℕ} {n : ℕ → Bool} → Greedy l g n → (xs : List ℕ) → Longest l xs (g xs)
-greedy-longest {l} {g} {n} h xs =
+pub greedy-longest : GreedyLongest
+greedy-longest l g n h xs =
     record { within = h .within xs; there = h .taken xs; most = λ t rest e p. subst (λ ys. length t ≤ g ys) (sym e) (h .longest t rest p) }
 
 -- there is one longest
 not-longer : {l : List ℕ → Type 0} (xs : List ℕ) (n m : ℕ) → Longest l xs n → Longest l xs m → n ≤ m
 not-longer xs n m a b = omega (arith, b .most (take n xs) (drop n xs) (sym (take-append-drop n xs)) (a .there), length-take-le n xs (a .within))
 
-pub longest-one : {l : List ℕ → Type 0} (xs : List ℕ) (n m : ℕ) → Longest l xs n → Longest l xs m → n ≡ m
-longest-one xs n m a b = omega (arith, not-longer xs n m a b, not-longer xs m n b a)
+pub longest-one : LongestOne
+longest-one l xs n m a b = omega (arith, not-longer xs n m a b, not-longer xs m n b a)
 
-pub empty-greedy : Greedy Empty (λ xs. 0) (λ c. false)
+pub empty-greedy : EmptyGreedy
 empty-greedy =
     record {
       within = λ xs. omega arith;
@@ -45,9 +39,6 @@ empty-greedy =
     }
 
 -- behind a mark, where it stands
-abbrev pub optionally : (ℕ → Bool) → (List ℕ → ℕ) → List ℕ → ℕ
-optionally c g xs = cond (c (peekAt xs 0)) (suc (g (drop 1 xs))) 0
-
 module _ (c : ℕ → Bool) (ends : c end ≡ false) {l : List ℕ → Type 0} {g : List ℕ → ℕ} {n : ℕ → Bool} (h : Greedy l g n) where
   optional-within : (xs : List ℕ) → optionally c g xs ≤ length xs
   optional-within [] = rw ends (omega arith)
@@ -67,14 +58,11 @@ module _ (c : ℕ → Bool) (ends : c end ≡ false) {l : List ℕ → Type 0} {
       let j : suc (length t) < suc (g (t ++ rest)) = rw e at i in
       ap (λ b. c (peekAt rest 0) || b) (h .tight t rest p (omega (arith, j))) ∙ or-true (c (peekAt rest 0))
 
-  pub optional-greedy : Greedy (Optional c l) (optionally c g) (λ b. c b || n b)
-  optional-greedy = record { within = optional-within; taken = optional-taken; longest = optional-longest; tight = optional-tight }
+pub optional-greedy : OptionalGreedy
+optional-greedy c e l g n h = record { within = optional-within c e h; taken = optional-taken c e h; longest = optional-longest c e h; tight = optional-tight c e h }
 
 -- one behind another
-abbrev pub thenTakes : (List ℕ → ℕ) → (List ℕ → ℕ) → List ℕ → ℕ
-thenTakes g h xs = g xs + h (drop (g xs) xs)
-
-pub take-add : (n m : ℕ) (xs : List ℕ) → take (n + m) xs ≡ take n xs ++ take m (drop n xs)
+take-add : (n m : ℕ) (xs : List ℕ) → take (n + m) xs ≡ take n xs ++ take m (drop n xs)
 take-add zero m xs = ap (λ (k : ℕ). take k xs) (zero-add m)
 take-add (suc n) m [] = ap (λ (k : ℕ). take k []) (suc-add n m) ∙ sym (take-nil m)
 take-add (suc n) m (x ∷ xs) = ap (λ (k : ℕ). take k (x ∷ xs)) (suc-add n m) ∙ ap (λ (t : List ℕ). x ∷ t) (take-add n m xs)
@@ -138,11 +126,10 @@ module _ {l m : List ℕ → Type 0} {g h : List ℕ → ℕ} {n o : ℕ → Boo
       (λ q. rw (q .2) refl)
       (met u v rest (p .first) (p .second))
 
-  pub then-greedy : Greedy (Then l m) (thenTakes g h) (λ b. n b || o b)
-  then-greedy = record { within = then-within; taken = then-taken; longest = then-longest; tight = then-tight }
+pub then-greedy : ThenGreedy
+then-greedy l m g h n o a b apart = record { within = then-within a b apart; taken = then-taken a b apart; longest = then-longest a b apart; tight = then-tight a b apart }
 
--- two texts that are put together from two each, one cut behind the other
-pub split : (a b u v : List ℕ) → a ++ b ≡ u ++ v → ((r : List ℕ) × (a ≡ u ++ r) × (v ≡ r ++ b)) ⊎ ((r : List ℕ) × (u ≡ a ++ r) × (b ≡ r ++ v))
+pub split : SplitTwice
 split [] b u v e = inr (u, refl, e)
 split (x ∷ a) b [] v e = inl (x ∷ a, refl, sym e)
 split (x ∷ a) b (y ∷ u) v e =
@@ -152,16 +139,12 @@ split (x ∷ a) b (y ∷ u) v e =
     (λ q. inr (q .0, ap₂ (λ (z : ℕ) (t : List ℕ). z ∷ t) (sym h) (q .1), q .2))
     (split a b u v (ap (λ (t : List ℕ). drop 1 t) e))
 
-pub record Cut (l : List ℕ → Type 0) : Type 0 where
-  pub none : l []
-  pub cut : (u : List ℕ) (c : ℕ) (rest : List ℕ) → eqb c separator ≡ false → l (u ++ (c ∷ rest)) → l (u ++ (c ∷ []))
-
 not-empty : {A : Type 0} (u : List ℕ) (c : ℕ) (rest : List ℕ) → u ++ (c ∷ rest) ≡ [] → A
 not-empty u c rest e =
     let f : ⊥ = omega (arith, ap (λ (t : List ℕ). length t) e, length-append u (c ∷ rest)) in
     absurd f
 
-pub empty-cut : Cut Empty
+pub empty-cut : EmptyCut
 empty-cut = record { none = refl; cut = λ u c rest s e. not-empty u c rest e }
 
 module _ (m : ℕ → Bool) {l : List ℕ → Type 0} (h : Cut l) where
@@ -171,11 +154,11 @@ module _ (m : ℕ → Bool) {l : List ℕ → Type 0} (h : Cut l) where
   optional-cut-at (y ∷ u) c rest _ s e (marked x t i p) =
       marked y (u ++ (c ∷ [])) (ap m (sym (ap (λ (r : List ℕ). getD r 0 end) e)) ∙ i) (h .cut u c rest s (subst l (ap (λ (r : List ℕ). drop 1 r) e) p))
 
-  pub optional-cut : Cut (Optional m l)
-  optional-cut = record { none = nothing; cut = λ u c rest s p. optional-cut-at u c rest _ s refl p }
+pub optional-cut : OptionalCut
+optional-cut m l h = record { none = nothing; cut = λ u c rest s p. optional-cut-at m h u c rest _ s refl p }
 
 module _ {l m : List ℕ → Type 0} (a : Cut l) (b : Cut m) where
-  abbrev pub together : {u v t : List ℕ} → l u → m v → t ≡ u ++ v → Then l m t
+  together : {u v t : List ℕ} → l u → m v → t ≡ u ++ v → Then l m t
   together {u} {v} p q e = record { front = u; back = v; first = p; second = q; whole = e }
 
   then-cut-at : (u : List ℕ) (c : ℕ) (rest : List ℕ) → eqb c separator ≡ false → Then l m (u ++ (c ∷ rest)) → Then l m (u ++ (c ∷ []))
@@ -194,5 +177,5 @@ module _ {l m : List ℕ → Type 0} (a : Cut l) (b : Cut m) where
           let g : p .front ≡ u ++ (c ∷ r) = e ∙ ap (λ (x : ℕ). u ++ (x ∷ r)) (sym (ap (λ (t : List ℕ). getD t 0 end) f)) in
           together (a .cut u c r s (subst l g (p .first))) (b .none) (sym (append-nil (u ++ (c ∷ []))))
 
-  pub then-cut : Cut (Then l m)
-  then-cut = record { none = together (a .none) (b .none) refl; cut = then-cut-at }
+pub then-cut : ThenCut
+then-cut l m a b = record { none = together a b (a .none) (b .none) refl; cut = then-cut-at a b }

@@ -27,8 +27,8 @@ pub data Optional (c : ℕ → Bool) (l : List ℕ → Type 0) : List ℕ → Ty
   marked : (x : ℕ) (t : List ℕ) → c x ≡ true → l t → Optional c l (x ∷ t)
 
 -- the texts that one of a set begins with
-abbrev pub Begins : (List ℕ → Type 0) → List ℕ → Type 0
-Begins l t = (z : List ℕ) × l (t ++ z)
+abbrev pub FrontOf : (List ℕ → Type 0) → List ℕ → Type 0
+FrontOf l t = (z : List ℕ) × l (t ++ z)
 
 -- the longest text of a set that bytes begin with has n bytes
 pub record Longest (l : List ℕ → Type 0) (xs : List ℕ) (n : ℕ) : Type 0 where

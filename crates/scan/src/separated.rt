@@ -8,7 +8,11 @@ ghost use Prim.Native.Nat.{_+_};
 ghost use Rattle.scan.specs.Byte.{peekAt, isIn};
 ghost use Rattle.scan.specs.Separated.{separator, isOpen, separatedEnd, allPlaced};
 
-const SEPARATOR: usize = b'_' as usize;
+// The byte that stands between digits.
+pub const SEPARATOR: u8 = b'_';
+
+// The same, as it is seen at a place.
+const SEEN: usize = SEPARATOR as usize;
 
 // Where separators may stand: nowhere, between two digits, or also before the first.
 pub enum Separators {
@@ -34,7 +38,7 @@ pub fn separated_end(k: Class, separators: Separators, s: &[u8], from: usize) ->
 {
     let mut n = crate::run_end(k, s, from);
     if is_open(separators, n > from) {
-        while byte::peek(s, n) == SEPARATOR && byte::is_in(k, byte::peek(s, n + 1)) {
+        while byte::peek(s, n) == SEEN && byte::is_in(k, byte::peek(s, n + 1)) {
             n = crate::run_end(k, s, n + 1);
         }
     }
@@ -45,7 +49,7 @@ pub fn separated_end(k: Class, separators: Separators, s: &[u8], from: usize) ->
 fn is_placed_at(k: Class, allowed: bool, s: &[u8], i: usize) -> bool
     ensures { λ r. ⌜ r ≡ not (eqb (peekAt (now (s .entry)) i) separator) || (allowed && isIn k (peekAt (now (s .entry)) (i + 1))) ⌝ }
 {
-    if byte::peek(s, i) != SEPARATOR {
+    if byte::peek(s, i) != SEEN {
         return true;
     }
     allowed && byte::is_in(k, byte::peek(s, i + 1))

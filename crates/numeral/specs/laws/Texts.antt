@@ -8,7 +8,7 @@ use mathlib.Core.Logic.{_↔_, _⊎_}
 use mathlib.Core.Path.{_≡_}
 use lib.ListN.{length, take, drop}
 use Rattle.scan.specs.Byte.{peekAt, isAlpha, isAlphaNumeric}
-use Rattle.scan.specs.Language.{Begins, Longest}
+use Rattle.scan.specs.Language.{FrontOf, Longest}
 use Rattle.scan.specs.Separated.{separator}
 use Rattle.scan.specs.Text.{has}
 use Rattle.utf8.specs.declared.Reading.{Reading}
@@ -42,7 +42,7 @@ DurationGiven = (r : Reading) (xs : List ℕ) → Begun xs → (n : ℕ) → num
 
 -- 20 "neither number nor duration", at the "first character not taken": what is taken is the longest number text, or text that a duration begins with
 abbrev pub TakenText : Reading → List ℕ → Type 0
-TakenText r t = NumberText r t ⊎ Begins (DurationText r) t
+TakenText r t = NumberText r t ⊎ FrontOf (DurationText r) t
 
 abbrev pub IsNeither : Reading → List ℕ → ℕ → Type 0
 IsNeither r xs n = ((m : ℕ) → ¬ (IsNumber r xs m)) × ((m : ℕ) → ¬ (IsDuration r xs m)) × Longest (TakenText r) xs n
@@ -52,7 +52,7 @@ NeitherGiven = (r : Reading) (xs : List ℕ) → Begun xs → (n : ℕ) → nume
 
 -- in the crate reading that is the longest text that some number or duration begins with
 abbrev pub BegunText : Reading → List ℕ → Type 0
-BegunText r t = Begins (NumberText r) t ⊎ Begins (DurationText r) t
+BegunText r t = FrontOf (NumberText r) t ⊎ FrontOf (DurationText r) t
 
 abbrev pub CratePlace : Type 0
 CratePlace = (xs : List ℕ) → Begun xs → (n : ℕ) → numeralOf Crate xs ≡ Neither n → Longest (BegunText Crate) xs n

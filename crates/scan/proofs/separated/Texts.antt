@@ -1,23 +1,23 @@
 -- A run with separators is the longest text of digits with separators so placed that bytes begin with, since each byte of it is one and past it
--- stands neither; and such a text may be cut behind any byte but a separator, since one that is placed has its digit behind it still.
+-- stands neither; and such a text may be cut behind any byte but a separator, since one that is placed has its digit behind it still. Byte by byte, it
+-- is a text whose separators are placed and whose other bytes are digits.
 use Prim.Native.Nat.{ℕ, zero, suc, _<_, _≤_}
 use native.Mathlib.Nat.{add-zero}
 use native.Mathlib.Omega.{arith}
-use mathlib.Core.Bool.{Bool, true, false, _||_, or-true, true≢false}
+use mathlib.Core.Bool.{Bool, true, false, cond, _||_, or-true, true≢false}
 use mathlib.Core.List.{List, [], _∷_, _++_}
 use mathlib.Core.Logic.{_⊎_, inl, inr, ⊎-elim}
 use mathlib.Core.Path.{_≡_, refl, sym, ap, subst, _∙_}
 use lib.Dec.{eqb, ltb}
-use borrow.Author.Tests.{ltb-true, ltb-false}
+use borrow.Author.Tests.{eqb-true, ltb-true, ltb-false}
 use lib.Seq.{getD-append-add, getD-append-seam, length-take-le}
 use lib.ListN.{length, take, drop, length-append, take-append-drop, List·getD-append}
 use Rattle.scan.specs.declared.separated.Separators.{Separators}
 use Rattle.scan.specs.declared.separated.Separators.the-variants.{Never}
 use Rattle.scan.specs.Byte.{end, peekAt}
-use Rattle.scan.specs.Separated.{separator, separatedRun}
-use Rattle.scan.specs.laws.Separated.{Opens, front, behind, Placed, Digits}
+use Rattle.scan.specs.Separated.{separator, separatedRun, withoutSeparators}
+use Rattle.scan.specs.laws.Separated.{Opens, front, behind, Placed, SeparatedDigits, DigitsGreedy, DigitsCut, DigitsApart, EachPlaced, DigitsPlaced}
 use Rattle.scan.proofs.Runs.{inside}
-use Rattle.scan.proofs.Greedy.{Greedy, Cut}
 use Rattle.scan.proofs.separated.Runs.{separated-within, separated-passes, separated-stopped}
 
 -- what stands in the front of a text stands in the text
@@ -52,7 +52,7 @@ module _ (p : ℕ → Bool) (ends : p end ≡ false) (k : Separators) where
   run-within xs = omega (arith, separated-within p k xs 0)
 
   -- each byte of a run is a digit or a separator whose digit is in the run too
-  run-taken : (xs : List ℕ) → Digits p k (take (separatedRun p k xs) xs)
+  run-taken : (xs : List ℕ) → SeparatedDigits p k (take (separatedRun p k xs) xs)
   run-taken xs i l =
       let n = separatedRun p k xs in
       let t = take n xs in
@@ -73,7 +73,7 @@ module _ (p : ℕ → Bool) (ends : p end ≡ false) (k : Separators) where
               let j : suc i ≡ separatedRun p k xs = omega (arith, ltb-false (suc i) (separatedRun p k xs) e) in
               absurd (true≢false (sym d ∙ ap (λ (m : ℕ). p (peekAt xs m)) j ∙ separated-stopped p ends k xs .0))
 
-  run-longest : (t rest : List ℕ) → Digits p k t → length t ≤ separatedRun p k (t ++ rest)
+  run-longest : (t rest : List ℕ) → SeparatedDigits p k t → length t ≤ separatedRun p k (t ++ rest)
   run-longest t rest d = go (ltb n (length t)) refl
     where
       n : ℕ
@@ -88,7 +88,7 @@ module _ (p : ℕ → Bool) (ends : p end ≡ false) (k : Separators) where
       go true e = absurd (past (ltb-true n (length t) e))
       go false e = ltb-false n (length t) e
 
-  run-tight : (t rest : List ℕ) → Digits p k t → length t < separatedRun p k (t ++ rest) → p (peekAt rest 0) || eqb (peekAt rest 0) separator ≡ true
+  run-tight : (t rest : List ℕ) → SeparatedDigits p k t → length t < separatedRun p k (t ++ rest) → p (peekAt rest 0) || eqb (peekAt rest 0) separator ≡ true
   run-tight t rest d l =
       let at : peekAt (t ++ rest) (length t) ≡ peekAt rest 0 = ap (peekAt (t ++ rest)) (sym (add-zero (length t))) ∙ getD-append-add t rest 0 end in
       ⊎-elim
@@ -96,10 +96,7 @@ module _ (p : ℕ → Bool) (ends : p end ≡ false) (k : Separators) where
       (λ q. ap (λ b. p (peekAt rest 0) || b) (sym (ap (λ c. eqb c separator) at) ∙ q .0) ∙ or-true (p (peekAt rest 0)))
       (separated-passes p k (t ++ rest) (length t) l)
 
-  pub digits-greedy : Greedy (Digits p k) (separatedRun p k) (λ c. p c || eqb c separator)
-  digits-greedy = record { within = run-within; taken = run-taken; longest = run-longest; tight = run-tight }
-
-  digits-cut-at : (u : List ℕ) (c : ℕ) (rest : List ℕ) → eqb c separator ≡ false → Digits p k (u ++ (c ∷ rest)) → Digits p k (u ++ (c ∷ []))
+  digits-cut-at : (u : List ℕ) (c : ℕ) (rest : List ℕ) → eqb c separator ≡ false → SeparatedDigits p k (u ++ (c ∷ rest)) → SeparatedDigits p k (u ++ (c ∷ []))
   digits-cut-at u c rest s d i l =
       let k1 = length-append u (c ∷ []) in
       ⊎-elim
@@ -123,8 +120,11 @@ module _ (p : ℕ → Bool) (ends : p end ≡ false) (k : Separators) where
               let j : i ≡ length u = omega (arith, ltb-false (suc i) (length (u ++ (c ∷ []))) f, length-append u (c ∷ [])) in
               absurd (true≢false (sym e ∙ ap (λ (m : ℕ). eqb (peekAt (u ++ (c ∷ rest)) m) separator) j ∙ ap (λ (x : ℕ). eqb x separator) (getD-append-seam u c rest end) ∙ s))
 
-  pub digits-cut : Cut (Digits p k)
-  digits-cut = record { none = λ i l. absurd (omega arith); cut = digits-cut-at }
+pub digits-greedy : DigitsGreedy
+digits-greedy p e k = record { within = run-within p e k; taken = run-taken p e k; longest = run-longest p e k; tight = run-tight p e k }
+
+pub digits-cut : DigitsCut
+digits-cut p e k = record { none = λ i l. absurd (omega arith); cut = digits-cut-at p e k }
 
 -- where no separators stand, such a text is digits alone
 none-placed : (p : ℕ → Bool) (t : List ℕ) (i : ℕ) → Placed p Never t i → ⊥
@@ -134,13 +134,57 @@ none-placed p t i q = shut i (q .2)
     shut _ (front o) = true≢false (sym o)
     shut _ (behind i o e) = true≢false (sym o)
 
-pub digits-alone : (p : ℕ → Bool) (t : List ℕ) → Digits p Never t → (i : ℕ) → i < length t → p (peekAt t i) ≡ true
+digits-alone : (p : ℕ → Bool) (t : List ℕ) → SeparatedDigits p Never t → (i : ℕ) → i < length t → p (peekAt t i) ≡ true
 digits-alone p t d i l = ⊎-elim (λ e. e) (λ q. absurd (none-placed p t i q)) (d i l)
 
 -- digit by digit
-pub digits-cons : (p : ℕ → Bool) (x : ℕ) (t : List ℕ) → Digits p Never (x ∷ t) → (p x ≡ true) × Digits p Never t
-digits-cons p x t d = let a = digits-alone p (x ∷ t) d in (a 0 (omega arith), λ i l. inl (a (suc i) (omega (arith, l))))
+pub digits-apart : DigitsApart
+digits-apart p x t =
+    ( (λ d. let a = digits-alone p (x ∷ t) d in (a 0 (omega arith), λ i l. inl (a (suc i) (omega (arith, l)))))
+    , λ q. cons (q .0) (q .1) )
+  where
+    cons : p x ≡ true → SeparatedDigits p Never t → SeparatedDigits p Never (x ∷ t)
+    cons e d zero l = inl e
+    cons e d (suc i) l = inl (digits-alone p t d i (omega (arith, l)))
 
-pub cons-digits : (p : ℕ → Bool) (x : ℕ) (t : List ℕ) → p x ≡ true → Digits p Never t → Digits p Never (x ∷ t)
-cons-digits p x t e d zero l = inl e
-cons-digits p x t e d (suc i) l = inl (digits-alone p t d i (omega (arith, l)))
+-- the bytes of a text that are no separators are those that it has without them
+module _ (p : ℕ → Bool) where
+  abbrev OthersPass : List ℕ → Type 0
+  OthersPass t = (i : ℕ) → i < length t → eqb (peekAt t i) separator ≡ false → p (peekAt t i) ≡ true
+
+  others-left : (t : List ℕ) → OthersPass t → SeparatedDigits p Never (withoutSeparators t)
+  unfolding withoutSeparators
+  others-left [] h = λ i l. absurd (omega (arith, l))
+  others-left (x ∷ t) h = go (eqb x separator) refl (others-left t (λ i l. h (suc i) (omega (arith, l))))
+    where
+      go : (b : Bool) → eqb x separator ≡ b → SeparatedDigits p Never (withoutSeparators t) → SeparatedDigits p Never (cond b (withoutSeparators t) (x ∷ withoutSeparators t))
+      go true e d = d
+      go false e d = digits-apart p x (withoutSeparators t) .1 (h 0 (omega arith) e, d)
+
+  left-others : (t : List ℕ) → SeparatedDigits p Never (withoutSeparators t) → OthersPass t
+  unfolding withoutSeparators
+  left-others [] d = λ i l e. absurd (omega (arith, l))
+  left-others (x ∷ t) d = go (eqb x separator) refl d (left-others t)
+    where
+      go :
+          (b : Bool) → eqb x separator ≡ b → SeparatedDigits p Never (cond b (withoutSeparators t) (x ∷ withoutSeparators t)) →
+          (SeparatedDigits p Never (withoutSeparators t) → OthersPass t) → OthersPass (x ∷ t)
+      go true e d f zero l g = absurd (true≢false (sym e ∙ g))
+      go true e d f (suc i) l g = f d i (omega (arith, l)) g
+      go false e d f zero l g = digits-apart p x (withoutSeparators t) .0 d .0
+      go false e d f (suc i) l g = f (digits-apart p x (withoutSeparators t) .0 d .1) i (omega (arith, l)) g
+
+pub digits-placed : DigitsPlaced
+digits-placed p s k t = (to, λ q i l. from (q .0) (left-others p t (q .1)) i l)
+  where
+    to : SeparatedDigits p k t → EachPlaced p k t × SeparatedDigits p Never (withoutSeparators t)
+    to d =
+        ( (λ i e. ⊎-elim (λ h. absurd (true≢false (sym h ∙ ap p (eqb-true (peekAt t i) separator e) ∙ s))) (λ q. q) (d i (inside (λ c. eqb c separator) refl t i e)))
+        , others-left p t (λ i l e. ⊎-elim (λ h. h) (λ q. absurd (true≢false (sym (q .0) ∙ e))) (d i l)) )
+
+    from : EachPlaced p k t → OthersPass p t → SeparatedDigits p k t
+    from q h i l = go (eqb (peekAt t i) separator) refl
+      where
+        go : (b : Bool) → eqb (peekAt t i) separator ≡ b → (p (peekAt t i) ≡ true) ⊎ Placed p k t i
+        go true e = inr (q i e)
+        go false e = inl (h i l e)

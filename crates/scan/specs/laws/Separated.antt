@@ -1,7 +1,8 @@
 -- What a run with separators is, over any test of digits, as statements: the longest text in which each byte is a digit or a separator so placed.
--- And what it is for all separators of a text to be so placed. `proofs/separated/Runs` and `proofs/separated/Whole` have the proofs.
+-- And what it is for all separators of a text to be so placed. `proofs/separated/Runs`, `proofs/separated/Texts` and `proofs/separated/Whole` have the
+-- proofs.
 use Prim.Native.Nat.{ℕ, suc, _<_, _≤_, max}
-use mathlib.Core.Bool.{Bool, true, false}
+use mathlib.Core.Bool.{Bool, true, false, _||_}
 use mathlib.Core.List.{List, _∷_, _++_}
 use mathlib.Core.Logic.{_↔_, _⊎_}
 use mathlib.Core.Path.{_≡_}
@@ -14,6 +15,7 @@ use Rattle.scan.specs.Run.{runEnd}
 use Rattle.scan.specs.Separated.{separator, isOpen, separatedRun, separatedEnd, allPlaced, withoutSeparators}
 use Rattle.scan.specs.Text.{has, Stands}
 use Rattle.scan.specs.laws.Edge.{Edge, AsciiAlone}
+use Rattle.scan.specs.laws.Language.{Greedy, Cut}
 
 -- where a separator may stand: behind a digit, and at the front, where the choice has it so
 pub data Opens (p : ℕ → Bool) (k : Separators) (xs : List ℕ) : ℕ → Type 0 where
@@ -25,10 +27,22 @@ abbrev pub Placed : (ℕ → Bool) → Separators → List ℕ → ℕ → Type 
 Placed p k xs i = (eqb (peekAt xs i) separator ≡ true) × (p (peekAt xs (suc i)) ≡ true) × Opens p k xs i
 
 -- the texts of digits with separators so placed, the empty one among them
-abbrev pub Digits : (ℕ → Bool) → Separators → List ℕ → Type 0
-Digits p k t = (i : ℕ) → i < length t → (p (peekAt t i) ≡ true) ⊎ Placed p k t i
+abbrev pub SeparatedDigits : (ℕ → Bool) → Separators → List ℕ → Type 0
+SeparatedDigits p k t = (i : ℕ) → i < length t → (p (peekAt t i) ≡ true) ⊎ Placed p k t i
 
--- without separators it is a run
+-- a run is the longest of these that bytes begin with, and where it is longer than one there, that one has a digit or a separator behind it
+abbrev pub DigitsGreedy : Type 0
+DigitsGreedy = (p : ℕ → Bool) → p end ≡ false → (k : Separators) → Greedy (SeparatedDigits p k) (separatedRun p k) (λ c. p c || eqb c separator)
+
+-- it may be cut behind any byte but a separator
+abbrev pub DigitsCut : Type 0
+DigitsCut = (p : ℕ → Bool) → p end ≡ false → (k : Separators) → Cut (SeparatedDigits p k)
+
+-- without separators it is digits alone
+abbrev pub DigitsApart : Type 0
+DigitsApart = (p : ℕ → Bool) (x : ℕ) (t : List ℕ) → SeparatedDigits p Never (x ∷ t) ↔ (p x ≡ true) × SeparatedDigits p Never t
+
+-- without separators a run with them is a run
 abbrev pub SeparatedNever : Type 0
 SeparatedNever = (p : ℕ → Bool) (xs : List ℕ) (n : ℕ) → separatedEnd p Never xs n ≡ runEnd p xs n
 
@@ -78,6 +92,12 @@ PlacedNever = (p : ℕ → Bool) (xs : List ℕ) → EachPlaced p Never xs ↔ (
 -- and always holds where none does
 abbrev pub PlacedWithout : Type 0
 PlacedWithout = (p : ℕ → Bool) (k : Separators) (xs : List ℕ) → (¬ (Stands separator xs)) → EachPlaced p k xs
+
+-- a text of digits with separators, as lexing takes it, is one whose separators are so placed, and that is digits without them, as number texts are judged
+abbrev pub DigitsPlaced : Type 0
+DigitsPlaced =
+    (p : ℕ → Bool) → p separator ≡ false → (k : Separators) (t : List ℕ) →
+    SeparatedDigits p k t ↔ EachPlaced p k t × SeparatedDigits p Never (withoutSeparators t)
 
 -- what a text is without its separators has none, is the text itself where that has none, and is no longer than it
 abbrev pub NoneLeft : Type 0
