@@ -21,8 +21,7 @@ use Rattle.scan.specs.Byte.{end, peekAt, isWithin, isAlpha, isDigit, isAlphaNum
 use Rattle.scan.specs.Language.{Then, FrontOf, Longest}
 use Rattle.scan.specs.Separated.{separator}
 use Rattle.scan.specs.Text.{has}
-use Rattle.scan.specs.laws.Edge.{AsciiAlone}
-use Rattle.scan.proofs.Edges.{ascii-inside, one-ascii, or-ascii}
+use Rattle.scan.proofs.Edges.{ascii-inside}
 use Rattle.scan.proofs.Greedy.{longest-one, split}
 use Rattle.utf8.specs.declared.Reading.{Reading}
 use Rattle.utf8.specs.declared.Reading.the-variants.{Crate, Documented}
@@ -32,16 +31,11 @@ use Rattle.numeral.specs.declared.Numeral.the-variants.{Number, Duration
 use Rattle.numeral.specs.Numeral.{isUnit, isFirstUnit, numberEnd, durationFrom, taken, numeralOf}
 use Rattle.numeral.specs.Texts.{Begun, isPoint, NumberText, Units, DurationText}
 use Rattle.numeral.specs.laws.Texts.{IsNumber, IsDuration, NumberGiven, DurationGiven, NeitherGiven, TakenText}
-use Rattle.numeral.proofs.Plain.{has-append}
 use Rattle.numeral.proofs.Texts.{implied, not-both, number-longest, number-stopped, number-cut}
-use Rattle.numeral.proofs.Turns.{unit-ascii}
-use Rattle.numeral.proofs.Units.{Path, units-path, path-units, path-duration, numeralNumber, Reads, reading-path, units-letter}
+use Rattle.numeral.proofs.Units.{first-ascii, Path, units-path, path-units, path-duration, numeralNumber, Reads, reading-path, units-letter}
 use Rattle.numeral.proofs.Within.{alpha-ascii}
 
 -- a unit is a letter, and a letter is no point
-first-ascii : AsciiAlone isFirstUnit
-first-ascii = or-ascii _ _ (one-ascii (code "y") (omega arith)) unit-ascii
-
 pub unit-letter : (c : ℕ) → isFirstUnit c ≡ true → isAlpha c ≡ true
 unfolding isUnit isAlpha isWithin
 unit-letter c e = implied _ _ (below (λ x. not (isFirstUnit x) || isAlpha x) 0x80 refl c (first-ascii c e)) e

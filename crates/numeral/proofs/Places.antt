@@ -14,12 +14,13 @@ use lib.Dec.{eqb, ltb}
 use lib.Seq.{split-at, length-take-le, drop-append-add, take-suc, take-append-le, getD-take}
 use lib.ListN.{length, getD, take, drop, length-append, length-drop, take-append-drop, drop-of-length-le, List·getD-append}
 use borrow.Author.Tests.{eqb-true, ltb-true, ltb-false}
-use Rattle.proving.proofs.Choice.{told}
+use Rattle.proving.proofs.Choice.{and-left, and-right, told}
 use Rattle.scan.specs.Byte.{end, peekAt, isDigit, isAlpha, isAlphaNumeric, isWithin}
 use Rattle.scan.specs.Language.{Then, FrontOf, Longest}
 use Rattle.scan.specs.Separated.{separator}
 use Rattle.scan.specs.Text.{has}
 use Rattle.scan.proofs.Edges.{ascii-inside}
+use Rattle.scan.proofs.Stands.{has-append, none-at}
 use Rattle.scan.proofs.Greedy.{longest-one, split}
 use Rattle.utf8.specs.declared.Reading.{Reading}
 use Rattle.utf8.specs.declared.Reading.the-variants.{Crate, Documented}
@@ -27,15 +28,15 @@ use Rattle.numeral.specs.declared.Part.the-variants as part
 use Rattle.numeral.specs.declared.Numeral.{Numeral}
 use Rattle.numeral.specs.declared.Numeral.the-variants.{Number, Duration, Neither}
 use Rattle.numeral.specs.Numeral.{isFirstUnit, numberEnd, durationFrom, taken, numeralOf}
-use Rattle.numeral.specs.Texts.{Begun, NumberText, Units, DurationText}
-use Rattle.numeral.specs.laws.Texts.{IsNeither, NeitherGiven, TakenText, BegunText, CratePlace, SoPlaced, FirstMisplaced, UnitAfterSeparated, MisplacedGiven, UnitGiven, OtherPlace}
+use Rattle.numeral.specs.Texts.{Begun, NumberText, isOneOf, Units, DurationText}
+use Rattle.numeral.specs.laws.Texts.{IsNeither, NeitherGiven, TakenText, BegunText, BegunAlone, CratePlace, SoPlaced, FirstMisplaced, UnitAfterSeparated, MisplacedGiven, UnitGiven, Unnamed, DocumentedPlace}
 use Rattle.numeral.proofs.Given.{front-take, front-peek, front-within, unit-letter, Way, number, stopped, units, way, in-three, is-stopped, number-given, duration-given}
-use Rattle.numeral.proofs.Plain.{has-append, crate-plain, duration-plain}
+use Rattle.numeral.proofs.Plain.{crate-plain, duration-plain}
 use Rattle.numeral.proofs.Texts.{neither-of, number-longest, number-stopped, number-cut}
-use Rattle.numeral.proofs.Units.{Path, path-units, numeralNumber, reading-path, units-letter}
+use Rattle.numeral.proofs.Units.{first-units-are, Path, path-units, numeralNumber, reading-path, units-letter}
 
 -- a longer text than n bytes, or not
-longer : (n m : ℕ) → (n < m → ⊥) → m ≤ n
+pub longer : (n m : ℕ) → (n < m → ⊥) → m ≤ n
 longer n m h = go (ltb n m) refl
   where
     go : (b : Bool) → ltb n m ≡ b → m ≤ n
@@ -183,7 +184,7 @@ neither-given r xs b n = (to, from)
         go (Neither m) e = ap Neither (longest-one _ xs m n (subst (Longest (TakenText r) xs) (ap taken e) (taken-longest r xs b)) (i .2))
 
 -- what is taken has the longest number text in it
-number-within : (r : Reading) (xs : List ℕ) → Begun xs → (n : ℕ) → Longest (TakenText r) xs n → numberEnd r xs ≤ n
+pub number-within : (r : Reading) (xs : List ℕ) → Begun xs → (n : ℕ) → Longest (TakenText r) xs n → numberEnd r xs ≤ n
 number-within r xs b n h =
     let l = number-longest r xs b in
     omega (arith, h .most (take (numberEnd r xs) xs) (drop (numberEnd r xs) xs) (sym (take-append-drop (numberEnd r xs) xs)) (inl (l .there)), length-take-le (numberEnd r xs) xs (l .within))
@@ -229,9 +230,19 @@ module _ (r : Reading) (xs : List ℕ) (b : Begun xs) (n : ℕ) (h : Longest (Ta
           (λ p. not-taken in-bytes (inr (drop (suc n) t ++ p .0, subst (DurationText r) (onward (p .0)) (p .1))))
           x
 
-pub crate-place : CratePlace
+-- where it is neither, it is so at one place
+one-place :
+    (r : Reading) (xs : List ℕ) → Begun xs → ((n : ℕ) → numeralOf r xs ≡ Neither n → Longest (BegunText r) xs n) → (n : ℕ) → BegunAlone r xs n → numeralOf r xs ≡ Neither n
+one-place r xs b place n a = go (numeralOf r xs) refl
+  where
+    go : (v : Numeral) → numeralOf r xs ≡ v → v ≡ Neither n
+    go (Number m) e = absurd (a .0 m (number-given r xs b m .0 e))
+    go (Duration m) e = absurd (a .1 m (duration-given r xs b m .0 e))
+    go (Neither m) e = ap Neither (longest-one _ xs m n (place m e) (a .2))
+
+crate-longest : (xs : List ℕ) → Begun xs → (n : ℕ) → numeralOf Crate xs ≡ Neither n → Longest (BegunText Crate) xs n
 unfolding has
-crate-place xs b n e = begun-longest Crate xs b n (subst (Longest (TakenText Crate) xs) (ap taken e) (taken-longest Crate xs b)) none
+crate-longest xs b n e = begun-longest Crate xs b n (subst (Longest (TakenText Crate) xs) (ap taken e) (taken-longest Crate xs b)) none
   where
     none : (z : List ℕ) → eqb (peekAt xs n) separator ≡ true → NumberText Crate ((take n xs ++ (peekAt xs n ∷ [])) ++ z) → ⊥
     none z s p =
@@ -239,25 +250,24 @@ crate-place xs b n e = begun-longest Crate xs b n (subst (Longest (TakenText Cra
         sym (has-append separator (take n xs ++ (peekAt xs n ∷ [])) z ∙ ap (λ i. i || has separator z) (has-append separator (take n xs) (peekAt xs n ∷ []))) ∙ crate-plain _ p in
         true≢false (sym (ap (λ i. i || false) s) ∙ neither-of (has separator (take n xs)) _ (neither-of (has separator (take n xs) || has separator (peekAt xs n ∷ [])) _ f .0) .1)
 
-pub other-place : OtherPlace
-other-place xs b n e s =
-    begun-longest Documented xs b n (subst (Longest (TakenText Documented) xs) (ap taken e) (taken-longest Documented xs b)) (λ z i p. s (eqb-true (peekAt xs n) separator i))
+pub crate-place : CratePlace
+crate-place xs b n = (
+  (λ e. let i = neither-given Crate xs b n .0 e in (i .0, i .1, crate-longest xs b n e)),
+  one-place Crate xs b (crate-longest xs b) n,
+)
 
--- an underscore in what a duration begins with there is none
-none-stands : (t : List ℕ) → has separator t ≡ false → (i : ℕ) → i < length t → peekAt t i ≡ separator → ⊥
-unfolding has
-none-stands [] h i l e = absurd (omega (arith, l))
-none-stands (x ∷ t) h zero l e = true≢false (sym (ap (λ y. eqb y separator) e) ∙ neither-of (eqb x separator) _ h .0)
-none-stands (x ∷ t) h (suc i) l e = none-stands t (neither-of (eqb x separator) _ h .1) i (omega (arith, l)) e
+documented-longest : (xs : List ℕ) → Begun xs → (n : ℕ) → numeralOf Documented xs ≡ Neither n → (peekAt xs n ≡ separator → ⊥) → Longest (BegunText Documented) xs n
+documented-longest xs b n e s =
+    begun-longest Documented xs b n (subst (Longest (TakenText Documented) xs) (ap taken e) (taken-longest Documented xs b)) (λ z i p. s (eqb-true (peekAt xs n) separator i))
 
 module _ (xs : List ℕ) (b : Begun xs) where
   -- an underscore in what is taken is so placed
-  taken-placed : (n : ℕ) → n ≤ length xs → TakenText Documented (take n xs) → (i : ℕ) → i < n → peekAt xs i ≡ separator → SoPlaced xs i
+  pub taken-placed : (n : ℕ) → n ≤ length xs → TakenText Documented (take n xs) → (i : ℕ) → i < n → peekAt xs i ≡ separator → SoPlaced xs i
   taken-placed n w (inl p) i l e = (n, l, w, p)
   taken-placed n w (inr (z, d)) i l e =
       let m : length (take n xs) ≡ n = length-take-le n xs w in
       let at : peekAt (take n xs ++ z) i ≡ separator = List·getD-append (take n xs) z end i (omega (arith, m)) ∙ getD-take n xs i end l ∙ e in
-      absurd (none-stands (take n xs ++ z) (duration-plain Documented (take n xs ++ z) d) i (omega (arith, m, length-append (take n xs) z)) at)
+      absurd (true≢false (sym (ap (λ y. eqb y separator) at) ∙ none-at separator (take n xs ++ z) (duration-plain Documented (take n xs ++ z) d) i (omega (arith, m, length-append (take n xs) z))))
 
   -- and none behind it is
   not-placed : (n : ℕ) → Longest (TakenText Documented) xs n → SoPlaced xs n → ⊥
@@ -302,7 +312,7 @@ unit-given xs b n = (to, from)
     long : Longest (NumberText Documented) xs (numberEnd Documented xs)
     long = number-longest Documented xs b
 
-    to : (numeralOf Documented xs ≡ Neither n) × (has separator (take n xs) ≡ true) × (isFirstUnit (peekAt xs n) ≡ true) → UnitAfterSeparated xs n
+    to : (numeralOf Documented xs ≡ Neither n) × (has separator (take n xs) ≡ true) × (isOneOf "smhdwy" (peekAt xs n) ≡ true) → UnitAfterSeparated xs n
     to e = record { number = ⊎-elim here there (h .there); separated = e .1; unit = e .2 }
       where
         h : Longest (TakenText Documented) xs n
@@ -318,9 +328,34 @@ unit-given xs b n = (to, from)
             let f : has separator (take n xs) || has separator (q .0) ≡ false = sym (has-append separator (take n xs) (q .0)) ∙ duration-plain Documented _ (q .1) in
             absurd (true≢false (sym (e .1) ∙ neither-of (has separator (take n xs)) _ f .0))
 
-    from : UnitAfterSeparated xs n → (numeralOf Documented xs ≡ Neither n) × (has separator (take n xs) ≡ true) × (isFirstUnit (peekAt xs n) ≡ true)
+    from : UnitAfterSeparated xs n → (numeralOf Documented xs ≡ Neither n) × (has separator (take n xs) ≡ true) × (isOneOf "smhdwy" (peekAt xs n) ≡ true)
     from u =
         let m : numberEnd Documented xs ≡ n = longest-one _ xs (numberEnd Documented xs) n long (u .number) in
-        let c : isFirstUnit (peekAt xs (numberEnd Documented xs)) ≡ true = ap (λ i. isFirstUnit (peekAt xs i)) m ∙ u .unit in
+        let c : isFirstUnit (peekAt xs (numberEnd Documented xs)) ≡ true = ap (λ i. isFirstUnit (peekAt xs i)) m ∙ sym (first-units-are (peekAt xs n)) ∙ u .unit in
         let s : has separator (take (numberEnd Documented xs) xs) ≡ true = ap (λ (i : ℕ). has separator (take i xs)) m ∙ u .separated in
         (is-stopped Documented xs (unit-letter _ c) (ap₂ (λ x y. x && not y) c s) ∙ ap Neither m, u .separated, u .unit)
+
+pub documented-place : DocumentedPlace
+documented-place xs b n = (to, ⊎-elim (λ f. misplaced-given xs b n .1 f .0) (⊎-elim (λ u. unit-given xs b n .1 u .0) rest))
+  where
+    -- which of the places it is
+    to : numeralOf Documented xs ≡ Neither n → FirstMisplaced xs n ⊎ (UnitAfterSeparated xs n ⊎ Unnamed xs n)
+    to e = go (eqb (peekAt xs n) separator) refl (has separator (take n xs) && isOneOf "smhdwy" (peekAt xs n)) refl
+      where
+        same : (m : ℕ) → numeralOf Documented xs ≡ Neither m → m ≡ n
+        same m f = ap taken (sym f ∙ e)
+
+        go : (y : Bool) → eqb (peekAt xs n) separator ≡ y → (u : Bool) → has separator (take n xs) && isOneOf "smhdwy" (peekAt xs n) ≡ u → FirstMisplaced xs n ⊎ (UnitAfterSeparated xs n ⊎ Unnamed xs n)
+        go true s u h = inl (misplaced-given xs b n .0 (e, eqb-true (peekAt xs n) separator s))
+        go false s true h = inr (inl (unit-given xs b n .0 (e, and-left (has separator (take n xs)) _ h, and-right (has separator (take n xs)) _ h)))
+        go false s false h =
+            let i = neither-given Documented xs b n .0 e in
+            let other : peekAt xs n ≡ separator → ⊥ = λ p. true≢false (sym (ap (λ c. eqb c separator) p) ∙ s) in
+            inr (inr (
+              (λ m f. let q = misplaced-given xs b m .1 f in other (ap (peekAt xs) (sym (same m (q .0))) ∙ q .1)),
+              (λ m u. let q = unit-given xs b m .1 u in true≢false (sym (ap₂ _&&_ (q .1) (q .2)) ∙ ap (λ (j : ℕ). has separator (take j xs) && isOneOf "smhdwy" (peekAt xs j)) (same m (q .0)) ∙ h)),
+              (i .0, i .1, documented-longest xs b n e other),
+            ))
+
+    rest : Unnamed xs n → numeralOf Documented xs ≡ Neither n
+    rest a = one-place Documented xs b (λ m e. documented-longest xs b m e (λ s. a .0 m (misplaced-given xs b m .0 (e, s)))) n (a .2)

@@ -15,6 +15,7 @@ use Rattle.scan.specs.Separated.{separator}
 use Rattle.scan.specs.Sign.{isSign}
 use Rattle.scan.specs.Text.{has}
 use Rattle.scan.specs.laws.Separated.{SeparatedDigits}
+use Rattle.scan.proofs.Stands.{has-append}
 use Rattle.scan.proofs.separated.Texts.{digits-apart}
 use Rattle.utf8.specs.declared.Reading.{Reading}
 use Rattle.utf8.specs.declared.Reading.the-variants.{Crate}
@@ -23,15 +24,6 @@ use Rattle.numeral.proofs.Units.{units-plain}
 
 abbrev Plain : (List ℕ → Type 0) → Type 0
 Plain l = (t : List ℕ) → l t → has separator t ≡ false
-
-pub has-append : (c : ℕ) (u v : List ℕ) → has c (u ++ v) ≡ has c u || has c v
-unfolding has
-has-append c [] v = refl
-has-append c (x ∷ u) v = go (eqb x c) (has-append c u v)
-  where
-    go : (b : Bool) → has c (u ++ v) ≡ has c u || has c v → b || has c (u ++ v) ≡ (b || has c u) || has c v
-    go true e = refl
-    go false e = e
 
 then-plain : {l m : List ℕ → Type 0} → Plain l → Plain m → Plain (Then l m)
 then-plain a b t p =

@@ -266,7 +266,7 @@ module _ (r : Reading) where
           let w : t ++ rest ≡ x .front ++ (x .back ++ rest) = ap (λ (s : List ℕ). s ++ rest) (x .whole) ∙ append-assoc (x .front) (x .back) rest in
           absurd (true≢false (sym (prefix-hex (x .front) (x .back ++ rest) (x .first)) ∙ sym (ap isHex w) ∙ h))
 
-  begun-front : (xs : List ℕ) (n : ℕ) → ((isDigit (peekAt xs 0) ≡ true) × (1 ≤ n)) ⊎ ((peekAt xs 0 ≡ code ".") × (isDigit (peekAt xs 1) ≡ true) × (2 ≤ n)) → Begun (take n xs)
+  pub begun-front : (xs : List ℕ) (n : ℕ) → ((isDigit (peekAt xs 0) ≡ true) × (1 ≤ n)) ⊎ ((peekAt xs 0 ≡ code ".") × (isDigit (peekAt xs 1) ≡ true) × (2 ≤ n)) → Begun (take n xs)
   begun-front xs n (inl b) = inl (ap isDigit (getD-take n xs 0 end (omega (arith, b .1))) ∙ b .0)
   begun-front xs n (inr b) =
       inr (getD-take n xs 0 end (omega (arith, b .2)) ∙ b .0, ap isDigit (getD-take n xs 1 end (omega (arith, b .2))) ∙ b .1)

@@ -10,18 +10,21 @@ use mathlib.Core.Bool.{Bool, true, false, cond, _&&_, _||_, not, or-true, true�
 use mathlib.Core.List.{List, [], _∷_, _++_, append-assoc, append-nil}
 use mathlib.Core.Logic.{_⊎_, inl, inr, ⊎-elim}
 use mathlib.Core.Path.{_≡_, refl, sym, ap, ap₂, subst, _∙_}
-use lib.Dec.{eqb}
+use lib.Dec.{eqb, ltb}
 use lib.ListN.{length, getD, drop}
-use borrow.Author.Tests.{eqb-true}
-use Rattle.proving.proofs.Below.{below}
-use Rattle.proving.proofs.Choice.{either, told}
+use borrow.Author.Tests.{eqb-true, ltb-true}
+use Rattle.proving.proofs.Below.{allBelow, below}
+use Rattle.proving.proofs.Choice.{either, and-left, and-right, told}
 use Rattle.scan.specs.declared.byte.Class.the-variants.{Digit}
 use Rattle.scan.specs.declared.separated.Separators.the-variants.{Never}
+use Rattle.scan.specs.Ascii.{ascii}
 use Rattle.scan.specs.Byte.{end, peekAt, isWithin, isAlpha, isAlphaNumeric, isDigit, isIn}
 use Rattle.scan.specs.Language.{One, one, Then, Optional, nothing, marked}
 use Rattle.scan.specs.Separated.{separator}
 use Rattle.scan.specs.Text.{has}
 use Rattle.scan.specs.laws.Separated.{SeparatedDigits}
+use Rattle.scan.specs.laws.Edge.{AsciiAlone}
+use Rattle.scan.proofs.Edges.{one-ascii, or-ascii}
 use Rattle.scan.proofs.separated.Texts.{digits-apart}
 use Rattle.numeral.specs.declared.Part.{Part}
 use Rattle.numeral.specs.declared.Part.the-variants as part
@@ -30,9 +33,43 @@ use Rattle.numeral.specs.declared.Turn.the-variants.{On, Ends, Fails}
 use Rattle.numeral.specs.declared.Numeral.{Numeral}
 use Rattle.numeral.specs.declared.Numeral.the-variants.{Number, Duration, Neither}
 use Rattle.numeral.specs.Numeral.{isUnit, isFirstUnit, stopOf, turnOf, turned, partBehind, durationFrom, taken}
-use Rattle.numeral.specs.Texts.{OptionalS, SomeDigits, Repeat, Repeats, none, more, Units}
-use Rattle.numeral.proofs.Texts.{not-both, neither-of}
+use Rattle.numeral.specs.Texts.{isOneOf, OptionalS, SomeDigits, Repeat, Repeats, none, more, Units}
+use Rattle.numeral.proofs.Texts.{implied, not-both, neither-of}
 use Rattle.numeral.proofs.Turns.{unit-ascii, not-on, on-inside, turned-at}
+
+-- the letters of units are those that are tested
+abbrev areAscii : List ℕ → Bool
+areAscii [] = true
+areAscii (x ∷ xs) = ltb x 0x80 && areAscii xs
+
+has-ascii : (t : List ℕ) → areAscii t ≡ true → AsciiAlone (λ c. has c t)
+unfolding has
+has-ascii [] a c e = absurd (true≢false (sym e))
+has-ascii (x ∷ t) a c e = go (eqb x c) refl e (has-ascii t (and-right (ltb x 0x80) _ a) c)
+  where
+    go : (b : Bool) → eqb x c ≡ b → b || has c t ≡ true → (has c t ≡ true → c < 0x80) → c < 0x80
+    go true i f g = omega (arith, eqb-true x c i, ltb-true x 0x80 (and-left (ltb x 0x80) _ a))
+    go false i f g = g f
+
+alike : (p q : ℕ → Bool) → AsciiAlone p → AsciiAlone q → allBelow (λ c. not (p c) || q c) 0x80 ≡ true → allBelow (λ c. not (q c) || p c) 0x80 ≡ true → (c : ℕ) → p c ≡ q c
+alike p q a b s t c = go (p c) refl (q c) refl
+  where
+    go : (x : Bool) → p c ≡ x → (y : Bool) → q c ≡ y → x ≡ y
+    go true e true f = refl
+    go true e false f = sym (implied _ _ (below (λ c. not (p c) || q c) 0x80 s c (a c e)) e) ∙ f
+    go false e true f = sym (sym (implied _ _ (below (λ c. not (q c) || p c) 0x80 t c (b c f)) f) ∙ e)
+    go false e false f = refl
+
+units-are : (c : ℕ) → isOneOf "smhdw" c ≡ isUnit c
+unfolding isUnit has
+units-are = alike (isOneOf "smhdw") isUnit (has-ascii (ascii "smhdw") refl) unit-ascii refl refl
+
+pub first-ascii : AsciiAlone isFirstUnit
+first-ascii = or-ascii _ _ (one-ascii (code "y") (omega arith)) unit-ascii
+
+pub first-units-are : (c : ℕ) → isOneOf "smhdwy" c ≡ isFirstUnit c
+unfolding isUnit has
+first-units-are = alike (isOneOf "smhdwy") isFirstUnit (has-ascii (ascii "smhdwy") refl) first-ascii refl refl
 
 -- a duration may end behind a unit and behind its s, but not in digits
 abbrev pub MayEnd : Part → Type 0
@@ -90,8 +127,8 @@ unfolding isIn
 some-path p [] t d q = absurd (omega (arith, d .1))
 some-path p (x ∷ ds) t d q = let e = digits-apart (isIn Digit) x ds .0 (d .0) in (part.Digits, turn-digit p x (e .0), digits-path ds t (e .1) q)
 
-unit-path : (u t : List ℕ) → One isUnit u → Path part.Unit t → Path part.Digits (u ++ t)
-unit-path _ t (one x e) p = (part.Unit, turn-unit x e, p)
+unit-path : (u t : List ℕ) → One (isOneOf "smhdw") u → Path part.Unit t → Path part.Digits (u ++ t)
+unit-path _ t (one x e) p = (part.Unit, turn-unit x (sym (units-are x) ∙ e), p)
 
 s-path : (o t : List ℕ) → OptionalS o → ((p : Part) → MayEnd p → Path p t) → Path part.Unit (o ++ t)
 s-path _ t nothing p = p part.Unit tt
@@ -113,14 +150,14 @@ rest-path t q = subst (Path part.Unit) (sym (q .whole)) (s-path (q .front) (q .b
 pub units-path : (t : List ℕ) → Units t → (c : ℕ) × (w : List ℕ) × (t ≡ c ∷ w) × (isFirstUnit c ≡ true) × Path part.Unit w
 units-path t q = go (q .front) (q .first) (q .whole)
   where
-    go : (u : List ℕ) → One isFirstUnit u → t ≡ u ++ q .back → (c : ℕ) × (w : List ℕ) × (t ≡ c ∷ w) × (isFirstUnit c ≡ true) × Path part.Unit w
-    go _ (one c e) f = (c, q .back, f, e, rest-path (q .back) (q .second))
+    go : (u : List ℕ) → One (isOneOf "smhdwy") u → t ≡ u ++ q .back → (c : ℕ) × (w : List ℕ) × (t ≡ c ∷ w) × (isFirstUnit c ≡ true) × Path part.Unit w
+    go _ (one c e) f = (c, q .back, f, sym (first-units-are c) ∙ e, rest-path (q .back) (q .second))
 
 -- and the paths are the grammar's texts
 abbrev Rest : Part → List ℕ → Type 0
 Rest part.Unit = Then OptionalS Repeats
 Rest part.UnitS = Repeats
-Rest part.Digits = Then (SeparatedDigits (isIn Digit) Never) (Then (One isUnit) (Then OptionalS Repeats))
+Rest part.Digits = Then (SeparatedDigits (isIn Digit) Never) (Then (One (isOneOf "smhdw")) (Then OptionalS Repeats))
 
 one-repeat : (x : ℕ) (t : List ℕ) → isIn Digit x ≡ true → Rest part.Digits t → Repeats (x ∷ t)
 one-repeat x t e q =
@@ -157,10 +194,10 @@ path-rest p (c ∷ t) q = go p (q .0) (goes p (q .0) c (q .1)) (path-rest (q .0)
     go part.UnitS _ (digit _ d) r = one-repeat c t d r
     go part.Digits _ (digit _ d) r = record { front = c ∷ r .front; back = r .back; first = digits-apart (isIn Digit) c (r .front) .1 (d, r .first); second = r .second; whole = ap (λ (l : List ℕ). c ∷ l) (r .whole) }
     go _ _ (s e) r = record { front = c ∷ []; back = t; first = marked c [] e refl; second = r; whole = refl }
-    go _ _ (unit e) r = record { front = []; back = c ∷ t; first = no-digits; second = record { front = c ∷ []; back = t; first = one c e; second = r; whole = refl }; whole = refl }
+    go _ _ (unit e) r = record { front = []; back = c ∷ t; first = no-digits; second = record { front = c ∷ []; back = t; first = one c (units-are c ∙ e); second = r; whole = refl }; whole = refl }
 
 pub path-units : (c : ℕ) (w : List ℕ) → isFirstUnit c ≡ true → Path part.Unit w → Units (c ∷ w)
-path-units c w e p = record { front = c ∷ []; back = w; first = one c e; second = path-rest part.Unit w p; whole = refl }
+path-units c w e p = record { front = c ∷ []; back = w; first = one c (first-units-are c ∙ e); second = path-rest part.Unit w p; whole = refl }
 
 -- what a duration ends before is neither letter nor digit, and what is neither ends it where it may end
 abbrev turnNumber : Turn → ℕ

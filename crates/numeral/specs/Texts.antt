@@ -2,6 +2,7 @@
 -- scans; `laws/Texts` says that reading finds these.
 use Prim.Native.Nat.{ℕ, _<_}
 use Prim.Native.Char.{code}
+use Prim.Native.String.{String}
 use mathlib.Core.Bool.{Bool, true, false}
 use mathlib.Core.List.{List, [], _++_}
 use mathlib.Core.Logic.{_⊎_}
@@ -20,9 +21,9 @@ use Rattle.scan.specs.Sign.{isSign}
 use Rattle.scan.specs.Text.{has}
 use Rattle.scan.specs.laws.Separated.{SeparatedDigits}
 use Rattle.utf8.specs.declared.Reading.{Reading}
-use Rattle.numeral.specs.Numeral.{betweenDigits, behindPrefix, isUnit, isFirstUnit}
+use Rattle.numeral.specs.Numeral.{betweenDigits, behindPrefix}
 
--- "begun by a digit or, outside brackets, by `.` and a digit"
+-- "begun by a digit or, outside brackets, by `.` and a digit"; whether it stands outside brackets is not its own matter
 abbrev pub Begun : List ℕ → Type 0
 Begun t = (isDigit (peekAt t 0) ≡ true) ⊎ ((peekAt t 0 ≡ code ".") × (isDigit (peekAt t 1) ≡ true))
 
@@ -55,6 +56,9 @@ abbrev pub NumberText : Reading → List ℕ → Type 0
 NumberText r t = Begun t × (DecimalNumber r t ⊎ HexNumber r t)
 
 -- "one of `smhdwy` follows, then an optional s, ..
+abbrev pub isOneOf : String → ℕ → Bool
+isOneOf letters c = has c (ascii letters)
+
 abbrev pub OptionalS : List ℕ → Type 0
 OptionalS = Optional (λ c. eqb c (code "s")) Empty
 
@@ -63,14 +67,14 @@ abbrev pub SomeDigits : List ℕ → Type 0
 SomeDigits t = SeparatedDigits (isIn Digit) Never t × (0 < length t)
 
 abbrev pub Repeat : List ℕ → Type 0
-Repeat = Then SomeDigits (Then (One isUnit) OptionalS)
+Repeat = Then SomeDigits (Then (One (isOneOf "smhdw")) OptionalS)
 
 pub data Repeats : List ℕ → Type 0 where
   none : Repeats []
   more : (u v : List ℕ) → Repeat u → Repeats v → Repeats (u ++ v)
 
 abbrev pub Units : List ℕ → Type 0
-Units = Then (One isFirstUnit) (Then OptionalS Repeats)
+Units = Then (One (isOneOf "smhdwy")) (Then OptionalS Repeats)
 
 -- a duration's text is a number's and, "from there", its units; L2: "A number with a separator can't begin a duration"
 abbrev pub DurationText : Reading → List ℕ → Type 0

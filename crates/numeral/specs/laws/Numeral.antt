@@ -1,12 +1,12 @@
 -- What the crates above may know of numbers and durations, as statements; `proofs/Within`, `proofs/Seam` and
 -- `proofs/Readings` have their proofs.
-use Prim.Native.Nat.{ℕ, _+_, _≤_}
+use Prim.Native.Nat.{ℕ, _+_, _<_, _≤_}
 use Prim.Native.Char.{code}
 use mathlib.Core.Bool.{true, false, cond, _||_}
 use mathlib.Core.List.{List, _∷_, _++_}
 use mathlib.Core.Path.{_≡_}
 use lib.Dec.{eqb}
-use lib.ListN.{drop}
+use lib.ListN.{take, drop}
 use Rattle.scan.specs.declared.byte.Class.{Class}
 use Rattle.scan.specs.declared.byte.Class.the-variants.{Digit, HexDigit}
 use Rattle.scan.specs.Byte.{peekAt, lowered, isAlpha, isDigit, isIn}
@@ -20,6 +20,7 @@ use Rattle.utf8.specs.declared.Reading.the-variants.{Crate, Documented}
 use Rattle.numeral.specs.declared.Part.the-variants.{Unit}
 use Rattle.numeral.specs.declared.Numeral.{Numeral}
 use Rattle.numeral.specs.declared.Numeral.the-variants.{Number, Duration, Neither}
+use Rattle.numeral.specs.Texts.{Begun}
 use Rattle.numeral.specs.Numeral.{isHex, isFirstUnit, durationFrom, taken, numeralOf}
 
 -- what begins with a digit or a point takes one byte at least, and ends within the bytes, behind one that is ASCII
@@ -50,9 +51,16 @@ plainNumeral xs =
     (Number n))
 
 -- the crate reading is that
-abbrev pub CrateAsBefore : Type 0
-CrateAsBefore = (xs : List ℕ) → numeralOf Crate xs ≡ plainNumeral xs
+abbrev pub NumeralAsBefore : Type 0
+NumeralAsBefore = (xs : List ℕ) → numeralOf Crate xs ≡ plainNumeral xs
 
--- and bytes without separators are read alike in both readings
+-- where the documented reading takes no separator, both readings are one,
 abbrev pub ReadAlike : Type 0
-ReadAlike = (xs : List ℕ) → has separator xs ≡ false → numeralOf Documented xs ≡ numeralOf Crate xs
+ReadAlike =
+    (xs : List ℕ) → Begun xs → has separator (take (taken (numeralOf Documented xs)) xs) ≡ false → numeralOf Documented xs ≡ numeralOf Crate xs
+
+-- and where it takes some, the crate reading is stopped at the first
+abbrev pub CrateStopped : Type 0
+CrateStopped =
+    (xs : List ℕ) → Begun xs → (i : ℕ) → i < taken (numeralOf Documented xs) → peekAt xs i ≡ separator → has separator (take i xs) ≡ false →
+    numeralOf Crate xs ≡ Neither i

@@ -14,8 +14,8 @@ use Rattle.scan.specs.Text.{has}
 use Rattle.utf8.specs.declared.Reading.{Reading}
 use Rattle.utf8.specs.declared.Reading.the-variants.{Crate, Documented}
 use Rattle.numeral.specs.declared.Numeral.the-variants.{Number, Duration, Neither}
-use Rattle.numeral.specs.Numeral.{isFirstUnit, numberEnd, numeralOf}
-use Rattle.numeral.specs.Texts.{Begun, NumberText, Units, DurationText}
+use Rattle.numeral.specs.Numeral.{numberEnd, numeralOf}
+use Rattle.numeral.specs.Texts.{Begun, NumberText, isOneOf, Units, DurationText}
 
 -- a number is the longest number text that the bytes begin with
 abbrev pub NumberLongest : Type 0
@@ -50,19 +50,24 @@ IsNeither r xs n = ((m : ℕ) → ¬ (IsNumber r xs m)) × ((m : ℕ) → ¬ (Is
 abbrev pub NeitherGiven : Type 0
 NeitherGiven = (r : Reading) (xs : List ℕ) → Begun xs → (n : ℕ) → numeralOf r xs ≡ Neither n ↔ IsNeither r xs n
 
--- in the crate reading that is the longest text that some number or duration begins with
+-- In the crate reading that is the longest text that some number or duration begins with.
 abbrev pub BegunText : Reading → List ℕ → Type 0
 BegunText r t = FrontOf (NumberText r) t ⊎ FrontOf (DurationText r) t
 
-abbrev pub CratePlace : Type 0
-CratePlace = (xs : List ℕ) → Begun xs → (n : ℕ) → numeralOf Crate xs ≡ Neither n → Longest (BegunText Crate) xs n
+-- it is neither a number nor a duration, and the longest such text has n bytes
+abbrev pub BegunAlone : Reading → List ℕ → ℕ → Type 0
+BegunAlone r xs n = ((m : ℕ) → ¬ (IsNumber r xs m)) × ((m : ℕ) → ¬ (IsDuration r xs m)) × Longest (BegunText r) xs n
 
--- L2: "one underscore may stand between two digits of the same part, or between a hex prefix and its first digit": one is so placed that stands in
--- a number text that the bytes begin with
+abbrev pub CratePlace : Type 0
+CratePlace = (xs : List ℕ) → Begun xs → (n : ℕ) → numeralOf Crate xs ≡ Neither n ↔ BegunAlone Crate xs n
+
+-- In the documented reading it is the first of two places that L2 names, or that. "One underscore may stand between two digits of the same part, or
+-- between a hex prefix and its first digit": an underscore is so placed that stands in a number text which the bytes begin with. Those in a duration's
+-- repeats are not, since these are no part of a number.
 abbrev pub SoPlaced : List ℕ → ℕ → Type 0
 SoPlaced xs i = (m : ℕ) × (i < m) × (m ≤ length xs) × NumberText Documented (take m xs)
 
--- "20 at the first underscore not so placed, ..": it stands behind what is taken, and all underscores before it are so placed
+-- "20 at the first underscore not so placed, ..": it stands behind what is taken; that all before it are so placed follows from this
 pub record FirstMisplaced (xs : List ℕ) (n : ℕ) : Type 0 where
   pub underscore : peekAt xs n ≡ separator
   pub misplaced : ¬ (SoPlaced xs n)
@@ -73,8 +78,9 @@ pub record FirstMisplaced (xs : List ℕ) (n : ℕ) : Type 0 where
 pub record UnitAfterSeparated (xs : List ℕ) (n : ℕ) : Type 0 where
   pub number : Longest (NumberText Documented) xs n
   pub separated : has separator (take n xs) ≡ true
-  pub unit : isFirstUnit (peekAt xs n) ≡ true
+  pub unit : isOneOf "smhdwy" (peekAt xs n) ≡ true
 
+-- each of the two is given so,
 abbrev pub MisplacedGiven : Type 0
 MisplacedGiven =
     (xs : List ℕ) → Begun xs → (n : ℕ) → ((numeralOf Documented xs ≡ Neither n) × (peekAt xs n ≡ separator)) ↔ FirstMisplaced xs n
@@ -82,9 +88,12 @@ MisplacedGiven =
 abbrev pub UnitGiven : Type 0
 UnitGiven =
     (xs : List ℕ) → Begun xs → (n : ℕ) →
-    ((numeralOf Documented xs ≡ Neither n) × (has separator (take n xs) ≡ true) × (isFirstUnit (peekAt xs n) ≡ true)) ↔ UnitAfterSeparated xs n
+    ((numeralOf Documented xs ≡ Neither n) × (has separator (take n xs) ≡ true) × (isOneOf "smhdwy" (peekAt xs n) ≡ true)) ↔ UnitAfterSeparated xs n
 
--- and else, as in the crate reading, behind the longest text that some number or duration begins with
-abbrev pub OtherPlace : Type 0
-OtherPlace =
-    (xs : List ℕ) → Begun xs → (n : ℕ) → numeralOf Documented xs ≡ Neither n → (¬ (peekAt xs n ≡ separator)) → Longest (BegunText Documented) xs n
+-- and there is no other place
+abbrev pub Unnamed : List ℕ → ℕ → Type 0
+Unnamed xs n = ((m : ℕ) → ¬ (FirstMisplaced xs m)) × ((m : ℕ) → ¬ (UnitAfterSeparated xs m)) × BegunAlone Documented xs n
+
+abbrev pub DocumentedPlace : Type 0
+DocumentedPlace =
+    (xs : List ℕ) → Begun xs → (n : ℕ) → numeralOf Documented xs ≡ Neither n ↔ (FirstMisplaced xs n ⊎ (UnitAfterSeparated xs n ⊎ Unnamed xs n))

@@ -4,7 +4,7 @@ use Prim.Native.Nat.{ℕ, zero, suc, _+_, _<_, _≤_}
 use native.Mathlib.Nat.{zero-add, suc-add, add-zero, le-of-suc-le-suc, not-suc-le-zero}
 use native.Mathlib.Numerals.{add-one}
 use native.Mathlib.Omega.{arith}
-use mathlib.Core.Bool.{Bool, true, false, cond, _&&_, _||_, and-false, true≢false}
+use mathlib.Core.Bool.{Bool, true, false, cond, _&&_, and-false, true≢false}
 use mathlib.Core.Logic.{_⊎_, inl, inr, ⊎-elim}
 use mathlib.Core.Path.{_≡_, refl, sym, ap, ap₂, subst, _∙_}
 use mathlib.Core.List.{List, [], _∷_, _++_}
@@ -18,10 +18,9 @@ use Rattle.scan.specs.declared.separated.Separators.the-variants.{Never,
 use Rattle.scan.specs.Byte.{end, peekAt}
 use Rattle.scan.specs.Run.{runLength, runEnd}
 use Rattle.scan.specs.Separated.{separator, isOpen, separatedLength, separatedRun, separatedEnd}
-use Rattle.scan.specs.Text.{has}
 use Rattle.scan.specs.laws.Edge.{Edge}
 use Rattle.scan.specs.laws.Edge as edge
-use Rattle.scan.specs.laws.Separated.{Opens, front, behind, SeparatedNever, SeparatedPlain, SeparatedWithin, SeparatedPasses, SeparatedStopped, SeparatedAppend, EdgeSeparated}
+use Rattle.scan.specs.laws.Separated.{Opens, front, behind, SeparatedNever, SeparatedWithin, SeparatedPasses, SeparatedStopped, SeparatedAppend, EdgeSeparated}
 use Rattle.scan.proofs.Runs.{run-stopped, peek-append}
 
 -- the one behind some digits, the other behind none
@@ -45,15 +44,6 @@ module _ (p : ℕ → Bool) where
   unfolding separatedLength runLength
   never [] = refl
   never (x ∷ xs) = ap (λ (n : ℕ). cond (p x) (suc n) 0) (never xs)
-
-  plain : (b o : Bool) (xs : List ℕ) → has separator xs ≡ false → separatedLength p b o xs ≡ runLength p xs
-  unfolding separatedLength runLength has
-  plain b o [] h = refl
-  plain b o (x ∷ xs) h = go (eqb x separator) h (plain b b xs)
-    where
-      go : (s : Bool) → s || has separator xs ≡ false → (has separator xs ≡ false → separatedLength p b b xs ≡ runLength p xs) → cond (p x) (suc (separatedLength p b b xs)) (cond (o && (s && p (peekAt xs 0))) (suc (separatedLength p b false xs)) 0) ≡ cond (p x) (suc (runLength p xs)) 0
-      go true h f = absurd (true≢false h)
-      go false h f = rw (and-false o, f h) refl
 
   bound : (b o : Bool) (xs : List ℕ) → separatedLength p b o xs ≤ length xs
   unfolding separatedLength
@@ -211,19 +201,6 @@ module _ (p : ℕ → Bool) where
 
 pub separated-never : SeparatedNever
 separated-never p xs n = ap (λ (m : ℕ). n + m) (never p (drop n xs))
-
-drop-plain : (n : ℕ) (xs : List ℕ) → has separator xs ≡ false → has separator (drop n xs) ≡ false
-unfolding has
-drop-plain zero xs h = h
-drop-plain (suc n) [] h = h
-drop-plain (suc n) (x ∷ xs) h = drop-plain n xs (rest (eqb x separator) h)
-  where
-    rest : (s : Bool) → s || has separator xs ≡ false → has separator xs ≡ false
-    rest true h = absurd (true≢false h)
-    rest false h = h
-
-pub separated-plain : SeparatedPlain
-separated-plain p k xs n h = ap (λ (m : ℕ). n + m) (plain p (isOpen k true) (isOpen k false) (drop n xs) (drop-plain n xs h))
 
 pub separated-within : SeparatedWithin
 separated-within p k xs n = omega (arith, bound p (isOpen k true) (isOpen k false) (drop n xs), length-drop n xs)

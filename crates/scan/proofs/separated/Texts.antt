@@ -16,8 +16,9 @@ use Rattle.scan.specs.declared.separated.Separators.{Separators}
 use Rattle.scan.specs.declared.separated.Separators.the-variants.{Never}
 use Rattle.scan.specs.Byte.{end, peekAt}
 use Rattle.scan.specs.Separated.{separator, separatedRun, withoutSeparators}
-use Rattle.scan.specs.laws.Separated.{Opens, front, behind, Placed, SeparatedDigits, DigitsGreedy, DigitsCut, DigitsApart, EachPlaced, DigitsPlaced}
+use Rattle.scan.specs.laws.Separated.{Opens, front, behind, Placed, SeparatedDigits, DigitsGreedy, DigitsCut, DigitsApart, DigitsAlike, EachPlaced, DigitsPlaced}
 use Rattle.scan.proofs.Runs.{inside}
+use Rattle.scan.proofs.Stands.{none-at}
 use Rattle.scan.proofs.separated.Runs.{separated-within, separated-passes, separated-stopped}
 
 -- what stands in the front of a text stands in the text
@@ -126,6 +127,10 @@ digits-greedy p e k = record { within = run-within p e k; taken = run-taken p e 
 pub digits-cut : DigitsCut
 digits-cut p e k = record { none = λ i l. absurd (omega arith); cut = digits-cut-at p e k }
 
+-- where it has no separator, each byte is a digit
+pub digits-alike : DigitsAlike
+digits-alike p k q t h d i l = ⊎-elim inl (λ s. absurd (true≢false (sym (s .0) ∙ none-at separator t h i l))) (d i l)
+
 -- where no separators stand, such a text is digits alone
 none-placed : (p : ℕ → Bool) (t : List ℕ) (i : ℕ) → Placed p Never t i → ⊥
 none-placed p t i q = shut i (q .2)
@@ -139,9 +144,10 @@ digits-alone p t d i l = ⊎-elim (λ e. e) (λ q. absurd (none-placed p t i q))
 
 -- digit by digit
 pub digits-apart : DigitsApart
-digits-apart p x t =
-    ( (λ d. let a = digits-alone p (x ∷ t) d in (a 0 (omega arith), λ i l. inl (a (suc i) (omega (arith, l)))))
-    , λ q. cons (q .0) (q .1) )
+digits-apart p x t = (
+  (λ d. let a = digits-alone p (x ∷ t) d in (a 0 (omega arith), λ i l. inl (a (suc i) (omega (arith, l))))),
+  λ q. cons (q .0) (q .1),
+)
   where
     cons : p x ≡ true → SeparatedDigits p Never t → SeparatedDigits p Never (x ∷ t)
     cons e d zero l = inl e
@@ -178,9 +184,10 @@ pub digits-placed : DigitsPlaced
 digits-placed p s k t = (to, λ q i l. from (q .0) (left-others p t (q .1)) i l)
   where
     to : SeparatedDigits p k t → EachPlaced p k t × SeparatedDigits p Never (withoutSeparators t)
-    to d =
-        ( (λ i e. ⊎-elim (λ h. absurd (true≢false (sym h ∙ ap p (eqb-true (peekAt t i) separator e) ∙ s))) (λ q. q) (d i (inside (λ c. eqb c separator) refl t i e)))
-        , others-left p t (λ i l e. ⊎-elim (λ h. h) (λ q. absurd (true≢false (sym (q .0) ∙ e))) (d i l)) )
+    to d = (
+      (λ i e. ⊎-elim (λ h. absurd (true≢false (sym h ∙ ap p (eqb-true (peekAt t i) separator e) ∙ s))) (λ q. q) (d i (inside (λ c. eqb c separator) refl t i e))),
+      others-left p t (λ i l e. ⊎-elim (λ h. h) (λ q. absurd (true≢false (sym (q .0) ∙ e))) (d i l)),
+    )
 
     from : EachPlaced p k t → OthersPass p t → SeparatedDigits p k t
     from q h i l = go (eqb (peekAt t i) separator) refl

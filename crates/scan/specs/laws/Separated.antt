@@ -42,14 +42,14 @@ DigitsCut = (p : ℕ → Bool) → p end ≡ false → (k : Separators) → Cut 
 abbrev pub DigitsApart : Type 0
 DigitsApart = (p : ℕ → Bool) (x : ℕ) (t : List ℕ) → SeparatedDigits p Never (x ∷ t) ↔ (p x ≡ true) × SeparatedDigits p Never t
 
+-- and in a text that has none it is of no account where they may stand
+abbrev pub DigitsAlike : Type 0
+DigitsAlike =
+    (p : ℕ → Bool) (k q : Separators) (t : List ℕ) → has separator t ≡ false → SeparatedDigits p k t → SeparatedDigits p q t
+
 -- without separators a run with them is a run
 abbrev pub SeparatedNever : Type 0
 SeparatedNever = (p : ℕ → Bool) (xs : List ℕ) (n : ℕ) → separatedEnd p Never xs n ≡ runEnd p xs n
-
--- and so in a text that has none
-abbrev pub SeparatedPlain : Type 0
-SeparatedPlain =
-    (p : ℕ → Bool) (k : Separators) (xs : List ℕ) (n : ℕ) → has separator xs ≡ false → separatedEnd p k xs n ≡ runEnd p xs n
 
 -- it is within the list
 abbrev pub SeparatedWithin : Type 0
