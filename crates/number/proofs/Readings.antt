@@ -4,52 +4,45 @@
 use Prim.Native.Nat.{ℕ, zero, suc}
 use Prim.Native.Char.{code}
 use native.Mathlib.Omega.{arith}
-use mathlib.Core.Bool.{Bool, true, false, _||_, true≢false}
+use mathlib.Core.Bool.{Bool, true, false, true≢false}
 use mathlib.Core.List.{List, [], _∷_, _++_, map}
 use mathlib.Core.Logic.{inl, inr, ⊎-elim}
 use mathlib.Core.Path.{_≡_, refl, sym, ap, subst, _∙_}
 use lib.Dec.{eqb}
 use lib.ListN.{drop}
-use borrow.Author.Tests.{eq-eqb, ne-eqb}
+use lib.Seq.{drop-cons}
+use borrow.Author.Tests.{eq-eqb}
 use Rattle.proving.proofs.Tests.{affirmed, denied, decided}
 use Rattle.scan.specs.declared.byte.Class.the-variants.{Digit}
 use Rattle.scan.specs.Ascii.{ascii}
-use Rattle.scan.specs.Byte.{isWithin, lowered, isHexDigit, isDigitIn, isIn}
-use Rattle.scan.specs.Separated.{separator}
+use Rattle.scan.specs.Byte.{end, peekAt, isWithin, lowered, isHexDigit, isDigitIn, isIn}
+use Rattle.scan.specs.Separated.{separator, withoutSeparators}
 use Rattle.scan.specs.Sign.{pastSign}
 use Rattle.scan.specs.Text.{has, Stands}
+use Rattle.scan.proofs.Runs.{peek-inside}
 use Rattle.scan.proofs.Stands.{tests-has}
-use Rattle.scan.proofs.separated.Whole.{placed-never, placed-without, none-dropped}
+use Rattle.scan.proofs.separated.Whole.{placed-never, placed-without, none-dropped, without-within}
 use Rattle.utf8.specs.declared.Reading.the-variants.{Crate, Documented}
 use Rattle.utf8.specs.declared.Admission.{Admission}
 use Rattle.utf8.specs.declared.Admission.the-variants as admission
 use Rattle.utf8.specs.Answers.{admitted}
+use Rattle.utf8.specs.laws.Refusals.{Taken}
+use Rattle.utf8.proofs.Given.{given-exactly}
 use Rattle.decimal.specs.declared.Notation.{Notation}
 use Rattle.decimal.specs.declared.Notation.the-variants.{Decimal, Hex, Octal}
 use Rattle.decimal.specs.Value.{decimalLimit}
 use Rattle.decimal.specs.laws.Decimal.{Spelled}
 use Rattle.decimal.specs.laws.Spelling.{Sign, Digits, Mantissa, Power, NumeralOf, NameOf}
-use Rattle.decimal.proofs.Cuts.{sign-found, found}
+use Rattle.decimal.proofs.Cuts.{sign-found}
 use Rattle.decimal.proofs.Spelling.{numeral-spelled, names-spelled}
 use Rattle.number.specs.White.{plainText}
 use Rattle.number.specs.Number.{behindZero, behindHex, numberOf, numberIn, parsingBy, parsingOf}
 use Rattle.number.specs.laws.Refusals.{AllDigits, Whole, Marked, NotNumber, HexText, SeparatorsPlaced}
 use Rattle.number.specs.laws.Spelling.{mark}
-use Rattle.number.specs.laws.Readings.{SeparatorRefused, CrateAsBefore, CrateNone, SeparatorsAside, WithoutAsBefore, WithoutAlike}
+use Rattle.number.specs.laws.Readings.{SeparatorRefused, CrateAsBefore, CrateNone, NoEffect, SeparatorsAside, WithoutAsBefore, WithoutAlike}
 use Rattle.number.proofs.Spelling.{whole-spelled}
+use Rattle.number.proofs.Without.{Free, neither, free-none, free-cons, lowered-separator, without-kept}
 use Rattle.number.proofs.Given.{tests-marked, tests-hex, tests-placed, not-number, read, parsing-given}
-
--- no separator stands in it
-abbrev Free : List ℕ → Type 0
-Free xs = has separator xs ≡ false
-
-neither : (s t : Bool) → s || t ≡ false → (s ≡ false) × (t ≡ false)
-neither true t e = absurd (true≢false e)
-neither false t e = (refl, e)
-
-free-cons : (x : ℕ) (xs : List ℕ) → (x ≡ separator → ⊥) → Free xs → Free (x ∷ xs)
-unfolding has
-free-cons x xs n f = rw (ne-eqb x separator n, f)
 
 free-append : (xs ys : List ℕ) → Free xs → Free ys → Free (xs ++ ys)
 unfolding has
@@ -84,18 +77,14 @@ unfolding isIn isWithin
 no-digit x h e = true≢false (sym h ∙ ap (isIn Digit) e)
 
 free-all : (radix : ℕ) (ds : List ℕ) → AllDigits radix ds → Free ds
-free-all radix [] d = unfold has in refl
+free-all radix [] d = free-none
 free-all radix (x ∷ ds) (h, d) = free-cons x ds (no-digit-in radix x h) (free-all radix ds d)
 
 free-digits : (ds : List ℕ) → Digits ds → Free ds
-free-digits [] d = unfold has in refl
+free-digits [] d = free-none
 free-digits (x ∷ ds) (h, d) = free-cons x ds (no-digit x h) (free-digits ds d)
 
--- a letter in either case: a separator has no case
-lowered-separator : lowered separator ≡ separator
-unfolding lowered isWithin
-lowered-separator = refl
-
+-- a letter in either case
 free-lowered : (w : List ℕ) → Free (map lowered w) → Free w
 unfolding has
 free-lowered [] f = refl
@@ -115,7 +104,7 @@ mantissa-free a b m (inr (d, e)) =
     rw e (free-append a _ (both .0) (free-cons (code ".") b (λ z. omega (arith, z)) (both .1)))
 
 power-free : (t d p : List ℕ) → Power t d p → Free p
-power-free t d p (inl n) = rw (n .2) (unfold has in refl)
+power-free t d p (inl n) = rw (n .2) free-none
 power-free t d p (inr (s, k, (e, l, f))) =
     rw f (free-cons e _ (λ z. omega (arith, l, ap lowered z, lowered-separator)) (free-append t d (free-sign t s) (free-digits d (k .0))))
 
@@ -141,12 +130,16 @@ separator-refused t s = not-number t (go (decided (tests-marked t)))
     go (no m) = inr (m, λ k. denied (tests-has separator t) (spelled-free t k) s)
 
 -- what stands behind `0x` has all separators
+here-free : (xs : List ℕ) (n c : ℕ) → peekAt xs n ≡ c → eqb c end ≡ false → (c ≡ separator → ⊥) → Free (drop (suc n) xs) → Free (drop n xs)
+here-free xs n c e i s f =
+    subst Free (sym (drop-cons xs n end (peek-inside xs n (rw e i)))) (free-cons (peekAt xs n) (drop (suc n) xs) (λ w. s (sym e ∙ w)) f)
+
 behind-free : (t : List ℕ) → HexText t → Free (behindHex t) → Free t
 behind-free t (z, x) f =
     let (s, g, e) = sign-found t 0 in
     let n = pastSign t 0 in
-    let past-x = subst Free (sym (found t (suc n) (λ c. eqb c (code "x")) refl (eq-eqb _ _ x))) (free-cons _ _ (λ w. omega (arith, w, x)) f) in
-    let past-zero = subst Free (sym (found t n (λ c. eqb c (code "0")) refl (eq-eqb _ _ z))) (free-cons _ _ (λ w. omega (arith, w, z)) past-x) in
+    let past-x = here-free t (suc n) (code "x") x refl (λ w. omega (arith, w)) f in
+    let past-zero = here-free t n (code "0") z refl (λ w. omega (arith, w)) past-x in
     subst Free (sym e) (free-append s _ (free-sign s g) past-zero)
 
 none-behind : (t : List ℕ) → (Stands separator t → ⊥) → Stands separator (behindHex t) → ⊥
@@ -173,6 +166,15 @@ crate-as-before t = go (has separator t) refl
         let s = tests-has separator t .0 e in
         rw (affirmed (tests-placed Crate t) (λ p. crate-none t .0 p s)) (sym (separator-refused t s))
     go false e = without-as-before Crate t (denied (tests-has separator t) e)
+
+pub no-effect : NoEffect
+unfolding parsingOf
+no-effect r xs k s =
+    let w = without-kept xs (k .1) in
+    let ys = withoutSeparators xs in
+    let l : Taken decimalLimit ys = ((λ n. k .0 (omega (arith, n, without-within xs))), w .0) in
+    let e : parsingOf Crate ys ≡ numberOf (plainText ys) = rw (given-exactly decimalLimit ys .2 .1 l) (crate-as-before (plainText ys)) in
+    read r xs k s ∙ sym (e ∙ ap numberOf (w .1))
 
 pub separators-aside : SeparatorsAside
 separators-aside r xs n =

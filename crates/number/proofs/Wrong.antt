@@ -160,6 +160,18 @@ pub two-separators-are-refused : parse-str-radix-gives (ascii "1__0") Documented
 unfolding parse-str-radix-at
 two-separators-are-refused = parse-str-radix-at _ _
 
+pub unit-behind-digits-with-a-separator-is-refused : parse-str-radix-gives (ascii "1_000m") Documented (Refused (atStart 60))
+unfolding parse-str-radix-at
+unit-behind-digits-with-a-separator-is-refused = parse-str-radix-at _ _
+
+pub x-behind-digits-with-a-separator-is-refused : parse-str-radix-gives (ascii "1_0x") Documented (Refused (atStart 60))
+unfolding parse-str-radix-at
+x-behind-digits-with-a-separator-is-refused = parse-str-radix-at _ _
+
+pub prefix-behind-an-octal-zero-and-a-separator-is-refused : parse-str-radix-gives (ascii "0_0x5") Documented (Refused (atStart 60))
+unfolding parse-str-radix-at
+prefix-behind-an-octal-zero-and-a-separator-is-refused = parse-str-radix-at _ _
+
 pub digits-without-separators-are-read-alike : parse-str-radix-gives (ascii "10") Documented (Value (plain (fin false 5 (pos 1))))
 unfolding parse-str-radix-at
 digits-without-separators-are-read-alike = parse-str-radix-at _ _

@@ -97,13 +97,11 @@ parsedDecimal (Outside negative) = Refused outsideExact
 unfoldable pub numberOf : List ℕ → Parsing
 numberOf t = cond (isMarked t) (markedRead t) (parsedDecimal (decimalOf t))
 
--- L2: "one underscore may stand between two digits of the same part, or between a hex prefix and its first digit": whether each of a text does. Behind
--- `0x`, which follows a sign or none, stand hex digits, and in any other text decimal ones, since one with an 8 or a 9 is no octal
-abbrev pub isPrefixAt : List ℕ → ℕ → Bool
-isPrefixAt t at = isZeroAt t at && eqb (peekAt t (suc at)) (code "x")
-
+-- L2: "one underscore may stand between two digits of the same part, or between a hex prefix and its first digit": whether each of a text does. They
+-- are judged with hex digits behind `0x`, which stands at the front, behind a sign or none; else with decimal digits in the whole text. Octal needs no
+-- test of its own, since a text with an 8 or a 9 is no octal
 abbrev pub isHexText : List ℕ → Bool
-isHexText t = isPrefixAt t (pastSign t 0)
+isHexText t = leadsZero t && isHexMark t
 
 abbrev pub behindHex : List ℕ → List ℕ
 behindHex t = drop (suc (behindZero t)) t
@@ -127,4 +125,4 @@ parsingOf r xs = parsingBy r (admitted decimalLimit xs) (plainText xs)
 -- the refusal of an answer, and of one that has none the number 0, which is no refusal's
 abbrev pub notParsed : Parsing → Refusal
 notParsed (Value n) = noRefusal
-notParsed (Refused r) = r
+notParsed (Refused e) = e

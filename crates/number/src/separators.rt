@@ -8,7 +8,7 @@ ghost use mathlib.Core.Path.{_≡_};
 ghost use lib.ListN.{length};
 ghost use lib.Seq.{sets};
 ghost use Rattle.scan.specs.Separated.{withoutSeparators};
-ghost use Rattle.number.specs.Number.{isPrefixAt, isPlaced};
+ghost use Rattle.number.specs.Number.{isHexText, isPlaced};
 
 pub const SEPARATOR: u8 = b'_';
 
@@ -16,19 +16,20 @@ const HEX_MARK: usize = b'x' as usize;
 
 const PREFIX_LENGTH: usize = 2;
 
-// Whether `0x` stands at a place.
-fn is_prefix_at(t: &[u8], at: usize) -> bool
-    ensures { λ r. ⌜ r ≡ isPrefixAt (now (t .entry)) at ⌝ }
+// Whether `0x` begins a text, behind its sign.
+fn is_hex_text(t: &[u8]) -> bool
+    ensures { λ r. ⌜ r ≡ isHexText (now (t .entry)) ⌝ }
 {
-    crate::is_zero_at(t, at) && byte::peek(t, at + 1) == HEX_MARK
+    let from = sign::past_sign(t, 0);
+    crate::is_zero_at(t, from) && byte::peek(t, from + 1) == HEX_MARK
 }
 
 // Whether each separator of a text stands where the reading has it so.
 pub fn is_placed(reading: Reading, t: &[u8]) -> bool
     ensures { λ r. ⌜ r ≡ isPlaced reading (now (t .entry)) ⌝ }
 {
-    let from = sign::past_sign(t, 0);
-    if is_prefix_at(t, from) {
+    if is_hex_text(t) {
+        let from = sign::past_sign(t, 0);
         let digits = &t[from + PREFIX_LENGTH..];
         return separated::is_all_placed(Class::HexDigit, numeral::behind_prefix(reading), digits);
     }

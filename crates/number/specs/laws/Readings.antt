@@ -26,7 +26,14 @@ CrateAsBefore = (t : List ℕ) → numberIn Crate t ≡ numberOf t
 abbrev pub CrateNone : Type 0
 CrateNone = (t : List ℕ) → SeparatorsPlaced Crate t ↔ (¬ (Stands separator t))
 
--- "has no effect on the value": a text is a number exactly where its separators are placed and it is one without them, and is that number
+-- "has no effect on the value": where its separators are so placed, a text is answered as the crate reading answers the text without them, be that
+-- a number, 53, 60 or 61. They are judged on the text without white space and in lower case
+abbrev pub NoEffect : Type 0
+NoEffect =
+    (r : Reading) (xs : List ℕ) → Taken decimalLimit xs → SeparatorsPlaced r (plainText xs) →
+    parsingOf r xs ≡ parsingOf Crate (withoutSeparators xs)
+
+-- so a text is a number exactly where its separators are so placed and it is one without them, by document 01's rule, and is that number
 abbrev pub SeparatorsAside : Type 0
 SeparatorsAside =
     (r : Reading) (xs : List ℕ) (n : Number) →

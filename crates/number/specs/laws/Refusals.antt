@@ -1,6 +1,6 @@
 -- Document 01's rows 1, 2, 53, 60 and 61 as conditions on a number's text, and the statement that each answer is given exactly when its row
--- holds, in each reading; `proofs/Given` has the proof. But for 1 and 2 they are said of t, the text without white space and in lower case, and
--- but for where its separators stand of u, which is t without them.
+-- holds, in each reading; `proofs/Given` has the proof. Rows 1 and 2 are said of the text itself. Where separators stand is said of t, which is the
+-- text without white space and in lower case. All else is said of u, which is t without its separators.
 use Prim.Native.Nat.{ℕ, _≤_, _<_}
 use Prim.Native.Char.{code}
 use mathlib.Core.Bool.{Bool, true}
@@ -88,11 +88,13 @@ DecimalIs t n =
     ⊎ ((Nan t × (n ≡ plain nan))
     ⊎ (Numeric t × InExact t × (n ≡ nearestOf t))))
 
--- L2: "one underscore may stand between two digits of the same part, or between a hex prefix and its first digit": each one of a text is placed as those
--- in a query's numbers are, by the digits that the text has
+-- L2: "one underscore may stand between two digits of the same part, or between a hex prefix and its first digit". A hex text has `0x` at its front,
+-- behind a sign or none
 abbrev pub HexText : List ℕ → Type 0
 HexText t = LeadsZero t × (peekAt t (behindZero t) ≡ code "x")
 
+-- in a hex text each separator behind `0x` must stand so among hex digits, and in any other text each one among decimal digits; in the crate reading
+-- none may stand anywhere
 abbrev pub SeparatorsPlaced : Reading → List ℕ → Type 0
 SeparatorsPlaced r t =
     (HexText t → EachPlaced (isIn HexDigit) (behindPrefix r) (behindHex t))

@@ -17,7 +17,7 @@ use Rattle.scan.specs.Separated.{allPlaced}
 use Rattle.scan.proofs.Runs.{peek-inside}
 use Rattle.utf8.specs.declared.Reading.{Reading}
 use Rattle.numeral.specs.Numeral.{betweenDigits, behindPrefix}
-use Rattle.number.specs.Number.{isZeroAt, isPrefixAt, isHexText, behindZero, behindHex, isPlaced}
+use Rattle.number.specs.Number.{leadsZero, behindZero, isHexMark, isHexText, behindHex, isPlaced}
 use Rattle.number.proofs.separators.is_placed.Statement.{statement}
 use Rattle.number.proofs.separators.is_placed.Tie as tie
 
@@ -30,25 +30,27 @@ module _ (r : Reading) (t : List ℕ) where
   unfolding isPlaced
   in-other e = rw e
 
+is-hex-text-requires : tie.Need-is-hex-text-requires
+is-hex-text-requires c κs = search needs
+
 past-sign-requires : tie.Need-past-sign-requires
 past-sign-requires c κs = search needs
 
-is-prefix-at-requires : tie.Need-is-prefix-at-requires
-is-prefix-at-requires c κs = search needs
-
 -- both bytes of `0x` are inside
-module _ (c : tie.Then1) where
+module _ (c : tie.After-past-sign) where
   abbrev text : List ℕ
   text = now (c .before .before .before .before .args .t)
 
   abbrev from : ℕ
-  from = c .before .before .past-sign .result
+  from = c .past-sign .result
 
-  prefix : isPrefixAt text from ≡ true
-  prefix = sym (c .before .is-prefix-at .ensures) ∙ c .if1 .taken
+  hex : isHexText text ≡ true
+  hex = sym (c .before .before .is-hex-text .ensures) ∙ c .before .if1 .taken
 
   inside : from + 2 ≤ length text
-  inside = omega (arith, peek-inside text (suc from) (rw (eqb-true (peekAt text (suc from)) (code "x") (and-right (isZeroAt text from) _ prefix))))
+  inside =
+      let x = and-right (leadsZero text) (isHexMark text) hex in
+      omega (arith, c .past-sign .ensures, peek-inside text (behindZero text) (rw (eqb-true (peekAt text (behindZero text)) (code "x") x)))
 
 add-digits : tie.Need-add-digits
 add-digits c = omega (arith, inside c)
@@ -71,12 +73,11 @@ is-all-placed-requires c κs = search needs
 returns : tie.Need-returns
 returns c =
     let d = c .before .before .before in
-    let a = d .before .before .before .before .args in
     let t = text d in
-    let e : from d + 2 ≡ suc (behindZero t) = omega (arith, d .before .before .past-sign .ensures) in
+    let e : from d + 2 ≡ suc (behindZero t) = omega (arith, d .past-sign .ensures) in
     c .is-all-placed .ensures
     ∙ ap₂ (allPlaced (isIn HexDigit)) (c .before .behind-prefix .ensures) (rest-of t (from d + 2) ∙ ap (λ (n : ℕ). drop n t) e)
-    ∙ in-hex (a .reading) t (ap (isPrefixAt t) (sym (d .before .before .past-sign .ensures)) ∙ prefix d)
+    ∙ in-hex (d .before .before .before .before .args .reading) t (hex d)
 
 between-digits-requires : tie.Need-between-digits-requires
 between-digits-requires c κs = search needs
@@ -87,18 +88,18 @@ is-all-placed-requires-2 c κs = search needs
 returns-2 : tie.Need-returns-2
 returns-2 c =
     let d = c .before .before in
-    let a = d .before .before .before .before .args in
+    let a = d .before .before .before .args in
     let t = now (a .t) in
     c .is-all-placed2 .ensures
     ∙ ap (λ k. allPlaced (isIn Digit) k t) (c .before .between-digits .ensures)
-    ∙ in-other (a .reading) t (ap (isPrefixAt t) (sym (d .before .before .past-sign .ensures)) ∙ sym (d .before .is-prefix-at .ensures) ∙ d .if1 .left)
+    ∙ in-other (a .reading) t (sym (d .before .is-hex-text .ensures) ∙ d .if1 .left)
 
 pub is-placed-spec : {M : Type 1} → statement M
 is-placed-spec =
     tie.close
     (tie.spec
+    is-hex-text-requires
     past-sign-requires
-    is-prefix-at-requires
     add-digits
     sub-digits
     part-digits-start
