@@ -395,16 +395,16 @@ static void say_lexemes(const uint16_t *kinds, const uint32_t *starts, const uin
     puts("");
 }
 
-/* `lex`: the lexemes of a query. */
-static bool answer_lex(const struct record *record)
+/* Answers with the lexemes of a query, in a reading. */
+static bool lex(const struct record *record, enum simmerpath_reading reading)
 {
     size_t room = room_of(record, SIMMERPATH_MOST_LEXEMES);
     struct lent query = lend_input(record);
     struct lent kinds = lend(record, "kinds", room, sizeof(uint16_t));
     struct lent starts = lend(record, "starts", room, sizeof(uint32_t));
     struct lent lengths = lend(record, "lengths", room, sizeof(uint32_t));
-    uint64_t answer =
-        simmerpath_lexer(start(&query), query.count, start(&kinds), room, start(&starts), room, start(&lengths), room);
+    uint64_t answer = simmerpath_lexer(start(&query), query.count, reading, start(&kinds), room, start(&starts), room,
+                                       start(&lengths), room);
     take_back_unwritten(&query);
     check_left(&kinds, unless_refused(answer, answer));
     check_left(&starts, unless_refused(answer, answer));
@@ -417,6 +417,18 @@ static bool answer_lex(const struct record *record)
     take_back(&starts);
     take_back(&lengths);
     return true;
+}
+
+/* `lex`: the lexemes of a query, in the crate reading. */
+static bool answer_lex(const struct record *record)
+{
+    return lex(record, SIMMERPATH_READING_CRATE);
+}
+
+/* `lexdoc`: the lexemes of a query, in the documented reading. */
+static bool answer_lexdoc(const struct record *record)
+{
+    return lex(record, SIMMERPATH_READING_DOCUMENTED);
 }
 
 static const struct op ops[] = {
@@ -432,6 +444,7 @@ static const struct op ops[] = {
     {"durexact", answer_durexact},
     {"durwrite", answer_durwrite},
     {"lex", answer_lex},
+    {"lexdoc", answer_lexdoc},
 };
 
 /* The op of a name, or NULL. */
