@@ -248,6 +248,7 @@ pub fn display_duration(secs: u64, nanos: u32, out: &mut Lent<u8>) -> Outcome<&[
 /// How many lexemes a query has; their kinds, starts and lengths are written to the fronts of the lists.
 pub fn lexer<'a>(
     query: &mut Lent<u8>,
+    documented: u32,
     kinds: &'a mut Lent<u16>,
     starts: &'a mut Lent<u32>,
     lengths: &'a mut Lent<u32>,
@@ -260,6 +261,7 @@ pub fn lexer<'a>(
         simmerpath_lexer(
             query.start(),
             query.len(),
+            documented,
             kinds.start(),
             kinds.len(),
             starts.start(),

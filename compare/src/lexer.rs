@@ -17,6 +17,9 @@ const AROUND: &[u8] = b"a5m=~.([ \n\"'`\\}])\x80\xbf";
 /// What stands where the kinds, the starts and the lengths may be written, and around these.
 const BLANK: (u16, u32, u32) = (0xeeee, 0xdddd_dddd, 0xcccc_cccc);
 
+/// The reading, as a number.
+const CRATE: u32 = 0;
+
 /// The function on a query.
 const ON_QUERIES: [Function<[u8]>; 1] = [Function {
     name: "lexer",
@@ -67,7 +70,7 @@ fn lexer(query: &[u8]) -> Option<Difference> {
         );
         let answer = lexed.write(&mut kinds, &mut starts, &mut lengths);
         let must = Outcome::of(answer, (&kinds[..], &starts[..], &lengths[..]));
-        let ours = ffi::lexer(&mut lent, &mut lists.0, &mut lists.1, &mut lists.2);
+        let ours = ffi::lexer(&mut lent, CRATE, &mut lists.0, &mut lists.1, &mut lists.2);
         Difference::between(
             || format!("rooms {room:?}, {around:x} around"),
             &ours,

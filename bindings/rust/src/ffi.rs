@@ -48,6 +48,7 @@ pub mod raw {
         pub fn simmerpath_lexer(
             query: *const u8,
             len: usize,
+            documented: u32,
             kinds: *mut u16,
             kinds_len: usize,
             starts: *mut u32,
@@ -151,6 +152,7 @@ pub(crate) fn display_duration(secs: u64, nanos: u32, out: &mut [u8]) -> u64 {
 /// How many lexemes of a query are written to the fronts of the lists.
 pub(crate) fn lexer(
     query: &[u8],
+    documented: u32,
     kinds: &mut [u16],
     starts: &mut [u32],
     lengths: &mut [u32],
@@ -161,6 +163,7 @@ pub(crate) fn lexer(
         simmerpath_lexer(
             query.as_ptr(),
             query.len(),
+            documented,
             kinds.as_mut_ptr(),
             kinds.len(),
             starts.as_mut_ptr(),

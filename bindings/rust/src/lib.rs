@@ -44,6 +44,7 @@ mod ffi;
 mod lex;
 mod message;
 mod number;
+mod reading;
 pub mod refusal;
 mod string;
 mod text;
@@ -55,14 +56,15 @@ pub use error::Error;
 #[cfg(feature = "raw")]
 #[doc(hidden)]
 pub use ffi::raw;
-#[cfg(feature = "alloc")]
-pub use lex::lexer;
 pub use lex::{lex_into, Lexeme, Lexemes};
+#[cfg(feature = "alloc")]
+pub use lex::{lexer, lexer_in};
 pub use message::Message;
 pub use number::{parse_str_radix, Notation, Number};
+pub use reading::Reading;
 #[cfg(feature = "alloc")]
 pub use string::{escape_string, unquote_str, unquote_string};
-pub use string::{escape_string_into, unquote_string_into, Reading};
+pub use string::{escape_string_into, unquote_string_into};
 pub use text::Text;
 pub use token::{
     get_keyword_token, is_aggregator, is_aggregator_with_param, is_comparison_operator, is_label,

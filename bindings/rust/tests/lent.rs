@@ -9,7 +9,8 @@ use std::time::Duration;
 #[test]
 fn lexemes_in_lent_lists() {
     let (mut kinds, mut starts, mut lengths) = ([0; 5], [0; 5], [0; 5]);
-    let lexemes = lex_into("a[5m]", &mut kinds, &mut starts, &mut lengths).unwrap();
+    let reading = Reading::default();
+    let lexemes = lex_into("a[5m]", reading, &mut kinds, &mut starts, &mut lengths).unwrap();
     assert_eq!(lexemes.len(), 5);
     let last = lexemes.clone().next_back();
     let end = Lexeme {
@@ -25,8 +26,10 @@ fn lexemes_in_lent_lists() {
 
 #[test]
 fn an_empty_list_is_too_short() {
-    let error = lex_into("", &mut [], &mut [], &mut []).unwrap_err();
-    assert_eq!((error.number(), error.byte(), error.character()), (3, 0, 0));
+    for reading in [Reading::Crate, Reading::Documented] {
+        let error = lex_into("", reading, &mut [], &mut [], &mut []).unwrap_err();
+        assert_eq!((error.number(), error.byte(), error.character()), (3, 0, 0));
+    }
 }
 
 #[test]

@@ -117,7 +117,13 @@ fn a_list_that_is_too_short_leaves_all_as_they_were() {
         let mut kinds = vec![BLANK.0; room(0)];
         let mut starts = vec![BLANK.1; room(1)];
         let mut lengths = vec![BLANK.2; room(2)];
-        let lexemes = lex_into("a[5m]", &mut kinds, &mut starts, &mut lengths);
+        let lexemes = lex_into(
+            "a[5m]",
+            Reading::Crate,
+            &mut kinds,
+            &mut starts,
+            &mut lengths,
+        );
         assert_eq!(lexemes.unwrap_err().number(), NO_ROOM);
         assert_eq!(kinds, vec![BLANK.0; room(0)]);
         assert_eq!(starts, vec![BLANK.1; room(1)]);
@@ -128,8 +134,14 @@ fn a_list_that_is_too_short_leaves_all_as_they_were() {
 #[test]
 fn a_refused_query_leaves_the_lists_as_they_were() {
     let (mut kinds, mut starts, mut lengths) = ([BLANK.0; 9], [BLANK.1; 9], [BLANK.2; 9]);
-    let lexemes = lex_into("a + b !", &mut kinds, &mut starts, &mut lengths);
-    assert_eq!(lexemes.unwrap_err().number(), 13);
+    for (query, reading, number) in [
+        ("a + b !", Reading::Crate, 13),
+        ("a + 1_0", Reading::Crate, 20),
+        ("1_0 + 1_", Reading::Documented, 20),
+    ] {
+        let lexemes = lex_into(query, reading, &mut kinds, &mut starts, &mut lengths);
+        assert_eq!(lexemes.unwrap_err().number(), number, "{query}");
+    }
     assert_eq!(
         (kinds, starts, lengths),
         ([BLANK.0; 9], [BLANK.1; 9], [BLANK.2; 9])
