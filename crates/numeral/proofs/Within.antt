@@ -48,7 +48,7 @@ letter-ascii c =
     either (λ n. eqb n (code "e") ≡ true → c < 0x80) (isWithin (code "A") (code "Z") c) (λ u e. omega (arith, within-bounds (code "A") (code "Z") c u)) (λ u. one-ascii (code "e") (omega arith) c)
 
 -- no separator stands before the first digit
-none-before : (r : Reading) → isOpen (betweenDigits r) false ≡ false
+pub none-before : (r : Reading) → isOpen (betweenDigits r) false ≡ false
 none-before Crate = refl
 none-before Documented = refl
 

@@ -1,7 +1,7 @@
 -- A run of digits with separators, over any test of digits: document 02, L2.
 use Prim.Native.Nat.{ℕ, suc, _+_}
 use Prim.Native.Char.{code}
-use mathlib.Core.Bool.{Bool, true, false, cond, _&&_}
+use mathlib.Core.Bool.{Bool, true, false, cond, _&&_, _||_, not}
 use mathlib.Core.List.{List, [], _∷_}
 use lib.Dec.{eqb}
 use lib.ListN.{drop}
@@ -32,3 +32,17 @@ separatedRun p k xs = separatedLength p (isOpen k true) (isOpen k false) xs
 -- where the run that starts at n ends
 abbrev pub separatedEnd : (ℕ → Bool) → Separators → List ℕ → ℕ → ℕ
 separatedEnd p k xs n = n + separatedRun p k (drop n xs)
+
+-- whether each separator of a text is so placed
+unfoldable pub allPlacedFrom : (ℕ → Bool) → Bool → Bool → List ℕ → Bool
+allPlacedFrom p between front [] = true
+allPlacedFrom p between front (x ∷ xs) =
+    (not (eqb x separator) || (front && p (peekAt xs 0))) && allPlacedFrom p between (p x && between) xs
+
+abbrev pub allPlaced : (ℕ → Bool) → Separators → List ℕ → Bool
+allPlaced p k xs = allPlacedFrom p (isOpen k true) (isOpen k false) xs
+
+-- "has no effect on the value": what a text is read as
+unfoldable pub withoutSeparators : List ℕ → List ℕ
+withoutSeparators [] = []
+withoutSeparators (x ∷ xs) = cond (eqb x separator) (withoutSeparators xs) (x ∷ withoutSeparators xs)

@@ -1,9 +1,12 @@
-// Runs of digits with separators, as document 02's L2 has them.
+// Digits with separators, as document 02's L2 has them.
 use crate::byte;
 use crate::byte::Class;
 ghost use mathlib.Core.Path.{_≡_};
-ghost use Rattle.scan.specs.Byte.{isIn};
-ghost use Rattle.scan.specs.Separated.{isOpen, separatedEnd};
+ghost use mathlib.Core.Bool.{_&&_, _||_, not};
+ghost use lib.Dec.{eqb};
+ghost use Prim.Native.Nat.{_+_};
+ghost use Rattle.scan.specs.Byte.{peekAt, isIn};
+ghost use Rattle.scan.specs.Separated.{separator, isOpen, separatedEnd, allPlaced};
 
 const SEPARATOR: usize = b'_' as usize;
 
@@ -36,4 +39,31 @@ pub fn separated_end(k: Class, separators: Separators, s: &[u8], from: usize) ->
         }
     }
     n
+}
+
+// Whether no separator stands at a place, or one that may stand there, with a digit behind it.
+fn is_placed_at(k: Class, allowed: bool, s: &[u8], i: usize) -> bool
+    ensures { λ r. ⌜ r ≡ not (eqb (peekAt (now (s .entry)) i) separator) || (allowed && isIn k (peekAt (now (s .entry)) (i + 1))) ⌝ }
+{
+    if byte::peek(s, i) != SEPARATOR {
+        return true;
+    }
+    allowed && byte::is_in(k, byte::peek(s, i + 1))
+}
+
+// Whether each separator of a text stands where it may.
+pub fn is_all_placed(k: Class, separators: Separators, s: &[u8]) -> bool
+    ensures { λ r. ⌜ r ≡ allPlaced (isIn k) separators (now (s .entry)) ⌝ }
+{
+    let behind = is_open(separators, true);
+    let mut allowed = is_open(separators, false);
+    let mut i = 0;
+    while i < s.len() {
+        if !is_placed_at(k, allowed, s, i) {
+            return false;
+        }
+        allowed = byte::is_in(k, byte::peek(s, i)) && behind;
+        i += 1;
+    }
+    true
 }

@@ -138,11 +138,11 @@ module _ (p : ℕ → Bool) where
       sym (h ∙ ap₂ (λ b o. n + separatedLength p b o (drop n xs)) (open-behind k (ltb from n) g) g)
 
   -- where a separator may stand, by whether one may behind a digit, and at the front
-  abbrev OpensAt : Bool → Bool → List ℕ → ℕ → Type 0
+  abbrev pub OpensAt : Bool → Bool → List ℕ → ℕ → Type 0
   OpensAt b o xs zero = o ≡ true
   OpensAt b o xs (suc i) = (b ≡ true) × (p (peekAt xs i) ≡ true)
 
-  abbrev PlacedAt : Bool → Bool → List ℕ → ℕ → Type 0
+  abbrev pub PlacedAt : Bool → Bool → List ℕ → ℕ → Type 0
   PlacedAt b o xs i = (eqb (peekAt xs i) separator ≡ true) × (p (peekAt xs (suc i)) ≡ true) × OpensAt b o xs i
 
   -- what stands so behind a digit, or behind a separator, stands so in the whole
@@ -207,11 +207,11 @@ separated-within p k xs n = omega (arith, bound p (isOpen k true) (isOpen k fals
 
 -- the two ways to say where a separator may stand are one
 module _ (p : ℕ → Bool) (k : Separators) (xs : List ℕ) where
-  opens : (i : ℕ) → OpensAt p (isOpen k true) (isOpen k false) xs i → Opens p k xs i
+  pub opens : (i : ℕ) → OpensAt p (isOpen k true) (isOpen k false) xs i → Opens p k xs i
   opens zero t = front t
   opens (suc i) t = behind i (t .0) (t .1)
 
-  opens-at : (i : ℕ) → Opens p k xs i → OpensAt p (isOpen k true) (isOpen k false) xs i
+  pub opens-at : (i : ℕ) → Opens p k xs i → OpensAt p (isOpen k true) (isOpen k false) xs i
   opens-at _ (front t) = t
   opens-at _ (behind i t h) = (t, h)
 

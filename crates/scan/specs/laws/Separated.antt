@@ -1,9 +1,9 @@
 -- What a run with separators is, over any test of digits, as statements: the longest text in which each byte is a digit or a separator so placed.
--- `proofs/separated/Runs` has the proofs.
+-- And what it is for all separators of a text to be so placed. `proofs/separated/Runs` and `proofs/separated/Whole` have the proofs.
 use Prim.Native.Nat.{ℕ, suc, _<_, _≤_, max}
 use mathlib.Core.Bool.{Bool, true, false}
 use mathlib.Core.List.{List, _∷_, _++_}
-use mathlib.Core.Logic.{_⊎_}
+use mathlib.Core.Logic.{_↔_, _⊎_}
 use mathlib.Core.Path.{_≡_}
 use lib.Dec.{eqb}
 use lib.ListN.{length}
@@ -11,7 +11,8 @@ use Rattle.scan.specs.declared.separated.Separators.{Separators}
 use Rattle.scan.specs.declared.separated.Separators.the-variants.{Never}
 use Rattle.scan.specs.Byte.{end, peekAt}
 use Rattle.scan.specs.Run.{runEnd}
-use Rattle.scan.specs.Separated.{separator, isOpen, separatedRun, separatedEnd}
+use Rattle.scan.specs.Separated.{separator, isOpen, separatedRun, separatedEnd, allPlaced, withoutSeparators}
+use Rattle.scan.specs.Text.{Stands}
 use Rattle.scan.specs.laws.Edge.{Edge, AsciiAlone}
 
 -- where a separator may stand: behind a digit, and at the front, where the choice has it so
@@ -22,6 +23,10 @@ pub data Opens (p : ℕ → Bool) (k : Separators) (xs : List ℕ) : ℕ → Typ
 -- one that stands so, with a digit behind it
 abbrev pub Placed : (ℕ → Bool) → Separators → List ℕ → ℕ → Type 0
 Placed p k xs i = (eqb (peekAt xs i) separator ≡ true) × (p (peekAt xs (suc i)) ≡ true) × Opens p k xs i
+
+-- the texts of digits with separators so placed, the empty one among them
+abbrev pub Digits : (ℕ → Bool) → Separators → List ℕ → Type 0
+Digits p k t = (i : ℕ) → i < length t → (p (peekAt t i) ≡ true) ⊎ Placed p k t i
 
 -- without separators it is a run
 abbrev pub SeparatedNever : Type 0
@@ -52,3 +57,29 @@ SeparatedAppend =
 abbrev pub EdgeSeparated : Type 0
 EdgeSeparated =
     (p : ℕ → Bool) → AsciiAlone p → (k : Separators) (xs : List ℕ) (n : ℕ) → Edge xs n → Edge xs (separatedEnd p k xs n)
+
+-- each separator of a text is so placed, as it is in a run;
+abbrev pub EachPlaced : (ℕ → Bool) → Separators → List ℕ → Type 0
+EachPlaced p k xs = (i : ℕ) → eqb (peekAt xs i) separator ≡ true → Placed p k xs i
+
+-- this is what the definition tests,
+abbrev pub PlacedTold : Type 0
+PlacedTold = (p : ℕ → Bool) (k : Separators) (xs : List ℕ) → allPlaced p k xs ≡ true ↔ EachPlaced p k xs
+
+-- which says, where none may stand, that none does,
+abbrev pub PlacedNever : Type 0
+PlacedNever = (p : ℕ → Bool) (xs : List ℕ) → EachPlaced p Never xs ↔ (¬ (Stands separator xs))
+
+-- and always holds where none does
+abbrev pub PlacedWithout : Type 0
+PlacedWithout = (p : ℕ → Bool) (k : Separators) (xs : List ℕ) → (¬ (Stands separator xs)) → EachPlaced p k xs
+
+-- what a text is without its separators has none, is the text itself where that has none, and is no longer than it
+abbrev pub NoneLeft : Type 0
+NoneLeft = (xs : List ℕ) → ¬ (Stands separator (withoutSeparators xs))
+
+abbrev pub NoneDropped : Type 0
+NoneDropped = (xs : List ℕ) → (¬ (Stands separator xs)) → withoutSeparators xs ≡ xs
+
+abbrev pub WithoutWithin : Type 0
+WithoutWithin = (xs : List ℕ) → length (withoutSeparators xs) ≤ length xs
