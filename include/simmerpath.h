@@ -209,7 +209,7 @@ enum simmerpath_refusal {
     SIMMERPATH_REFUSED_OUTSIDE_EXACT = 53,               /* a decimal with too many digits, or too far from 1, to be read exactly */
     SIMMERPATH_REFUSED_OUT_OF_RANGE = 54,                /* seconds below 0, not finite, or 2^64 and over; too many nanoseconds */
     SIMMERPATH_REFUSED_OVERSIZED_PART = 55,              /* a part whose number is above 4,294,967,295, in the exact reading */
-    SIMMERPATH_REFUSED_NOT_A_NUMBER = 60,                /* no number */
+    SIMMERPATH_REFUSED_NOT_A_NUMBER = 60,                /* no number, or a _ where none may stand */
     SIMMERPATH_REFUSED_OUTSIDE_I64 = 61                  /* hexadecimal or octal, and outside the signed integers of 64 bits */
 };
 
@@ -297,10 +297,11 @@ uint64_t simmerpath_unquote_string(const uint8_t *literal, size_t literal_length
 uint64_t simmerpath_escape_string(const uint8_t *text, size_t text_length, uint8_t *out, size_t out_length);
 
 /*
- * Reads a number: answers its notation, and writes the bits of its value, a double, to `bits`. Every NaN has the bits
- * 7ff8000000000000. Refuses with TOO_LONG, NOT_UTF8, OUTSIDE_EXACT, NOT_A_NUMBER, OUTSIDE_I64.
+ * Reads a number, in a reading: answers its notation, and writes the bits of its value, a double, to `bits`. White space is
+ * dropped first, wherever it stands. Every NaN has the bits 7ff8000000000000.
+ * Refuses with TOO_LONG, NOT_UTF8, OUTSIDE_EXACT, NOT_A_NUMBER, OUTSIDE_I64.
  */
-uint64_t simmerpath_parse_str_radix(const uint8_t *text, size_t text_length, uint64_t *bits);
+uint64_t simmerpath_parse_str_radix(const uint8_t *text, size_t text_length, uint32_t documented, uint64_t *bits);
 
 /*
  * Reads a duration: answers 0, and writes its seconds and its nanoseconds, which are below a second. A part whose number is above

@@ -314,14 +314,14 @@ static bool answer_unquotedoc(const struct record *record)
     return unquote(record, SIMMERPATH_READING_DOCUMENTED);
 }
 
-/* `number`: the bits of a number's value, and its notation. */
-static bool answer_number(const struct record *record)
+/* Answers with the bits of a number's value, and its notation, in a reading. */
+static bool number(const struct record *record, enum simmerpath_reading reading)
 {
     static const char *const notations[] = {
         [SIMMERPATH_NOTATION_DECIMAL] = "decimal", [SIMMERPATH_NOTATION_HEX] = "hex", [SIMMERPATH_NOTATION_OCTAL] = "octal"};
     struct lent text = lend_input(record);
     struct lent bits = lend(record, "bits", 1, sizeof(uint64_t));
-    uint64_t answer = simmerpath_parse_str_radix(start(&text), text.count, start(&bits));
+    uint64_t answer = simmerpath_parse_str_radix(start(&text), text.count, reading, start(&bits));
     take_back_unwritten(&text);
     check_left(&bits, unless_refused(answer, 1));
     if (simmerpath_is_refusal(answer))
@@ -332,6 +332,18 @@ static bool answer_number(const struct record *record)
         fail(&bits, "was written in an unknown notation");
     take_back(&bits);
     return true;
+}
+
+/* `number`: what a number is, in the crate reading. */
+static bool answer_number(const struct record *record)
+{
+    return number(record, SIMMERPATH_READING_CRATE);
+}
+
+/* `numberdoc`: what a number is, in the documented reading. */
+static bool answer_numberdoc(const struct record *record)
+{
+    return number(record, SIMMERPATH_READING_DOCUMENTED);
 }
 
 /* A function that reads a duration. */
@@ -440,6 +452,7 @@ static const struct op ops[] = {
     {"unquotedoc", answer_unquotedoc},
     {"escape", answer_escape},
     {"number", answer_number},
+    {"numberdoc", answer_numberdoc},
     {"duration", answer_duration},
     {"durexact", answer_durexact},
     {"durwrite", answer_durwrite},
