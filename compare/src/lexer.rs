@@ -1,7 +1,7 @@
 //! Compares lexing with the Rust's.
 
 use crate::comparison::{compare, nowhere, Difference, Function, Outcome};
-use crate::ffi::{self, Lent};
+use crate::ffi::{self, Lent, CRATE};
 use compare::oracle::lexer::Lexed;
 use compare::oracle::token;
 use compare::texts::queries;
@@ -16,9 +16,6 @@ const AROUND: &[u8] = b"a5m=~.([ \n\"'`\\}])\x80\xbf";
 
 /// What stands where the kinds, the starts and the lengths may be written, and around these.
 const BLANK: (u16, u32, u32) = (0xeeee, 0xdddd_dddd, 0xcccc_cccc);
-
-/// The reading, as a number.
-const CRATE: u32 = 0;
 
 /// The function on a query.
 const ON_QUERIES: [Function<[u8]>; 1] = [Function {

@@ -60,7 +60,7 @@ pub use lex::{lex_into, Lexeme, Lexemes};
 #[cfg(feature = "alloc")]
 pub use lex::{lexer, lexer_in};
 pub use message::Message;
-pub use number::{parse_str_radix, Notation, Number};
+pub use number::{parse_str_radix, parse_str_radix_in, Notation, Number};
 pub use reading::Reading;
 #[cfg(feature = "alloc")]
 pub use string::{escape_string, unquote_str, unquote_string};

@@ -3,10 +3,11 @@
 /// By whose rules a text is read, where promql-parser and the documents of Prometheus differ.
 ///
 /// ```
-/// use simmerpath::{lexer_in, unquote_string, Reading};
+/// use simmerpath::{lexer_in, parse_str_radix_in, unquote_string, Reading};
 ///
 /// assert!(lexer_in("1_000", Reading::Crate).is_err());
 /// assert_eq!(lexer_in("1_000", Reading::Documented)?[0].length, 5);
+/// assert_eq!(parse_str_radix_in("1_000", Reading::Documented)?.value, 1000.0);
 ///
 /// assert_eq!(*unquote_string(r"'\xe9'", Reading::Crate)?, *"é".as_bytes());
 /// assert_eq!(*unquote_string(r"'\xe9'", Reading::Documented)?, [0xe9]);

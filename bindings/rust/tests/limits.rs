@@ -3,8 +3,8 @@
 
 use simmerpath::refusal::{NOT_UTF8, NO_ROOM, OVERSIZED_PART, TOO_LONG};
 use simmerpath::{escape_string, escape_string_into, lex_into, lexer, parse_duration};
-use simmerpath::{parse_duration_exact, parse_str_radix, unquote_str, unquote_string};
-use simmerpath::{unquote_string_into, Reading, NUMBER_LIMIT, TEXT_LIMIT};
+use simmerpath::{parse_duration_exact, parse_str_radix, parse_str_radix_in, unquote_str};
+use simmerpath::{unquote_string, unquote_string_into, Reading, NUMBER_LIMIT, TEXT_LIMIT};
 use std::borrow::Cow;
 
 /// What stands in a list before a call.
@@ -79,6 +79,17 @@ fn numbers_and_durations_at_the_limit() {
     assert_eq!(error.number(), TOO_LONG);
     assert_eq!(parse_duration(&format!("{zeros}5s")).unwrap().as_secs(), 5);
     let error = parse_duration(&format!("{zeros}05s")).unwrap_err();
+    assert_eq!(error.number(), TOO_LONG);
+}
+
+#[test]
+fn separators_count_for_the_limit() {
+    let read = |text: &str| parse_str_radix_in(text, Reading::Documented);
+    let digits = "8_".repeat(NUMBER_LIMIT / 2 - 1) + "8";
+    assert_eq!(read(&digits).unwrap_err().number(), 53);
+    let zeros = "0_".repeat(NUMBER_LIMIT / 2 - 1);
+    assert_eq!(read(&format!("{zeros}09")).unwrap().value, 9.0);
+    let error = read(&format!("{zeros}009")).unwrap_err();
     assert_eq!(error.number(), TOO_LONG);
 }
 

@@ -61,6 +61,7 @@ fn answer(record: &str) -> Option<String> {
         "unquote" => unquote_string_into(&bytes, Reading::Crate, &mut lent).map(hex),
         "unquotedoc" => unquote_string_into(&bytes, Reading::Documented, &mut lent).map(hex),
         "number" => parse_str_radix(&bytes).map(number),
+        "numberdoc" => parse_str_radix_in(&bytes, Reading::Documented).map(number),
         "duration" => parse_duration(&bytes).map(timed),
         "durexact" => parse_duration_exact(&bytes).map(timed),
         "durwrite" => Ok(written(&bytes, room)?),

@@ -4,7 +4,8 @@
 
 use simmerpath::token::*;
 use simmerpath::{display_duration, lexer, lexer_in, parse_duration, parse_duration_exact};
-use simmerpath::{parse_str_radix, unquote_string, Error, Lexeme, Notation, Reading};
+use simmerpath::{parse_str_radix, parse_str_radix_in, unquote_string};
+use simmerpath::{Error, Lexeme, Notation, Reading};
 use std::time::Duration;
 
 /// The kinds of the lexemes of a query.
@@ -236,6 +237,36 @@ fn numbers() {
     assert_eq!(number("9007199254740993"), 53);
     assert_eq!(number("0e5"), 60);
     assert_eq!(number("-0x8000000000000000"), 61);
+}
+
+#[test]
+fn numbers_with_separators() {
+    use Notation::{Decimal, Hex, Octal};
+    let crate_number = |text| parse_str_radix(text).unwrap_err().number();
+    let documented = |text| parse_str_radix_in(text, Reading::Documented);
+    let cases = [
+        ("1 _ 0", 10.0, Decimal),
+        ("0x_5", 5.0, Hex),
+        ("-0x_5", -5.0, Hex),
+        ("0x-5_0", -80.0, Hex),
+        ("0_17", 15.0, Octal),
+        ("0_8", 8.0, Decimal),
+        ("1_0e1_0", 1e11, Decimal),
+        ("9_007_199_254_740_992", 9_007_199_254_740_992.0, Decimal),
+    ];
+    for (text, value, notation) in cases {
+        let read = documented(text).unwrap();
+        assert_eq!((read.value, read.notation), (value, notation), "{text}");
+        assert_eq!(crate_number(text), 60, "{text}");
+    }
+    for text in ["0x-_5", "0_x5", "1_e5", "i_nf", "_1", "1_"] {
+        let error = documented(text).unwrap_err();
+        assert_eq!((error.number(), error.has_place()), (60, false), "{text}");
+        assert_eq!(crate_number(text), 60, "{text}");
+    }
+    let number = |text| documented(text).unwrap_err().number();
+    assert_eq!(number("9_007_199_254_740_993"), 53);
+    assert_eq!(number("0x_8000_0000_0000_0000"), 61);
 }
 
 #[test]
