@@ -83,7 +83,7 @@ where
     lexer_in(query, Reading::Crate)
 }
 
-/// The lexemes of a query, its end included.
+/// The lexemes of a query, its end included, in a reading.
 ///
 /// # Errors
 ///
@@ -115,8 +115,8 @@ where
     lex_into(query, reading, &mut kinds, &mut starts, &mut lengths).map(Iterator::collect)
 }
 
-/// Writes the lexemes of a query, its end included, to the fronts of three lists. What stands behind them stays, and where the
-/// query is refused all of it. A query has at most one lexeme more than bytes.
+/// Writes the lexemes of a query, its end included, in a reading, to the fronts of three lists. What stands behind them stays, and
+/// where the query is refused all of it. A query has at most one lexeme more than bytes.
 ///
 /// # Errors
 ///

@@ -2,8 +2,8 @@
 //!
 //! The work is done by C functions that are proved: each ends for all bytes and all lengths of what it is lent, with the one answer
 //! that its definition gives, or with a numbered refusal, after which all that it was lent is as it was. The functions here have
-//! the names of promql-parser's, whose answers they give, but for [`parse_duration_exact`], which that has not. All of them are safe to
-//! call, and none panics.
+//! the names of promql-parser's, whose answers they give. What that has not: [`parse_duration_exact`], and the reading that Prometheus
+//! documents, where it differs, which is asked for by a [`Reading`]. All of them are safe to call, and none panics.
 //!
 //! ```
 //! use simmerpath::token::{T_EOF, T_IDENTIFIER, T_LEFT_BRACKET};

@@ -49,7 +49,7 @@ pub fn parse_str_radix<T: AsRef<[u8]> + ?Sized>(text: &T) -> Result<Number, Erro
     parse_str_radix_in(text, Reading::Crate)
 }
 
-/// The number of a text. White space is dropped, wherever it stands; then it is judged where a `_` stands.
+/// The number of a text in a reading. White space is dropped, wherever it stands, before it is judged where a `_` stands.
 ///
 /// # Errors
 ///
