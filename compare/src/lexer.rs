@@ -1,7 +1,7 @@
 //! Compares lexing with the Rust's.
 
 use crate::comparison::{compare, nowhere, Difference, Function, Outcome};
-use crate::ffi::{self, Lent};
+use crate::ffi::{self, Lent, CRATE};
 use compare::oracle::lexer::Lexed;
 use compare::oracle::token;
 use compare::texts::queries;
@@ -67,7 +67,7 @@ fn lexer(query: &[u8]) -> Option<Difference> {
         );
         let answer = lexed.write(&mut kinds, &mut starts, &mut lengths);
         let must = Outcome::of(answer, (&kinds[..], &starts[..], &lengths[..]));
-        let ours = ffi::lexer(&mut lent, &mut lists.0, &mut lists.1, &mut lists.2);
+        let ours = ffi::lexer(&mut lent, CRATE, &mut lists.0, &mut lists.1, &mut lists.2);
         Difference::between(
             || format!("rooms {room:?}, {around:x} around"),
             &ours,

@@ -1,7 +1,7 @@
 //! Compares the reading of numbers with the Rust's.
 
 use crate::comparison::{compare, Difference, Function, Outcome};
-use crate::ffi::{self, Lent};
+use crate::ffi::{self, Lent, CRATE};
 use compare::oracle::number::{self, is_known};
 use compare::oracle::Answer;
 use compare::texts::numbers;
@@ -35,7 +35,7 @@ fn parse_str_radix(text: &[u8]) -> Option<Difference> {
             Err(refused) => Outcome::of(*refused, blank),
         };
         let mut bits = Lent::new(&[blank], blank);
-        let ours = ffi::parse_str_radix(&mut Lent::new(text, around), &mut bits);
+        let ours = ffi::parse_str_radix(&mut Lent::new(text, around), CRATE, &mut bits);
         Difference::between(|| format!("{around:x} around"), &ours, &must)
     })
 }

@@ -148,7 +148,8 @@ fn lex_into(query: &[u8]) -> Option<Difference> {
         .find_map(|room| {
             let (mut kinds, mut starts) = (vec![0; room], vec![0; room]);
             let mut lengths = vec![0; room];
-            let lexemes = simmerpath::lex_into(query, &mut kinds, &mut starts, &mut lengths);
+            let lexemes =
+                simmerpath::lex_into(query, Reading::Crate, &mut kinds, &mut starts, &mut lengths);
             let must = known_lexemes(&lexed, room);
             difference(
                 &format!("room {room}"),
