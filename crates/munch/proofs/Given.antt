@@ -4,10 +4,10 @@
 use Prim.Native.Nat.{ℕ, suc, _≤_}
 use Prim.Native.Char.{code}
 use native.Mathlib.Omega.{arith}
-use mathlib.Core.Bool.{true, false}
+use mathlib.Core.Bool.{Bool, true, false}
 use mathlib.Core.List.{List}
-use mathlib.Core.Logic.{inl, inr}
-use mathlib.Core.Path.{_≡_, refl, sym, ap, subst, _∙_}
+use mathlib.Core.Logic.{_⊎_, inl, inr}
+use mathlib.Core.Path.{_≡_, refl, sym, ap, ap₂, subst, _∙_}
 use lib.Dec.{eqb}
 use lib.ListN.{drop}
 use borrow.Author.Tests.{eqb-true, eqb-false, ne-eqb}
@@ -34,9 +34,10 @@ use Rattle.munch.specs.declared.Step.{Step}
 use Rattle.munch.specs.declared.Step.the-variants.{Lexeme, Space, Comment, Refused, Finished}
 use Rattle.munch.specs.Word.{isWordStart}
 use Rattle.munch.specs.Munch.{mode, ifNext, refuse, numberBy, numberStep, dotStep, quotedBy, quotedStep, commentStep, wordStep, equalsStep, bangStep, compareStep, rightParenStep, endStep, braceWord, braceEquals, braceBang, colonStep, outsideTable, braceTable, bracketTable, stepIn, munched}
+use Rattle.munch.specs.laws.Modes.{past}
 use Rattle.munch.proofs.Openings.{by-rows, none-takes}
 use Rattle.munch.proofs.Starts.{digit-outside, digit-in-brackets, quote-outside, quote-in-braces}
-use Rattle.munch.specs.laws.Rows.{Outside, InBraces, InBrackets, Begins, Follows, namedOutside, namedInBraces, namedInBrackets, NumberBegins, StringBegins, StringFails, Row, row10, row11, row12, row13, row14, row15, row16, row17, row18, row19, row20, row21, row22, row23, row24, row25, row26, row27, row28, row29, row30, row31, row32, StepIs, RowsGiven, NumbersGiven, RowNumbers, OneRow}
+use Rattle.munch.specs.laws.Rows.{Outside, InBraces, InBrackets, Begins, Follows, namedOutside, namedInBraces, namedInBrackets, NumberBegins, StringBegins, StringFails, Row, row10, row11, row12, row13, row14, row15, row16, row17, row18, row19, row20, row21, row22, row23, row24, row25, row26, row27, row28, row29, row30, row31, row32, RowsGiven, NumbersGiven, NumbersAlone, RowNumbers, OneRow}
 
 -- what a step tells: of a refusal, its row
 abbrev Told : Reading → Mode → List ℕ → Step → Type 0
@@ -178,11 +179,11 @@ module _ (r : Reading) (m : Mode) (xs : List ℕ) where
   brackets-at i b = brackets-by i (ap (stepIn r (m .depth) (Brackets (i .seen) (i .fresh))) b)
 
   -- where a number begins, or a string has its fault
-  number-begun : NumberBegins m xs → (m′ : Mode) × (munched r m xs ≡ numberBy m′ (numeralOf r xs))
+  number-begun : NumberBegins m xs → munched r m xs ≡ numberBy (mode (m .depth) (past (m .inside))) (numeralOf r xs)
   unfolding stepIn outsideTable dotStep numberStep isWordStart isQuote isAlpha isSpace isWithin
-  number-begun (inl (inl o, d)) = (mode (m .depth) Nothing, outside-by o (digit-outside r (m .depth) (peekAt xs 0) d))
-  number-begun (inl (inr i, d)) = (mode (m .depth) (Brackets (i .seen) false), brackets-by i (digit-in-brackets r (m .depth) (i .seen) (i .fresh) (peekAt xs 0) d))
-  number-begun (inr (o, b, d)) = (mode (m .depth) Nothing, outside-at o b ∙ rw d)
+  number-begun (inl (inl o, d)) = outside-by o (digit-outside r (m .depth) (peekAt xs 0) d) ∙ rw o
+  number-begun (inl (inr i, d)) = brackets-by i (digit-in-brackets r (m .depth) (i .seen) (i .fresh) (peekAt xs 0) d) ∙ rw (i .there)
+  number-begun (inr (o, b, d)) = outside-at o b ∙ rw (d, o)
 
   string-fails : (number n : ℕ) → StringFails number n m xs → munched r m xs ≡ Refused number (suc n)
   unfolding quotedStep
@@ -215,7 +216,7 @@ module _ (r : Reading) (m : Mode) (xs : List ℕ) where
   gives (row17 (o, b)) = outside-at o b
   gives (row18 (o, b)) = outside-at o b
   gives (row19 (o, n)) = other-outside o n
-  gives (row20 n (b, e)) = let s = number-begun b in s .1 ∙ ap (numberBy (s .0)) (neither-given r xs (begun-as-number m xs b) n .1 e)
+  gives (row20 n (b, e)) = number-begun b ∙ ap (numberBy _) (neither-given r xs (begun-as-number m xs b) n .1 e)
   gives (row21 n h) = string-fails unknownEscape n h
   gives (row22 n h) = string-fails endInEscape n h
   gives (row23 n h) = string-fails endInString n h
@@ -282,27 +283,74 @@ sizeIn (Comment n) = 0
 sizeIn (Refused number o) = 0
 sizeIn Finished = 0
 
+abbrev modeIn : Mode → Step → Mode
+modeIn m (Lexeme k n m′) = m′
+modeIn m (Space m′) = m
+modeIn m (Comment n) = m
+modeIn m (Refused number o) = m
+modeIn m Finished = m
+
 pub numbers-given : NumbersGiven
-numbers-given r m xs n b = ((λ e. number-given r xs (begun-as-number m xs b) n .0 (number-back e), λ i. given (number-given r xs (begun-as-number m xs b) n .1 i)), (λ e. duration-given r xs (begun-as-number m xs b) n .0 (duration-back e), λ i. given (duration-given r xs (begun-as-number m xs b) n .1 i)))
+numbers-given r m m′ xs n b = (
+  ((λ e. let q = number-back (numeralOf r xs) (sym step ∙ e) in (number-given r xs begun n .0 (q .0), q .1)), λ i. given (Number n) (number-given r xs begun n .1 (i .0)) (i .1)),
+  ((λ e. let q = duration-back (numeralOf r xs) (sym step ∙ e) in (duration-given r xs begun n .0 (q .0), q .1)), λ i. given (Duration n) (duration-given r xs begun n .1 (i .0)) (i .1)),
+)
   where
-    step : (m′ : Mode) × (munched r m xs ≡ numberBy m′ (numeralOf r xs))
+    begun : Begun xs
+    begun = begun-as-number m xs b
+
+    step : munched r m xs ≡ numberBy (mode (m .depth) (past (m .inside))) (numeralOf r xs)
     step = number-begun r m xs b
 
-    given : {v : Numeral} → numeralOf r xs ≡ v → (m′ : Mode) × (munched r m xs ≡ numberBy m′ v)
-    given e = (step .0, step .1 ∙ ap (numberBy (step .0)) e)
+    given : (v : Numeral) → numeralOf r xs ≡ v → m′ ≡ mode (m .depth) (past (m .inside)) → munched r m xs ≡ numberBy m′ v
+    given v e f = step ∙ ap₂ numberBy (sym f) e
 
-    number-back : StepIs number n (munched r m xs) → numeralOf r xs ≡ Number n
-    number-back (m′, e) = go (numeralOf r xs) (sym (step .1) ∙ e)
-      where
-        go : (v : Numeral) → numberBy (step .0) v ≡ Lexeme number n m′ → v ≡ Number n
-        go (Number k) f = ap Number (ap sizeIn f)
-        go (Duration k) f = choice.told kindIn f refl (λ h. absurd (omega (arith, h)))
-        go (Neither k) f = choice.told kindIn f refl (λ h. absurd (omega (arith, h)))
+    number-back : (v : Numeral) → numberBy (mode (m .depth) (past (m .inside))) v ≡ Lexeme number n m′ → (v ≡ Number n) × (m′ ≡ mode (m .depth) (past (m .inside)))
+    number-back (Number k) f = (ap Number (ap sizeIn f), sym (ap (modeIn m′) f))
+    number-back (Duration k) f = choice.told kindIn f refl (λ h. absurd (omega (arith, h)))
+    number-back (Neither k) f = choice.told kindIn f refl (λ h. absurd (omega (arith, h)))
 
-    duration-back : StepIs duration n (munched r m xs) → numeralOf r xs ≡ Duration n
-    duration-back (m′, e) = go (numeralOf r xs) (sym (step .1) ∙ e)
-      where
-        go : (v : Numeral) → numberBy (step .0) v ≡ Lexeme duration n m′ → v ≡ Duration n
-        go (Number k) f = choice.told kindIn f refl (λ h. absurd (omega (arith, h)))
-        go (Duration k) f = ap Duration (ap sizeIn f)
-        go (Neither k) f = choice.told kindIn f refl (λ h. absurd (omega (arith, h)))
+    duration-back : (v : Numeral) → numberBy (mode (m .depth) (past (m .inside))) v ≡ Lexeme duration n m′ → (v ≡ Duration n) × (m′ ≡ mode (m .depth) (past (m .inside)))
+    duration-back (Number k) f = choice.told kindIn f refl (λ h. absurd (omega (arith, h)))
+    duration-back (Duration k) f = (ap Duration (ap sizeIn f), sym (ap (modeIn m′) f))
+    duration-back (Neither k) f = choice.told kindIn f refl (λ h. absurd (omega (arith, h)))
+
+-- where no number begins, the rows that make one are not come to
+none-begins : (b : Bool) → (b ≡ true → ⊥) → b ≡ false
+none-begins true h = absurd (h refl)
+none-begins false h = refl
+
+dot-alone : (r s : Reading) (d : ℕ) (xs : List ℕ) → isDigit (peekAt xs 1) ≡ false → stepIn r d Nothing (code ".") xs ≡ stepIn s d Nothing (code ".") xs
+unfolding stepIn outsideTable dotStep isWordStart isQuote isAlpha isSpace isWithin
+dot-alone r s d xs h = rw h refl
+
+outside-alone :
+    (r s : Reading) (d : ℕ) (xs : List ℕ) (c : ℕ) → isDigit c ≡ false → (b : Bool) → eqb c (code ".") ≡ b → (b ≡ true → isDigit (peekAt xs 1) ≡ false) →
+    stepIn r d Nothing c xs ≡ stepIn s d Nothing c xs
+unfolding stepIn outsideTable
+outside-alone r s d xs c h true e g =
+    let p = eqb-true c (code ".") e in
+    ap (λ y. stepIn r d Nothing y xs) p ∙ dot-alone r s d xs (g refl) ∙ sym (ap (λ y. stepIn s d Nothing y xs) p)
+outside-alone r s d xs c h false e g = rw (h, e) refl
+
+brackets-alone : (r s : Reading) (d : ℕ) (seen fresh : Bool) (xs : List ℕ) (c : ℕ) → isDigit c ≡ false → stepIn r d (Brackets seen fresh) c xs ≡ stepIn s d (Brackets seen fresh) c xs
+unfolding stepIn bracketTable
+brackets-alone r s d seen fresh xs c h = rw h refl
+
+braces-alone : (r s : Reading) (d : ℕ) (xs : List ℕ) (c : ℕ) → stepIn r d Braces c xs ≡ stepIn s d Braces c xs
+unfolding stepIn
+braces-alone r s d xs c = refl
+
+pub numbers-alone : NumbersAlone
+unfolding munched
+numbers-alone r s m xs h = go (m .inside) refl
+  where
+    no-digit : (Outside m ⊎ InBrackets m) → isDigit (peekAt xs 0) ≡ false
+    no-digit w = none-begins (isDigit (peekAt xs 0)) (λ d. h (inl (w, d)))
+
+    go : (i : Inside) → m .inside ≡ i → stepIn r (m .depth) (m .inside) (peekAt xs 0) xs ≡ stepIn s (m .depth) (m .inside) (peekAt xs 0) xs
+    go Nothing e =
+        rw e (outside-alone r s (m .depth) xs (peekAt xs 0) (no-digit (inl e)) (eqb (peekAt xs 0) (code ".")) refl (λ p. none-begins (isDigit (peekAt xs 1)) (λ d. h (inr (e, eqb-true (peekAt xs 0) (code ".") p, d)))))
+    go Braces e = rw e (braces-alone r s (m .depth) xs (peekAt xs 0))
+    go (Brackets seen fresh) e =
+        rw e (brackets-alone r s (m .depth) seen fresh xs (peekAt xs 0) (no-digit (inr (record { seen = seen; fresh = fresh; there = e }))))

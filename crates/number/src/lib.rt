@@ -5,6 +5,7 @@ use decimal::Decimal;
 use decimal::Notation;
 use decimal::Number;
 use scan::byte;
+use scan::separated;
 use scan::sign;
 use utf8::Admission;
 use utf8::ByteOffset;
@@ -352,7 +353,7 @@ fn read_plain(t: &[u8]) -> Parsing
 fn read_kept(reading: Reading, t: &mut [u8]) -> Parsing
     ensures { λ r. ⌜ r ≡ numberIn reading (now (t .entry)) ⌝ }
 {
-    if !scan::contains(t, separators::SEPARATOR) {
+    if !scan::contains(t, separated::SEPARATOR) {
         return read_plain(t);
     }
     if !separators::is_placed(reading, t) {

@@ -10,8 +10,6 @@ ghost use lib.Seq.{sets};
 ghost use Rattle.scan.specs.Separated.{withoutSeparators};
 ghost use Rattle.number.specs.Number.{isHexText, isPlaced};
 
-pub const SEPARATOR: u8 = b'_';
-
 const HEX_MARK: usize = b'x' as usize;
 
 const PREFIX_LENGTH: usize = 2;
@@ -45,7 +43,7 @@ pub fn drop_separators(t: &mut [u8]) -> usize
     let mut at = 0;
     while at < t.len() {
         let byte = t[at];
-        if byte != SEPARATOR {
+        if byte != separated::SEPARATOR {
             t[n] = byte;
             n += 1;
         }

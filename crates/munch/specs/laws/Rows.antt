@@ -17,10 +17,10 @@ use Rattle.quoted.specs.declared.Quoted.the-variants as quoting
 use Rattle.quoted.specs.Quoted.{unknownEscape, endInEscape, endInString, quotedOf}
 use Rattle.munch.specs.declared.Inside.the-variants.{Nothing, Braces, Brackets}
 use Rattle.munch.specs.declared.Mode.{Mode}
-use Rattle.munch.specs.declared.Step.{Step}
 use Rattle.munch.specs.declared.Step.the-variants.{Lexeme, Refused}
 use Rattle.munch.specs.Word.{isWordStart}
-use Rattle.munch.specs.Munch.{is, isEnd, munched}
+use Rattle.munch.specs.Munch.{mode, is, isEnd, munched}
+use Rattle.munch.specs.laws.Modes.{past}
 
 -- where: outside braces and brackets, in braces, in brackets
 abbrev pub Outside : Mode → Type 0
@@ -177,14 +177,16 @@ pub data Row (r : Reading) (m : Mode) (xs : List ℕ) : ℕ → ℕ → Type 0 w
 abbrev pub RowsGiven : Type 0
 RowsGiven = (r : Reading) (m : Mode) (xs : List ℕ) (number o : ℕ) → munched r m xs ≡ Refused number o ↔ Row r m xs number o
 
--- and where a number begins, a step is a NUMBER or a DURATION of so many bytes exactly when `numeral` says so of the texts there
-abbrev pub StepIs : ℕ → ℕ → Step → Type 0
-StepIs kind n s = (m : Mode) × (s ≡ Lexeme kind n m)
-
+-- where a number begins, a step is a NUMBER or a DURATION of so many bytes exactly when `numeral` says so of the texts there; what is open stays so
 abbrev pub NumbersGiven : Type 0
 NumbersGiven =
-    (r : Reading) (m : Mode) (xs : List ℕ) (n : ℕ) → NumberBegins m xs →
-    (StepIs number n (munched r m xs) ↔ IsNumber r xs n) × (StepIs duration n (munched r m xs) ↔ IsDuration r xs n)
+    (r : Reading) (m m′ : Mode) (xs : List ℕ) (n : ℕ) → NumberBegins m xs →
+    (munched r m xs ≡ Lexeme number n m′ ↔ IsNumber r xs n × (m′ ≡ mode (m .depth) (past (m .inside))))
+    × (munched r m xs ≡ Lexeme duration n m′ ↔ IsDuration r xs n × (m′ ≡ mode (m .depth) (past (m .inside))))
+
+-- and where none begins, the readings are one
+abbrev pub NumbersAlone : Type 0
+NumbersAlone = (r s : Reading) (m : Mode) (xs : List ℕ) → (¬ (NumberBegins m xs)) → munched r m xs ≡ munched s m xs
 
 -- the first and the last of their numbers
 abbrev pub RowNumbers : Type 0
