@@ -21,7 +21,7 @@ eof at = entry eofKind at 0
 abbrev pub entries : Outcome → List Entry
 entries (reads e r) = e ∷ entries r
 entries (ends at) = eof at ∷ []
-entries (refuses r o) = []
+entries (refuses number o) = []
 
 abbrev pub entriesOf : Reading → List ℕ → List Entry
 entriesOf r q = entries (outcomeOf r q)
@@ -30,7 +30,7 @@ entriesOf r q = entries (outcomeOf r q)
 unfoldable pub answerBy : List ℕ → ℕ → Outcome → Lexing
 answerBy q n (reads e r) = answerBy q n r
 answerBy q n (ends at) = Count n
-answerBy q n (refuses r o) = Refused (refusedAt q r o)
+answerBy q n (refuses number o) = Refused (refusedAt q number o)
 
 -- "Order: 1, 2, the reading left to right (first refusal wins),
 abbrev pub readAs : Reading → List ℕ → Admission → Lexing
@@ -43,7 +43,7 @@ measured r q = readAs r q (admitted textLimit q)
 -- 3." "Room is the shortest list."
 abbrev pub roomed : ℕ → Lexing → Lexing
 roomed room (Count n) = cond (leb n room) (Count n) (Refused noRoom)
-roomed room (Refused r) = Refused r
+roomed room (Refused refusal) = Refused refusal
 
 unfoldable pub lexed : Reading → ℕ → List ℕ → Lexing
 lexed r room q = roomed room (measured r q)
@@ -51,7 +51,7 @@ lexed r room q = roomed room (measured r q)
 -- why a query is refused
 abbrev pub notLexed : Lexing → Refusal
 notLexed (Count n) = noRefusal
-notLexed (Refused r) = r
+notLexed (Refused refusal) = refusal
 
 -- "the first count entries of the three lent lists .. are written, no other"
 abbrev pub listed : Reading → (Entry → ℕ) → List ℕ → List ℕ → List ℕ
@@ -59,7 +59,7 @@ listed r f q d = map f (entriesOf r q) ++ drop (length (entriesOf r q)) d
 
 abbrev pub leftAfter : Lexing → List ℕ → List ℕ → List ℕ
 leftAfter (Count n) new old = new
-leftAfter (Refused r) new old = old
+leftAfter (Refused refusal) new old = old
 
 abbrev pub kindOf : Entry → ℕ
 kindOf e = e .kind

@@ -55,7 +55,7 @@ abbrev pub white : Mode → List ℕ → Step
 white m = always (Space m)
 
 abbrev pub refuse : ℕ → List ℕ → Step
-refuse r = always (Refused r 0)
+refuse n = always (Refused n 0)
 
 -- one step where a byte, or the end, follows the first, else another
 abbrev pub ifNext : List ℕ → ℕ → Step → Step → Step
@@ -77,7 +77,7 @@ dotStep r m xs = cond (isDigit (peekAt xs 1)) (numberStep r m xs) (ifNext xs end
 -- "The lexeme includes both signs." 21 to 23 are given where `quoted` says, one byte on for the opening sign
 abbrev pub quotedBy : Mode → Quoted → Step
 quotedBy m (quoting.Closed n) = Lexeme string (suc n) m
-quotedBy m (quoting.Refused r n) = Refused r (suc n)
+quotedBy m (quoting.Refused refusal n) = Refused refusal (suc n)
 
 unfoldable pub quotedStep : Mode → List ℕ → Step
 quotedStep m xs = quotedBy m (quotedOf (peekAt xs 0) (drop 1 xs))
@@ -143,8 +143,8 @@ isEnd c = eqb c end
 
 -- the step of the first row that is for the byte; where none is, it is refused with a number
 abbrev pub stepFor : List Opening → ℕ → ℕ → List ℕ → Step
-stepFor [] r c = refuse r
-stepFor (o ∷ t) r c = cond (o .takes c) (o .step) (stepFor t r c)
+stepFor [] n c = refuse n
+stepFor (o ∷ t) n c = cond (o .takes c) (o .step) (stepFor t n c)
 
 -- outside braces and brackets; 17, 18 "unmatched .. `}`, `]`"
 unfoldable pub outsideTable : Reading → ℕ → List Opening

@@ -350,13 +350,13 @@ fn read_plain(t: &[u8]) -> Parsing
 }
 
 // The number that a text is in a reading, without white space and in lower case; where it has separators, they are dropped in place.
-fn read_kept(reading: Reading, t: &mut [u8]) -> Parsing
+fn read_kept(t: &mut [u8], reading: Reading) -> Parsing
     ensures { λ r. ⌜ r ≡ numberIn reading (now (t .entry)) ⌝ }
 {
     if !scan::contains(t, separated::SEPARATOR) {
         return read_plain(t);
     }
-    if !separators::is_placed(reading, t) {
+    if !separators::is_placed(t, reading) {
         return refused(NOT_A_NUMBER);
     }
     let n = separators::drop_separators(t);
@@ -373,7 +373,7 @@ pub fn parse_str_radix(text: &[u8], reading: Reading) -> Parsing
     };
     let mut buf = [0u8; decimal::LIMIT];
     let n = keep(text, &mut buf);
-    read_kept(reading, &mut buf[..n])
+    read_kept(&mut buf[..n], reading)
 }
 
 // Why a text is no number; where it is one, a refusal of no number.

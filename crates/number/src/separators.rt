@@ -23,7 +23,7 @@ fn is_hex_text(t: &[u8]) -> bool
 }
 
 // Whether each separator of a text stands where the reading has it so.
-pub fn is_placed(reading: Reading, t: &[u8]) -> bool
+pub fn is_placed(t: &[u8], reading: Reading) -> bool
     ensures { λ r. ⌜ r ≡ isPlaced reading (now (t .entry)) ⌝ }
 {
     if is_hex_text(t) {

@@ -71,24 +71,24 @@ fn is_hex(s: &[u8]) -> bool
 }
 
 // The place past a point and the digits behind it, where one stands.
-fn fraction_end(r: Reading, k: Class, s: &[u8], at: usize) -> usize
-    ensures { λ x. ⌜ x ≡ fractionEnd r k (now (s .entry)) at ⌝ }
+fn fraction_end(s: &[u8], reading: Reading, k: Class, at: usize) -> usize
+    ensures { λ r. ⌜ r ≡ fractionEnd reading k (now (s .entry)) at ⌝ }
 {
     if byte::peek(s, at) == b'.' as usize {
-        separated::separated_end(k, between_digits(r), s, at + 1)
+        separated::separated_end(k, between_digits(reading), s, at + 1)
     } else {
         at
     }
 }
 
 // The place past an exponent, where one stands.
-fn exponent_end(r: Reading, s: &[u8], at: usize) -> usize
-    ensures { λ x. ⌜ x ≡ exponentEnd r (now (s .entry)) at ⌝ }
+fn exponent_end(s: &[u8], reading: Reading, at: usize) -> usize
+    ensures { λ r. ⌜ r ≡ exponentEnd reading (now (s .entry)) at ⌝ }
 {
     if byte::lowered(byte::peek(s, at)) == b'e' as usize {
         separated::separated_end(
             Class::Digit,
-            between_digits(r),
+            between_digits(reading),
             s,
             sign::past_sign(s, at + 1),
         )
@@ -98,24 +98,33 @@ fn exponent_end(r: Reading, s: &[u8], at: usize) -> usize
 }
 
 // The place past digits of a class with such separators, and past those behind a point.
-fn mantissa_end(r: Reading, k: Class, separators: Separators, s: &[u8], from: usize) -> usize
-    ensures { λ x. ⌜ x ≡ mantissaEnd r k separators (now (s .entry)) from ⌝ }
+fn mantissa_end(s: &[u8], reading: Reading, k: Class, separators: Separators, from: usize) -> usize
+    ensures { λ r. ⌜ r ≡ mantissaEnd reading k separators (now (s .entry)) from ⌝ }
 {
-    fraction_end(r, k, s, separated::separated_end(k, separators, s, from))
+    fraction_end(
+        s,
+        reading,
+        k,
+        separated::separated_end(k, separators, s, from),
+    )
 }
 
 // Where the number ends that bytes begin with.
-fn number_end(r: Reading, s: &[u8]) -> usize
-    ensures { λ x. ⌜ x ≡ numberEnd r (now (s .entry)) ⌝ }
+fn number_end(s: &[u8], reading: Reading) -> usize
+    ensures { λ r. ⌜ r ≡ numberEnd reading (now (s .entry)) ⌝ }
 {
     if is_hex(s) {
         return exponent_end(
-            r,
             s,
-            mantissa_end(r, Class::HexDigit, behind_prefix(r), s, 2),
+            reading,
+            mantissa_end(s, reading, Class::HexDigit, behind_prefix(reading), 2),
         );
     }
-    exponent_end(r, s, mantissa_end(r, Class::Digit, between_digits(r), s, 0))
+    exponent_end(
+        s,
+        reading,
+        mantissa_end(s, reading, Class::Digit, between_digits(reading), 0),
+    )
 }
 
 // A unit that any part of a duration may have.
@@ -189,7 +198,7 @@ fn duration(s: &[u8], from: usize) -> Numeral
 pub fn scan_number(s: &[u8], reading: Reading) -> Numeral
     ensures { λ r. ⌜ r ≡ numeralOf reading (now (s .entry)) ⌝ }
 {
-    let n = number_end(reading, s);
+    let n = number_end(s, reading);
     let c = byte::peek(s, n);
     if c == b'.' as usize {
         return Numeral::Neither(n);

@@ -12,14 +12,15 @@ use Rattle.scan.specs.Byte.{peekAt}
 abbrev pub separator : ℕ
 separator = code "_"
 
--- "one underscore may stand between two digits of the same part, or between a hex prefix and its first digit": whether one may stand where a
--- digit stands before it, or none does
+-- "one underscore may stand between two digits of the same part, or between a hex prefix and its first digit": whether a separator may stand
+-- somewhere, by whether a digit stands directly before it
 abbrev pub isOpen : Separators → Bool → Bool
 isOpen Never digit = false
 isOpen Between digit = digit
 isOpen Before digit = true
 
--- how long the run is; `between` is whether a separator may stand behind a digit, `front` whether one may at the front; a digit always stands behind it
+-- how long the run is; `between` is whether a separator may stand behind a digit, `front` whether one may stand first here; a digit always stands behind
+-- one
 unfoldable pub separatedLength : (ℕ → Bool) → Bool → Bool → List ℕ → ℕ
 separatedLength p between front [] = 0
 separatedLength p between front (x ∷ xs) =
