@@ -6,8 +6,14 @@ use crate::comparison::Outcome;
 use compare::oracle::literal::INNER;
 use simmerpath::raw::*;
 
-/// The crate reading, as the C functions take it.
-pub const CRATE: u32 = 0;
+/// The numbers that a reading is asked for with, by turns.
+pub type Readings = [u32; 4];
+/// The crate reading.
+pub const CRATE: Readings = [0; 4];
+/// The documented reading, which any other number stands for.
+pub const DOCUMENTED: Readings = [1, 1 << 31, 2, u32::MAX];
+/// Both.
+pub const BOTH: Readings = [0, 1, 0, 1];
 
 /// How many guards stand on each side of a list.
 const GUARDS: usize = 8;
