@@ -22,7 +22,8 @@
  *     const char *query = "rate(a[5m])";
  *     uint16_t kinds[16];
  *     uint32_t starts[16], lengths[16];
- *     uint64_t answer = simmerpath_lexer((const uint8_t *)query, strlen(query), kinds, 16, starts, 16, lengths, 16);
+ *     uint64_t answer = simmerpath_lexer((const uint8_t *)query, strlen(query), SIMMERPATH_READING_CRATE, kinds, 16, starts, 16,
+ *                                        lengths, 16);
  *     if (simmerpath_is_refusal(answer))
  *         printf("refused: %u at byte %u\n", simmerpath_refusal_number(answer), simmerpath_refusal_byte(answer));
  *     else
@@ -146,7 +147,16 @@ enum simmerpath_class {
     SIMMERPATH_CLASS_AGGREGATOR_WITH_PARAM = 16
 };
 
-/* How simmerpath_unquote_string reads \xhh and octal escapes: as code points, or as bytes. */
+/*
+ * The readings: promql-parser's, and the one that Prometheus documents. A function that has both takes `documented`, in which any
+ * number but 0 is SIMMERPATH_READING_DOCUMENTED. What differs there:
+ *
+ * In a literal \xhh and octal escapes are bytes, not code points.
+ *
+ * In a query and in the text of a number, one _ may stand between two digits of the same part of a number: before the point,
+ * behind it, or in the exponent; and one between 0x and the first digit. It has no effect on the value, and a number that has one
+ * begins no duration. In the crate reading no number has a _.
+ */
 enum simmerpath_reading {
     SIMMERPATH_READING_CRATE = 0,
     SIMMERPATH_READING_DOCUMENTED = 1
@@ -176,7 +186,7 @@ enum simmerpath_refusal {
     SIMMERPATH_REFUSED_UNMATCHED_BRACE = 17,             /* a } that closes nothing */
     SIMMERPATH_REFUSED_UNMATCHED_BRACKET = 18,           /* a ] that closes nothing */
     SIMMERPATH_REFUSED_OTHER = 19,                       /* a character that begins nothing outside braces and brackets */
-    SIMMERPATH_REFUSED_NEITHER_NUMBER_NOR_DURATION = 20, /* the first character not taken, or the end */
+    SIMMERPATH_REFUSED_NEITHER_NUMBER_NOR_DURATION = 20, /* the first character not taken, a _ or a unit too, or the end */
     SIMMERPATH_REFUSED_UNKNOWN_ESCAPE = 21,              /* an unknown escape in a string: the character after the backslash */
     SIMMERPATH_REFUSED_END_IN_ESCAPE = 22,               /* the end, after a backslash in a string */
     SIMMERPATH_REFUSED_END_IN_STRING = 23,               /* the end, in a string */
@@ -199,7 +209,7 @@ enum simmerpath_refusal {
     SIMMERPATH_REFUSED_OUTSIDE_EXACT = 53,               /* a decimal with too many digits, or too far from 1, to be read exactly */
     SIMMERPATH_REFUSED_OUT_OF_RANGE = 54,                /* seconds below 0, not finite, or 2^64 and over; too many nanoseconds */
     SIMMERPATH_REFUSED_OVERSIZED_PART = 55,              /* a part whose number is above 4,294,967,295, in the exact reading */
-    SIMMERPATH_REFUSED_NOT_A_NUMBER = 60,                /* no number */
+    SIMMERPATH_REFUSED_NOT_A_NUMBER = 60,                /* no number, or a _ where none may stand */
     SIMMERPATH_REFUSED_OUTSIDE_I64 = 61                  /* hexadecimal or octal, and outside the signed integers of 64 bits */
 };
 
@@ -248,12 +258,12 @@ static inline size_t simmerpath_unquoted_length(uint64_t answer)
 }
 
 /*
- * Lexes a query: answers how many lexemes it has, its end included, and writes their kinds, the bytes that they start at, and
- * their lengths in bytes to the front of the three lists. There is room for as many as the shortest list has entries.
- * Refuses with TOO_LONG, NOT_UTF8, UNCLOSED_PAREN to END_IN_BRACKETS, NO_ROOM.
+ * Lexes a query, in a reading: answers how many lexemes it has, its end included, and writes their kinds, the bytes that they
+ * start at, and their lengths in bytes to the front of the three lists. There is room for as many as the shortest list has
+ * entries. Refuses with TOO_LONG, NOT_UTF8, UNCLOSED_PAREN to END_IN_BRACKETS, NO_ROOM.
  */
-uint64_t simmerpath_lexer(const uint8_t *query, size_t query_length, uint16_t *kinds, size_t kinds_length, uint32_t *starts,
-                          size_t starts_length, uint32_t *lengths, size_t lengths_length);
+uint64_t simmerpath_lexer(const uint8_t *query, size_t query_length, uint32_t documented, uint16_t *kinds, size_t kinds_length,
+                          uint32_t *starts, size_t starts_length, uint32_t *lengths, size_t lengths_length);
 
 /* The kind of a word of PromQL, in any case of its letters, or SIMMERPATH_NO_KIND. Takes any bytes, and refuses none. */
 uint64_t simmerpath_get_keyword_token(const uint8_t *word, size_t word_length);
@@ -268,10 +278,10 @@ uint64_t simmerpath_token_classes(uint16_t kind);
 uint64_t simmerpath_is_label(const uint8_t *text, size_t text_length);
 
 /*
- * Reads a string literal, its quotes included: answers how long its text is, and where it stands. A literal without an escape has
- * it in itself, behind the first byte (simmerpath_is_inner), and nothing is written. Else it is written to the front of the
- * buffer; it is never longer than the literal. `documented` is the reading: any number but 0 is SIMMERPATH_READING_DOCUMENTED,
- * whose text need not be UTF-8. Refuses with TOO_LONG, NOT_UTF8, BAD_LITERAL, NO_ROOM.
+ * Reads a string literal, its quotes included, in a reading: answers how long its text is, and where it stands. A literal without
+ * an escape has it in itself, behind the first byte (simmerpath_is_inner), and nothing is written. Else it is written to the
+ * front of the buffer; it is never longer than the literal, and in the documented reading it need not be UTF-8.
+ * Refuses with TOO_LONG, NOT_UTF8, BAD_LITERAL, NO_ROOM.
  *
  * The place of BAD_LITERAL is the first of these that there is: byte 0 of a literal of fewer than two bytes; the last byte, where
  * it differs from the first; byte 0, where both are no quote; the first line feed, unless the quotes are backquotes; else the
@@ -287,10 +297,11 @@ uint64_t simmerpath_unquote_string(const uint8_t *literal, size_t literal_length
 uint64_t simmerpath_escape_string(const uint8_t *text, size_t text_length, uint8_t *out, size_t out_length);
 
 /*
- * Reads a number: answers its notation, and writes the bits of its value, a double, to `bits`. Every NaN has the bits
- * 7ff8000000000000. Refuses with TOO_LONG, NOT_UTF8, OUTSIDE_EXACT, NOT_A_NUMBER, OUTSIDE_I64.
+ * Reads a number, in a reading: answers its notation, and writes the bits of its value, a double, to `bits`. White space is
+ * dropped first, wherever it stands. Every NaN has the bits 7ff8000000000000.
+ * Refuses with TOO_LONG, NOT_UTF8, OUTSIDE_EXACT, NOT_A_NUMBER, OUTSIDE_I64.
  */
-uint64_t simmerpath_parse_str_radix(const uint8_t *text, size_t text_length, uint64_t *bits);
+uint64_t simmerpath_parse_str_radix(const uint8_t *text, size_t text_length, uint32_t documented, uint64_t *bits);
 
 /*
  * Reads a duration: answers 0, and writes its seconds and its nanoseconds, which are below a second. A part whose number is above

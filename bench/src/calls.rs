@@ -43,7 +43,7 @@ pub mod lexing {
             lengths,
             ..
         } = room;
-        let lexemes = simmerpath::lex_into(query, kinds, starts, lengths);
+        let lexemes = simmerpath::lex_into(query, Reading::Crate, kinds, starts, lengths);
         lexemes.expect("a query that is accepted").len() as u64
     }
 

@@ -314,14 +314,14 @@ static bool answer_unquotedoc(const struct record *record)
     return unquote(record, SIMMERPATH_READING_DOCUMENTED);
 }
 
-/* `number`: the bits of a number's value, and its notation. */
-static bool answer_number(const struct record *record)
+/* Answers with the bits of a number's value, and its notation, in a reading. */
+static bool number(const struct record *record, enum simmerpath_reading reading)
 {
     static const char *const notations[] = {
         [SIMMERPATH_NOTATION_DECIMAL] = "decimal", [SIMMERPATH_NOTATION_HEX] = "hex", [SIMMERPATH_NOTATION_OCTAL] = "octal"};
     struct lent text = lend_input(record);
     struct lent bits = lend(record, "bits", 1, sizeof(uint64_t));
-    uint64_t answer = simmerpath_parse_str_radix(start(&text), text.count, start(&bits));
+    uint64_t answer = simmerpath_parse_str_radix(start(&text), text.count, reading, start(&bits));
     take_back_unwritten(&text);
     check_left(&bits, unless_refused(answer, 1));
     if (simmerpath_is_refusal(answer))
@@ -332,6 +332,18 @@ static bool answer_number(const struct record *record)
         fail(&bits, "was written in an unknown notation");
     take_back(&bits);
     return true;
+}
+
+/* `number`: what a number is, in the crate reading. */
+static bool answer_number(const struct record *record)
+{
+    return number(record, SIMMERPATH_READING_CRATE);
+}
+
+/* `numberdoc`: what a number is, in the documented reading. */
+static bool answer_numberdoc(const struct record *record)
+{
+    return number(record, SIMMERPATH_READING_DOCUMENTED);
 }
 
 /* A function that reads a duration. */
@@ -395,16 +407,16 @@ static void say_lexemes(const uint16_t *kinds, const uint32_t *starts, const uin
     puts("");
 }
 
-/* `lex`: the lexemes of a query. */
-static bool answer_lex(const struct record *record)
+/* Answers with the lexemes of a query, in a reading. */
+static bool lex(const struct record *record, enum simmerpath_reading reading)
 {
     size_t room = room_of(record, SIMMERPATH_MOST_LEXEMES);
     struct lent query = lend_input(record);
     struct lent kinds = lend(record, "kinds", room, sizeof(uint16_t));
     struct lent starts = lend(record, "starts", room, sizeof(uint32_t));
     struct lent lengths = lend(record, "lengths", room, sizeof(uint32_t));
-    uint64_t answer =
-        simmerpath_lexer(start(&query), query.count, start(&kinds), room, start(&starts), room, start(&lengths), room);
+    uint64_t answer = simmerpath_lexer(start(&query), query.count, reading, start(&kinds), room, start(&starts), room,
+                                       start(&lengths), room);
     take_back_unwritten(&query);
     check_left(&kinds, unless_refused(answer, answer));
     check_left(&starts, unless_refused(answer, answer));
@@ -419,6 +431,18 @@ static bool answer_lex(const struct record *record)
     return true;
 }
 
+/* `lex`: the lexemes of a query, in the crate reading. */
+static bool answer_lex(const struct record *record)
+{
+    return lex(record, SIMMERPATH_READING_CRATE);
+}
+
+/* `lexdoc`: the lexemes of a query, in the documented reading. */
+static bool answer_lexdoc(const struct record *record)
+{
+    return lex(record, SIMMERPATH_READING_DOCUMENTED);
+}
+
 static const struct op ops[] = {
     {"utf8", answer_utf8},
     {"display", answer_display},
@@ -428,10 +452,12 @@ static const struct op ops[] = {
     {"unquotedoc", answer_unquotedoc},
     {"escape", answer_escape},
     {"number", answer_number},
+    {"numberdoc", answer_numberdoc},
     {"duration", answer_duration},
     {"durexact", answer_durexact},
     {"durwrite", answer_durwrite},
     {"lex", answer_lex},
+    {"lexdoc", answer_lexdoc},
 };
 
 /* The op of a name, or NULL. */

@@ -1,22 +1,22 @@
-// Reads string literals by Go's own rules: the documented reading. A line of the input is a literal in hex, or `-` for no
-// bytes. Its line of the output is `ok` and the text that the literal stands for, in hex too, or `bad`.
 package main
 
 import (
-	"bufio"
 	"encoding/hex"
-	"fmt"
-	"log"
-	"os"
 	"strconv"
 	"strings"
 )
 
-// How no bytes are written.
-const none = "-"
-
-// No line is longer.
-const longest = 1 << 20
+// What is said of a literal: `ok` and the text that it stands for, in hex, or `bad`.
+func literal(bytes string) string {
+	text, err := unquote(bytes)
+	switch {
+	case err != nil:
+		return "bad"
+	case text == "":
+		return "ok " + none
+	}
+	return "ok " + hex.EncodeToString([]byte(text))
+}
 
 // What a literal stands for. It is what strconv.Unquote says, but where document 01 parts from Go:
 //   - Between single quotes Go has no more than one character; document 01 has any number of them.
@@ -48,35 +48,4 @@ func unquoteEach(characters string) (string, error) {
 		characters = rest
 	}
 	return text.String(), nil
-}
-
-// The answer to a line.
-func answer(line string) string {
-	literal, err := hex.DecodeString(strings.TrimPrefix(line, none))
-	if err != nil {
-		log.Fatal(err)
-	}
-	text, err := unquote(string(literal))
-	switch {
-	case err != nil:
-		return "bad"
-	case text == "":
-		return "ok " + none
-	}
-	return "ok " + hex.EncodeToString([]byte(text))
-}
-
-func main() {
-	lines := bufio.NewScanner(os.Stdin)
-	lines.Buffer(nil, longest)
-	answers := bufio.NewWriter(os.Stdout)
-	for lines.Scan() {
-		fmt.Fprintln(answers, answer(lines.Text()))
-	}
-	if err := lines.Err(); err != nil {
-		log.Fatal(err)
-	}
-	if err := answers.Flush(); err != nil {
-		log.Fatal(err)
-	}
 }

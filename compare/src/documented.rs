@@ -1,7 +1,8 @@
 //! Compares the documented reading of string literals with Go's.
 
 use crate::comparison::{compare, nowhere, Difference, Function};
-use crate::literal::{self, DOCUMENTED};
+use crate::ffi::DOCUMENTED;
+use crate::literal;
 use compare::oracle::go::{documented, Documented};
 use compare::texts::literals;
 

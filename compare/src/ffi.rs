@@ -6,6 +6,15 @@ use crate::comparison::Outcome;
 use compare::oracle::literal::INNER;
 use simmerpath::raw::*;
 
+/// The numbers that a reading is asked for with, by turns.
+pub type Readings = [u32; 4];
+/// The crate reading.
+pub const CRATE: Readings = [0; 4];
+/// The documented reading, which any other number stands for.
+pub const DOCUMENTED: Readings = [1, 1 << 31, 2, u32::MAX];
+/// Both.
+pub const BOTH: Readings = [0, 1, 0, 1];
+
 /// How many guards stand on each side of a list.
 const GUARDS: usize = 8;
 
@@ -190,10 +199,11 @@ pub fn unquote_string<'a>(
 }
 
 /// The number of a number text's notation; the bits of its value are written to the first cell of `bits`.
-pub fn parse_str_radix(text: &mut Lent<u8>, bits: &mut Lent<u64>) -> Outcome<u64> {
+pub fn parse_str_radix(text: &mut Lent<u8>, documented: u32, bits: &mut Lent<u64>) -> Outcome<u64> {
     bits.restore();
     // Safety: the pointer and the length are those of one list, and `bits` has a first cell, or a guard in its place.
-    let answer = unsafe { simmerpath_parse_str_radix(text.start(), text.len(), bits.start()) };
+    let answer =
+        unsafe { simmerpath_parse_str_radix(text.start(), text.len(), documented, bits.start()) };
     Outcome {
         answer,
         written: bits.contents()[0],
@@ -248,6 +258,7 @@ pub fn display_duration(secs: u64, nanos: u32, out: &mut Lent<u8>) -> Outcome<&[
 /// How many lexemes a query has; their kinds, starts and lengths are written to the fronts of the lists.
 pub fn lexer<'a>(
     query: &mut Lent<u8>,
+    documented: u32,
     kinds: &'a mut Lent<u16>,
     starts: &'a mut Lent<u32>,
     lengths: &'a mut Lent<u32>,
@@ -260,6 +271,7 @@ pub fn lexer<'a>(
         simmerpath_lexer(
             query.start(),
             query.len(),
+            documented,
             kinds.start(),
             kinds.len(),
             starts.start(),

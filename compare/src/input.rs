@@ -1,5 +1,7 @@
 //! What functions are compared on, and how such an input is made smaller.
 
+#[cfg(all(feature = "promql", feature = "go"))]
+use compare::oracle::go::number::{asked, Asked};
 #[cfg(feature = "go")]
 use compare::oracle::go::{documented, Documented};
 use compare::texts::{hex, replaced};
@@ -57,6 +59,19 @@ impl Input for Documented {
 
     fn smaller(&self) -> Box<dyn Iterator<Item = Self::Owned> + '_> {
         Box::new(documented(self.bytes.smaller()))
+    }
+}
+
+#[cfg(all(feature = "promql", feature = "go"))]
+impl Input for Asked {
+    const NAMES: &'static str = "texts";
+
+    fn shown(&self) -> String {
+        self.bytes.shown()
+    }
+
+    fn smaller(&self) -> Box<dyn Iterator<Item = Self::Owned> + '_> {
+        Box::new(asked(self.bytes.smaller()))
     }
 }
 

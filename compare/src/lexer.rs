@@ -1,18 +1,19 @@
-//! Compares lexing with the Rust's.
+//! Compares lexing: in the crate reading with the Rust's, in the documented reading with what that must be.
 
 use crate::comparison::{compare, nowhere, Difference, Function, Outcome};
-use crate::ffi::{self, Lent};
+use crate::ffi::{self, Lent, Readings, CRATE, DOCUMENTED};
 use compare::oracle::lexer::Lexed;
-use compare::oracle::token;
+use compare::oracle::{separators, token};
 use compare::texts::queries;
 
-/// One random query is compared for so many of the count.
+/// One random query is compared for so many of the count, and one with separators.
 const SHARE: usize = 2;
+const SEPARATED_SHARE: usize = 25;
 
 /// The bytes around a query, by turns. A function that reads past the end finds there what goes on with a word, a number, a
 /// sign or a character cut short; what a point, `!`, `fill` or `or` needs behind it; what closes a string, a comment, braces,
 /// brackets or parentheses; and more white space.
-const AROUND: &[u8] = b"a5m=~.([ \n\"'`\\}])\x80\xbf";
+const AROUND: &[u8] = b"a5m_=~.([ \n\"'`\\}])\x80\xbf";
 
 /// What stands where the kinds, the starts and the lengths may be written, and around these.
 const BLANK: (u16, u32, u32) = (0xeeee, 0xdddd_dddd, 0xcccc_cccc);
@@ -24,11 +25,39 @@ const ON_QUERIES: [Function<[u8]>; 1] = [Function {
     known: nowhere,
 }];
 
-/// Compares the function on all fixed queries, and on a share of `count` random ones.
+/// The function on a query with separators, in each reading. Where these differ, the Rust is known to answer otherwise.
+const ON_SEPARATED: [Function<[u8]>; 2] = [
+    Function {
+        name: "lexer, with separators",
+        difference: lexer,
+        known: nowhere,
+    },
+    Function {
+        name: "lexer, with separators, documented",
+        difference: documented,
+        known: separators::differ_in_lexing,
+    },
+];
+
+/// The function on another query in the documented reading.
+const ON_OTHERS: [Function<[u8]>; 1] = [Function {
+    name: "lexer, documented",
+    difference: documented,
+    known: separators::differ_in_lexing,
+}];
+
+/// Compares the function on all fixed queries, and on a share of `count` random ones; in the documented reading on those with
+/// separators, and on some of the others.
 pub fn run(seed: u64, count: usize) -> u64 {
     let words = token::words();
-    let random = queries::random(seed, &words).take(count / SHARE);
-    compare(&ON_QUERIES, queries::fixed(&words).chain(random))
+    let random = |share| queries::random(seed, &words).take(count / share);
+    let separated = queries::random_separated(seed, &words).take(count / SEPARATED_SHARE);
+    let others = queries::fixed(&words)
+        .step_by(SEPARATED_SHARE)
+        .chain(random(SEPARATED_SHARE));
+    compare(&ON_QUERIES, queries::fixed(&words).chain(random(SHARE)))
+        + compare(&ON_SEPARATED, queries::fixed_separated().chain(separated))
+        + compare(&ON_OTHERS, others)
 }
 
 /// The rooms of the three lists for so many lexemes: more than enough, just enough, one too little, and none; then with each
@@ -49,13 +78,23 @@ fn rooms(count: usize) -> [[usize; 3]; 10] {
     ]
 }
 
-/// Where the answer to a query or the lexemes differ, in several rooms.
+/// Where the crate reading differs.
 fn lexer(query: &[u8]) -> Option<Difference> {
-    let lexed = Lexed::new(query);
+    difference(query, &Lexed::new(query), CRATE)
+}
+
+/// Where the documented reading differs.
+fn documented(query: &[u8]) -> Option<Difference> {
+    difference(query, &separators::lexed(query), DOCUMENTED)
+}
+
+/// Where the answer to a query or the lexemes differ, in several rooms.
+fn difference(query: &[u8], lexed: &Lexed, readings: Readings) -> Option<Difference> {
     let mut lent = Lent::new(query, 0);
     let around = AROUND.iter().cycle().skip(query.len() % AROUND.len());
-    let mut turns = rooms(lexed.count()).into_iter().zip(around);
-    turns.find_map(|(room, &around)| {
+    let asked = readings.iter().cycle().zip(around);
+    let mut turns = rooms(lexed.count()).into_iter().zip(asked);
+    turns.find_map(|(room, (&reading, &around))| {
         lent.guard(around);
         let mut kinds = vec![BLANK.0; room[0]];
         let mut starts = vec![BLANK.1; room[1]];
@@ -67,11 +106,8 @@ fn lexer(query: &[u8]) -> Option<Difference> {
         );
         let answer = lexed.write(&mut kinds, &mut starts, &mut lengths);
         let must = Outcome::of(answer, (&kinds[..], &starts[..], &lengths[..]));
-        let ours = ffi::lexer(&mut lent, &mut lists.0, &mut lists.1, &mut lists.2);
-        Difference::between(
-            || format!("rooms {room:?}, {around:x} around"),
-            &ours,
-            &must,
-        )
+        let ours = ffi::lexer(&mut lent, reading, &mut lists.0, &mut lists.1, &mut lists.2);
+        let call = || format!("reading {reading}, rooms {room:?}, {around:x} around");
+        Difference::between(call, &ours, &must)
     })
 }

@@ -1,20 +1,11 @@
 //! Compares the reading of a string literal with what it must say.
 
 use crate::comparison::{Difference, Outcome};
-use crate::ffi::{self, Lent};
+use crate::ffi::{self, Lent, Readings};
 use compare::oracle::literal::Literal;
 
 /// How many rooms a literal is read in.
 const ROOMS: usize = 4;
-
-/// The number of the reading that is asked for in each room.
-pub type Readings = [u32; ROOMS];
-/// The crate reading.
-pub const CRATE: Readings = [0; ROOMS];
-/// The documented reading, which any other number stands for.
-pub const DOCUMENTED: Readings = [1, 1 << 31, 2, u32::MAX];
-/// Both, by turns.
-pub const BOTH: Readings = [0, 1, 0, 1];
 
 /// The bytes around a literal in each room. A function that reads past the end finds there what an escape cut short lacks, a
 /// sign that closes the literal, or another escape.

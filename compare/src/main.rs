@@ -8,6 +8,8 @@
 mod comparison;
 #[cfg(feature = "go")]
 mod documented;
+#[cfg(all(feature = "promql", feature = "go"))]
+mod documented_number;
 #[cfg(feature = "promql")]
 mod duration;
 mod ffi;
@@ -49,6 +51,8 @@ const OPERATIONS: &[(&str, Run)] = &[
     ("safe", safe::run),
     #[cfg(feature = "go")]
     ("documented", documented::run),
+    #[cfg(all(feature = "promql", feature = "go"))]
+    ("documented_number", documented_number::run),
 ];
 
 /// What the arguments ask for.

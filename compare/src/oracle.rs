@@ -13,6 +13,8 @@ pub mod literal;
 #[cfg(feature = "promql")]
 pub mod number;
 #[cfg(feature = "promql")]
+pub mod separators;
+#[cfg(feature = "promql")]
 pub mod string;
 #[cfg(feature = "promql")]
 pub mod token;

@@ -3,9 +3,9 @@
 
 use crate::comparison::{compare, nowhere, Difference, Function, Outcome};
 use compare::oracle::lexer::Lexed;
-use compare::oracle::number::Notation as Known;
+use compare::oracle::number::{Notation as Known, Number};
 use compare::oracle::utf8::admitted;
-use compare::oracle::{duration, number, string, token, Answer};
+use compare::oracle::{duration, number, separators, string, token, Answer};
 use compare::texts::{durations, escapes, literals, numbers, queries, words};
 use simmerpath::{Error, Lexeme, Notation, Reading};
 use std::borrow::Cow;
@@ -32,6 +32,12 @@ const ON_QUERIES: [Function<[u8]>; 2] = [
     function("simmerpath::lex_into", lex_into),
 ];
 
+/// The same in the documented reading, on a query with separators.
+const ON_SEPARATED_QUERIES: [Function<[u8]>; 2] = [
+    function("simmerpath::lexer_in, documented", lexer_in),
+    function("simmerpath::lex_into, documented", lex_into_documented),
+];
+
 /// The function on a literal.
 const ON_LITERALS: [Function<[u8]>; 1] = [function("simmerpath::unquote_string", unquote_string)];
 
@@ -40,6 +46,12 @@ const ON_TEXTS: [Function<[u8]>; 1] = [function("simmerpath::escape_string", esc
 
 /// The function on the text of a number.
 const ON_NUMBERS: [Function<[u8]>; 1] = [function("simmerpath::parse_str_radix", parse_str_radix)];
+
+/// The same in the documented reading, on one with separators.
+const ON_SEPARATED_NUMBERS: [Function<[u8]>; 1] = [function(
+    "simmerpath::parse_str_radix_in, documented",
+    parse_str_radix_in,
+)];
 
 /// The functions on the text of a duration.
 const ON_DURATIONS: [Function<[u8]>; 2] = [
@@ -75,21 +87,29 @@ pub fn run(seed: u64, count: usize) -> u64 {
     let count = count / SHARE;
     let random = queries::random(seed, &known).take(count);
     let queries = queries::fixed(&known).step_by(STEP).chain(random);
+    let random = queries::random_separated(seed, &known).take(count);
+    let fixed = queries::fixed_separated().step_by(STEP);
+    let separated_queries = fixed.chain(random);
     let random = literals::random(seed).take(count);
     let literals = literals::fixed().step_by(STEP).chain(random);
     let random = escapes::random(seed).take(count);
     let texts = escapes::fixed().step_by(STEP).chain(random);
     let random = numbers::random(seed).take(count);
     let numbers = numbers::fixed().step_by(STEP).chain(random);
+    let random = numbers::random_separated(seed).take(count);
+    let fixed = numbers::fixed_separated().step_by(STEP);
+    let separated_numbers = fixed.chain(random);
     let random = durations::random(seed).take(count);
     let durations = durations::fixed().step_by(STEP).chain(random);
     let pairs = durations::fixed_pairs().step_by(STEP);
     let random = words::random(seed, &known).take(count);
     let words = words::fixed(&known).step_by(STEP).chain(random);
     compare(&ON_QUERIES, queries)
+        + compare(&ON_SEPARATED_QUERIES, separated_queries)
         + compare(&ON_LITERALS, literals)
         + compare(&ON_TEXTS, texts)
         + compare(&ON_NUMBERS, numbers)
+        + compare(&ON_SEPARATED_NUMBERS, separated_numbers)
         + compare(&ON_DURATIONS, durations)
         + compare(&ON_PAIRS, pairs)
         + compare(&ON_WORDS, words)
@@ -128,11 +148,20 @@ fn known_lexemes(lexed: &Lexed, room: usize) -> Result<Vec<Lexeme>, Answer> {
 
 /// Where the lexemes of a query differ, or what is said of a bad one.
 fn lexer(query: &[u8]) -> Option<Difference> {
-    let lexed = Lexed::new(query);
-    let ours = simmerpath::lexer(query);
+    lexing(query, &Lexed::new(query), simmerpath::lexer(query))
+}
+
+/// The same in the documented reading.
+fn lexer_in(query: &[u8]) -> Option<Difference> {
+    let ours = simmerpath::lexer_in(query, Reading::Documented);
+    lexing(query, &separators::lexed(query), ours)
+}
+
+/// The same, given what must be and what is returned.
+fn lexing(query: &[u8], lexed: &Lexed, ours: Result<Vec<Lexeme>, Error>) -> Option<Difference> {
     let said = ours.as_ref().err().zip(str::from_utf8(query).ok());
     let said = said.map(|(error, query)| error.message(query).to_string());
-    let must = known_lexemes(&lexed, usize::MAX);
+    let must = known_lexemes(lexed, usize::MAX);
     difference("the lexemes", ours, must).or_else(|| match lexed.said() {
         Some(must) => difference("what is said", Ok(said.as_deref()), Ok(Some(must))),
         None => None,
@@ -141,15 +170,25 @@ fn lexer(query: &[u8]) -> Option<Difference> {
 
 /// Where the lexemes differ that are written to lists, with more room than they need, just enough, and one too little.
 fn lex_into(query: &[u8]) -> Option<Difference> {
-    let lexed = Lexed::new(query);
+    lexing_into(query, &Lexed::new(query), Reading::Crate)
+}
+
+/// The same in the documented reading.
+fn lex_into_documented(query: &[u8]) -> Option<Difference> {
+    lexing_into(query, &separators::lexed(query), Reading::Documented)
+}
+
+/// The same, given what must be in a reading.
+fn lexing_into(query: &[u8], lexed: &Lexed, reading: Reading) -> Option<Difference> {
     let count = lexed.count();
     [count + 1, count, count.saturating_sub(1)]
         .into_iter()
         .find_map(|room| {
             let (mut kinds, mut starts) = (vec![0; room], vec![0; room]);
             let mut lengths = vec![0; room];
-            let lexemes = simmerpath::lex_into(query, &mut kinds, &mut starts, &mut lengths);
-            let must = known_lexemes(&lexed, room);
+            let lexemes =
+                simmerpath::lex_into(query, reading, &mut kinds, &mut starts, &mut lengths);
+            let must = known_lexemes(lexed, room);
             difference(
                 &format!("room {room}"),
                 lexemes.map(Iterator::collect),
@@ -184,7 +223,21 @@ fn escape_string(bytes: &[u8]) -> Option<Difference> {
 
 /// Where the notation or the bits of a number differ.
 fn parse_str_radix(text: &[u8]) -> Option<Difference> {
-    let known = number::number(text).map(|known| {
+    radix(number::number(text), simmerpath::parse_str_radix(text))
+}
+
+/// The same in the documented reading.
+fn parse_str_radix_in(text: &[u8]) -> Option<Difference> {
+    let ours = simmerpath::parse_str_radix_in(text, Reading::Documented);
+    radix(separators::number(text), ours)
+}
+
+/// The same, given what must be and what is returned.
+fn radix(
+    known: Result<Number, Answer>,
+    ours: Result<simmerpath::Number, Error>,
+) -> Option<Difference> {
+    let known = known.map(|known| {
         let notation = match known.notation {
             Known::Decimal => Notation::Decimal,
             Known::Hex => Notation::Hex,
@@ -192,7 +245,6 @@ fn parse_str_radix(text: &[u8]) -> Option<Difference> {
         };
         (notation, known.bits)
     });
-    let ours = simmerpath::parse_str_radix(text);
     let ours = ours.map(|number| (number.notation, number.value.to_bits()));
     difference("the number", ours, known)
 }

@@ -1,8 +1,8 @@
 //! Compares the functions on strings with the Rust's: escaping, and the crate reading of literals.
 
 use crate::comparison::{compare, nowhere, Difference, Function, Outcome};
-use crate::ffi::{self, Lent};
-use crate::literal::{self, BOTH, CRATE};
+use crate::ffi::{self, Lent, BOTH, CRATE};
+use crate::literal;
 use compare::oracle::literal::Literal;
 use compare::oracle::string;
 use compare::oracle::utf8::admitted;

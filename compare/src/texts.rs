@@ -166,6 +166,40 @@ fn spoil(text: &[u8], random: &mut Random, texts: &mut Vec<Vec<u8>>) {
     }
 }
 
+/// The text with a separator between any two digits; where it has an `x`, between any two of hex, and behind the `x`.
+fn grouped(text: &str) -> String {
+    let is_hex = text.contains(&['x', 'X'][..]);
+    let is_digit = |c: char| c.is_ascii_digit() || is_hex && c.is_ascii_hexdigit();
+    let mut grouped = String::new();
+    for c in text.chars() {
+        if is_digit(c) && grouped.ends_with(|c| is_digit(c) || matches!(c, 'x' | 'X')) {
+            grouped.push('_');
+        }
+        grouped.push(c);
+    }
+    grouped
+}
+
+/// The text with separators at random places: many between two digits, few next to an `e` and behind the last digit.
+fn separated(random: &mut Random, text: &[u8]) -> Vec<u8> {
+    let often = 1 + random.below(4);
+    let mut separated: Vec<u8> = Vec::new();
+    for &byte in text {
+        let pair = [separated.last().copied().unwrap_or(b' '), byte];
+        let rarity = match pair.map(|byte| byte.to_ascii_lowercase()) {
+            [b'e', b'0'..=b'9'] | [b'0'..=b'9', b'e'] => 16,
+            [b'0'..=b'9' | b'a'..=b'f' | b'x', b'0'..=b'9' | b'a'..=b'f'] => often,
+            [b'0'..=b'9' | b'a'..=b'f' | b'x', 0..=0x7f] => 64,
+            _ => usize::MAX,
+        };
+        if random.below(rarity) == 0 {
+            separated.push(b'_');
+        }
+        separated.push(byte);
+    }
+    separated
+}
+
 /// The text with other bytes in the place of a part.
 pub fn replaced(text: &[u8], part: Range<usize>, bytes: &[u8]) -> Vec<u8> {
     [&text[..part.start], bytes, &text[part.end..]].concat()

@@ -1,9 +1,10 @@
 //! look: shows the queries on standard input, a line each, in colours by the class of each lexeme. Under a query that is
 //! refused stands a caret at the refused character, and why.
 //! `--color=always` and `--color=never` decide over colour; else there is some on a terminal, but for the variable NO_COLOR.
+//! With `--documented` queries are read as Prometheus documents it.
 
 use simmerpath::token::*;
-use simmerpath::{Error, Lexeme};
+use simmerpath::{Error, Lexeme, Reading};
 use std::env;
 use std::io::{self, BufRead, Write};
 use std::process::ExitCode;
@@ -28,16 +29,21 @@ const PICTURE_OF_DELETE: char = '\u{2421}';
 const MISUSED: u8 = 2;
 
 fn main() -> ExitCode {
-    let coloured = match env::args().nth(1).as_deref() {
-        None | Some("--color=auto") => is_colour_wanted(),
-        Some("--color=always") => true,
-        Some("--color=never") => false,
-        _ => {
-            eprintln!("usage: look [--color=always|never|auto]");
-            return ExitCode::from(MISUSED);
+    let mut coloured = is_colour_wanted();
+    let mut reading = Reading::Crate;
+    for option in env::args().skip(1) {
+        match &*option {
+            "--color=auto" => coloured = is_colour_wanted(),
+            "--color=always" => coloured = true,
+            "--color=never" => coloured = false,
+            "--documented" => reading = Reading::Documented,
+            _ => {
+                eprintln!("usage: look [--color=always|never|auto] [--documented]");
+                return ExitCode::from(MISUSED);
+            }
         }
-    };
-    match show_all(coloured) {
+    }
+    match show_all(reading, coloured) {
         Err(error) if error.kind() != io::ErrorKind::BrokenPipe => {
             eprintln!("look: {error}");
             ExitCode::FAILURE
@@ -65,12 +71,12 @@ fn is_on_terminal() -> bool {
     false
 }
 
-/// Shows the queries on standard input.
-fn show_all(coloured: bool) -> io::Result<()> {
+/// Shows the queries on standard input, read in a reading.
+fn show_all(reading: Reading, coloured: bool) -> io::Result<()> {
     let mut out = io::stdout().lock();
     for query in io::stdin().lock().split(b'\n') {
         let query = query?;
-        let shown = match simmerpath::lexer(&query) {
+        let shown = match simmerpath::lexer_in(&query, reading) {
             Ok(lexemes) => accepted(&String::from_utf8_lossy(&query), &lexemes, coloured),
             Err(error) => refused(&String::from_utf8_lossy(&query), error, coloured),
         };

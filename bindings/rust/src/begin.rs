@@ -62,19 +62,20 @@ fn string(sign: u8, text: &[u8]) -> usize {
     past(text, end, &[sign])
 }
 
-/// The length of a number or a duration, or of as much as may belong to one.
+/// The length of a number or a duration, or of as much as may belong to one. A `_` is taken as a digit: in a number it is a
+/// separator, or the place of the refusal, in either reading.
 fn numeral(text: &[u8]) -> usize {
     let is_hex = matches!(text, [b'0', b'x' | b'X', ..]);
     let (prefix, digit): (&[u8], fn(&u8) -> bool) = if is_hex {
-        (b"0x", u8::is_ascii_hexdigit)
+        (b"0x", |byte| byte.is_ascii_hexdigit() || *byte == b'_')
     } else {
-        (b"", u8::is_ascii_digit)
+        (b"", |byte| byte.is_ascii_digit() || *byte == b'_')
     };
     let whole = run(text, prefix.len(), digit);
     let fraction = run(text, past(text, whole, b"."), digit);
     let mark = past(text, fraction, b"eE");
     let end = if mark > fraction {
-        run(text, past(text, mark, b"+-"), u8::is_ascii_digit)
+        run(text, past(text, mark, b"+-"), digit)
     } else {
         fraction
     };

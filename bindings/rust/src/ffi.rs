@@ -31,7 +31,12 @@ pub mod raw {
             text: *mut u8,
             room: usize,
         ) -> u64;
-        pub fn simmerpath_parse_str_radix(text: *const u8, len: usize, bits: *mut u64) -> u64;
+        pub fn simmerpath_parse_str_radix(
+            text: *const u8,
+            len: usize,
+            documented: u32,
+            bits: *mut u64,
+        ) -> u64;
         pub fn simmerpath_parse_duration(
             text: *const u8,
             len: usize,
@@ -48,6 +53,7 @@ pub mod raw {
         pub fn simmerpath_lexer(
             query: *const u8,
             len: usize,
+            documented: u32,
             kinds: *mut u16,
             kinds_len: usize,
             starts: *mut u32,
@@ -125,9 +131,9 @@ pub(crate) fn unquote_string(literal: &[u8], documented: u32, text: &mut [u8]) -
 }
 
 /// The notation of a number, the bits of whose value are written to `bits`.
-pub(crate) fn parse_str_radix(text: &[u8], bits: &mut u64) -> u64 {
+pub(crate) fn parse_str_radix(text: &[u8], documented: u32, bits: &mut u64) -> u64 {
     // SAFETY: the pointer and the length are those of one slice, which is read only; `bits` is lent for the call.
-    unsafe { simmerpath_parse_str_radix(text.as_ptr(), text.len(), bits) }
+    unsafe { simmerpath_parse_str_radix(text.as_ptr(), text.len(), documented, bits) }
 }
 
 /// Zero for a duration, which is written to `secs` and `nanos`.
@@ -151,6 +157,7 @@ pub(crate) fn display_duration(secs: u64, nanos: u32, out: &mut [u8]) -> u64 {
 /// How many lexemes of a query are written to the fronts of the lists.
 pub(crate) fn lexer(
     query: &[u8],
+    documented: u32,
     kinds: &mut [u16],
     starts: &mut [u32],
     lengths: &mut [u32],
@@ -161,6 +168,7 @@ pub(crate) fn lexer(
         simmerpath_lexer(
             query.as_ptr(),
             query.len(),
+            documented,
             kinds.as_mut_ptr(),
             kinds.len(),
             starts.as_mut_ptr(),

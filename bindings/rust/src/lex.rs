@@ -2,6 +2,7 @@
 
 use crate::error::{result, Error};
 use crate::ffi;
+use crate::reading::Reading;
 use crate::token::TokenId;
 use core::iter::{FusedIterator, Zip};
 use core::ops::Range;
@@ -55,7 +56,7 @@ impl Lexeme {
     }
 }
 
-/// The lexemes of a query, its end included.
+/// The lexemes of a query, its end included, in the reading of promql-parser.
 ///
 /// # Errors
 ///
@@ -79,25 +80,54 @@ pub fn lexer<Q>(query: &Q) -> Result<alloc::vec::Vec<Lexeme>, Error>
 where
     Q: AsRef<[u8]> + ?Sized,
 {
+    lexer_in(query, Reading::Crate)
+}
+
+/// The lexemes of a query, its end included, in a reading.
+///
+/// # Errors
+///
+/// Those of [`lexer`].
+///
+/// ```
+/// use simmerpath::token::T_NUMBER;
+/// use simmerpath::{lexer_in, Lexeme, Reading};
+///
+/// let lexemes = lexer_in("up > 1_000", Reading::Documented)?;
+/// assert_eq!(lexemes[2], Lexeme { kind: T_NUMBER, start: 5, length: 5 });
+///
+/// let refused = lexer_in("up > 1_000", Reading::Crate).unwrap_err();
+/// assert_eq!((refused.number(), refused.byte()), (20, 6));
+/// let refused = lexer_in("up[1_000m]", Reading::Documented).unwrap_err();
+/// assert_eq!((refused.number(), refused.byte()), (20, 8));
+/// # Ok::<(), simmerpath::Error>(())
+/// ```
+#[cfg(feature = "alloc")]
+pub fn lexer_in<Q>(query: &Q, reading: Reading) -> Result<alloc::vec::Vec<Lexeme>, Error>
+where
+    Q: AsRef<[u8]> + ?Sized,
+{
     let query = query.as_ref();
     let room = query.len().min(crate::TEXT_LIMIT) + 1;
     let mut kinds = alloc::vec![0; room];
     let mut starts = alloc::vec![0; room];
     let mut lengths = alloc::vec![0; room];
-    lex_into(query, &mut kinds, &mut starts, &mut lengths).map(Iterator::collect)
+    lex_into(query, reading, &mut kinds, &mut starts, &mut lengths).map(Iterator::collect)
 }
 
-/// Writes the lexemes of a query, its end included, to the fronts of three lists. What stands behind them stays, and where the
-/// query is refused all of it. A query has at most one lexeme more than bytes.
+/// Writes the lexemes of a query, its end included, in a reading, to the fronts of three lists. What stands behind them stays, and
+/// where the query is refused all of it. A query has at most one lexeme more than bytes.
 ///
 /// # Errors
 ///
 /// Those of [`lexer`], and [`NO_ROOM`](crate::refusal::NO_ROOM) where the shortest list is too short.
 ///
 /// ```
+/// use simmerpath::{lex_into, Reading};
+///
 /// let query = "a or b";
 /// let (mut kinds, mut starts, mut lengths) = ([9; 5], [9; 5], [9; 5]);
-/// let lexemes = simmerpath::lex_into(query, &mut kinds, &mut starts, &mut lengths)?;
+/// let lexemes = lex_into(query, Reading::Crate, &mut kinds, &mut starts, &mut lengths)?;
 /// assert_eq!(lexemes.len(), 4);
 /// assert!(lexemes.map(|lexeme| lexeme.text(query)).eq(["a", "or", "b", ""]));
 /// assert_eq!((kinds, starts, lengths), ([1, 36, 1, 0, 9], [0, 2, 5, 6, 9], [1, 2, 1, 0, 9]));
@@ -105,6 +135,7 @@ where
 /// ```
 pub fn lex_into<'l, Q>(
     query: &Q,
+    reading: Reading,
     kinds: &'l mut [TokenId],
     starts: &'l mut [u32],
     lengths: &'l mut [u32],
@@ -113,7 +144,7 @@ where
     Q: AsRef<[u8]> + ?Sized,
 {
     let query = query.as_ref();
-    let answer = ffi::lexer(query, kinds, starts, lengths);
+    let answer = ffi::lexer(query, reading.documented(), kinds, starts, lengths);
     let count = result(answer, query)? as usize;
     let spans = starts[..count].iter().zip(&lengths[..count]);
     Ok(Lexemes {

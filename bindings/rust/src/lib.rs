@@ -2,8 +2,8 @@
 //!
 //! The work is done by C functions that are proved: each ends for all bytes and all lengths of what it is lent, with the one answer
 //! that its definition gives, or with a numbered refusal, after which all that it was lent is as it was. The functions here have
-//! the names of promql-parser's, whose answers they give, but for [`parse_duration_exact`], which that has not. All of them are safe to
-//! call, and none panics.
+//! the names of promql-parser's, whose answers they give. What that has not: [`parse_duration_exact`], and the reading that Prometheus
+//! documents, where it differs, which is asked for by a [`Reading`]. All of them are safe to call, and none panics.
 //!
 //! ```
 //! use simmerpath::token::{T_EOF, T_IDENTIFIER, T_LEFT_BRACKET};
@@ -44,6 +44,7 @@ mod ffi;
 mod lex;
 mod message;
 mod number;
+mod reading;
 pub mod refusal;
 mod string;
 mod text;
@@ -55,14 +56,15 @@ pub use error::Error;
 #[cfg(feature = "raw")]
 #[doc(hidden)]
 pub use ffi::raw;
-#[cfg(feature = "alloc")]
-pub use lex::lexer;
 pub use lex::{lex_into, Lexeme, Lexemes};
+#[cfg(feature = "alloc")]
+pub use lex::{lexer, lexer_in};
 pub use message::Message;
-pub use number::{parse_str_radix, Notation, Number};
+pub use number::{parse_str_radix, parse_str_radix_in, Notation, Number};
+pub use reading::Reading;
 #[cfg(feature = "alloc")]
 pub use string::{escape_string, unquote_str, unquote_string};
-pub use string::{escape_string_into, unquote_string_into, Reading};
+pub use string::{escape_string_into, unquote_string_into};
 pub use text::Text;
 pub use token::{
     get_keyword_token, is_aggregator, is_aggregator_with_param, is_comparison_operator, is_label,

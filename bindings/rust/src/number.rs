@@ -2,6 +2,7 @@
 
 use crate::error::{result, Error};
 use crate::ffi;
+use crate::reading::Reading;
 
 /// A number, and how it was written.
 #[derive(Clone, Copy, Debug, PartialEq)]
@@ -27,7 +28,7 @@ pub enum Notation {
 const HEX: u64 = 1;
 const OCTAL: u64 = 2;
 
-/// The number of a text. White space is dropped, wherever it stands.
+/// The number of a text in the reading of promql-parser. White space is dropped, wherever it stands.
 ///
 /// # Errors
 ///
@@ -45,9 +46,32 @@ const OCTAL: u64 = 2;
 /// # Ok::<(), simmerpath::Error>(())
 /// ```
 pub fn parse_str_radix<T: AsRef<[u8]> + ?Sized>(text: &T) -> Result<Number, Error> {
+    parse_str_radix_in(text, Reading::Crate)
+}
+
+/// The number of a text in a reading. White space is dropped, wherever it stands, before it is judged where a `_` stands.
+///
+/// # Errors
+///
+/// Those of [`parse_str_radix`].
+///
+/// ```
+/// use simmerpath::{parse_str_radix_in, Notation, Number, Reading};
+///
+/// let read = |text| parse_str_radix_in(text, Reading::Documented);
+/// assert_eq!(read("1_000.5")?, Number { value: 1000.5, notation: Notation::Decimal });
+/// assert_eq!(read("0x_ff")?, Number { value: 255.0, notation: Notation::Hex });
+/// assert_eq!(read("1__000").unwrap_err().number(), 60);
+/// assert_eq!(parse_str_radix_in("1_000.5", Reading::Crate).unwrap_err().number(), 60);
+/// # Ok::<(), simmerpath::Error>(())
+/// ```
+pub fn parse_str_radix_in<T>(text: &T, reading: Reading) -> Result<Number, Error>
+where
+    T: AsRef<[u8]> + ?Sized,
+{
     let text = text.as_ref();
     let mut bits = 0;
-    let answer = ffi::parse_str_radix(text, &mut bits);
+    let answer = ffi::parse_str_radix(text, reading.documented(), &mut bits);
     let notation = match result(answer, text)? {
         HEX => Notation::Hex,
         OCTAL => Notation::Octal,

@@ -40,7 +40,8 @@ refusals! {
     UNMATCHED_BRACKET = 18, "unexpected right bracket '{}'";
     /// Outside braces and brackets, a character that begins nothing.
     OTHER = 19, "unexpected character: {:?}";
-    /// Neither a number nor a duration. The place is the first character that cannot belong to it, or the end.
+    /// Neither a number nor a duration. The place is the first character that cannot belong to it, or the end: a `_` where none may
+    /// stand, too, and a unit behind a number with a `_`.
     NEITHER_NUMBER_NOR_DURATION = 20, "bad number or duration syntax";
     /// A backslash before a character that is no escape. The place is that character.
     UNKNOWN_ESCAPE = 21, "unknown escape sequence '{}'";
@@ -83,7 +84,7 @@ refusals! {
     OUT_OF_RANGE = 54, "the seconds are negative, not finite, or too many";
     /// A part whose number is above 4,294,967,295, by [`parse_duration_exact`](crate::parse_duration_exact).
     OVERSIZED_PART = 55, "a part of the duration is above 4,294,967,295";
-    /// Not the text of a number.
+    /// Not the text of a number, also for a `_` where none may stand.
     NOT_A_NUMBER = 60, "not the text of a number";
     /// Hexadecimal or octal, and outside a signed 64-bit integer.
     OUTSIDE_I64 = 61, "outside a signed 64-bit integer";

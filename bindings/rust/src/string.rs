@@ -2,6 +2,7 @@
 
 use crate::error::{literal_result, result, Error};
 use crate::ffi;
+use crate::reading::Reading;
 #[cfg(feature = "alloc")]
 use crate::TEXT_LIMIT;
 #[cfg(feature = "alloc")]
@@ -14,16 +15,6 @@ const INNER: u64 = 1 << 32;
 /// How many bytes an escape takes at most for each byte of a text.
 #[cfg(feature = "alloc")]
 const WIDEST_ESCAPE: usize = 2;
-
-/// How the escapes `\x` and `\` with octal digits are read.
-#[derive(Clone, Copy, Debug, Default, PartialEq, Eq, Hash)]
-pub enum Reading {
-    /// As promql-parser does: they give a code point. The text is UTF-8.
-    #[default]
-    Crate,
-    /// As Prometheus documents it: they give a byte. The text need not be UTF-8.
-    Documented,
-}
 
 /// The text of a string literal: the part of the literal itself where it has no escapes.
 ///
@@ -135,8 +126,8 @@ fn unquoted<'t>(
     reading: Reading,
     text: &mut [u8],
 ) -> Result<Unquoted<'t>, Error> {
-    let documented = u32::from(reading == Reading::Documented);
-    let answer = literal_result(ffi::unquote_string(literal, documented, text), literal)?;
+    let answer = ffi::unquote_string(literal, reading.documented(), text);
+    let answer = literal_result(answer, literal)?;
     let length = (answer % INNER) as usize;
     Ok(if answer < INNER {
         Unquoted::Written(length)

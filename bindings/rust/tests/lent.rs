@@ -2,14 +2,15 @@
 
 use simmerpath::token::{T_DURATION, T_EOF, T_IDENTIFIER};
 use simmerpath::{display_duration, escape_string_into, get_keyword_token, is_label, lex_into};
-use simmerpath::{parse_duration, parse_duration_exact, parse_str_radix, token_display};
-use simmerpath::{unquote_string_into, utf8, Lexeme, Reading};
+use simmerpath::{parse_duration, parse_duration_exact, parse_str_radix, parse_str_radix_in};
+use simmerpath::{token_display, unquote_string_into, utf8, Lexeme, Reading};
 use std::time::Duration;
 
 #[test]
 fn lexemes_in_lent_lists() {
     let (mut kinds, mut starts, mut lengths) = ([0; 5], [0; 5], [0; 5]);
-    let lexemes = lex_into("a[5m]", &mut kinds, &mut starts, &mut lengths).unwrap();
+    let reading = Reading::default();
+    let lexemes = lex_into("a[5m]", reading, &mut kinds, &mut starts, &mut lengths).unwrap();
     assert_eq!(lexemes.len(), 5);
     let last = lexemes.clone().next_back();
     let end = Lexeme {
@@ -25,8 +26,10 @@ fn lexemes_in_lent_lists() {
 
 #[test]
 fn an_empty_list_is_too_short() {
-    let error = lex_into("", &mut [], &mut [], &mut []).unwrap_err();
-    assert_eq!((error.number(), error.byte(), error.character()), (3, 0, 0));
+    for reading in [Reading::Crate, Reading::Documented] {
+        let error = lex_into("", reading, &mut [], &mut [], &mut []).unwrap_err();
+        assert_eq!((error.number(), error.byte(), error.character()), (3, 0, 0));
+    }
 }
 
 #[test]
@@ -60,6 +63,8 @@ fn what_needs_no_room() {
     assert_eq!(error.number(), 55);
     assert_eq!(display_duration(&Duration::from_secs(60)).as_str(), "1m");
     assert_eq!(parse_str_radix("0x10").unwrap().value, 16.0);
+    let read = parse_str_radix_in("0x_1_0", Reading::Documented).unwrap();
+    assert_eq!(read.value, 16.0);
     assert_eq!(token_display(T_EOF).as_str(), "<eof>");
     assert_eq!(get_keyword_token(""), None);
     assert!(!is_label(""));

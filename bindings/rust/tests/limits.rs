@@ -3,8 +3,8 @@
 
 use simmerpath::refusal::{NOT_UTF8, NO_ROOM, OVERSIZED_PART, TOO_LONG};
 use simmerpath::{escape_string, escape_string_into, lex_into, lexer, parse_duration};
-use simmerpath::{parse_duration_exact, parse_str_radix, unquote_str, unquote_string};
-use simmerpath::{unquote_string_into, Reading, NUMBER_LIMIT, TEXT_LIMIT};
+use simmerpath::{parse_duration_exact, parse_str_radix, parse_str_radix_in, unquote_str};
+use simmerpath::{unquote_string, unquote_string_into, Reading, NUMBER_LIMIT, TEXT_LIMIT};
 use std::borrow::Cow;
 
 /// What stands in a list before a call.
@@ -83,6 +83,17 @@ fn numbers_and_durations_at_the_limit() {
 }
 
 #[test]
+fn separators_count_for_the_limit() {
+    let read = |text: &str| parse_str_radix_in(text, Reading::Documented);
+    let digits = "8_".repeat(NUMBER_LIMIT / 2 - 1) + "8";
+    assert_eq!(read(&digits).unwrap_err().number(), 53);
+    let zeros = "0_".repeat(NUMBER_LIMIT / 2 - 1);
+    assert_eq!(read(&format!("{zeros}09")).unwrap().value, 9.0);
+    let error = read(&format!("{zeros}009")).unwrap_err();
+    assert_eq!(error.number(), TOO_LONG);
+}
+
+#[test]
 fn exact_durations_at_the_limit() {
     let nines = "9".repeat(NUMBER_LIMIT - 1);
     let number = |text: &str| parse_duration_exact(text).unwrap_err().number();
@@ -117,7 +128,13 @@ fn a_list_that_is_too_short_leaves_all_as_they_were() {
         let mut kinds = vec![BLANK.0; room(0)];
         let mut starts = vec![BLANK.1; room(1)];
         let mut lengths = vec![BLANK.2; room(2)];
-        let lexemes = lex_into("a[5m]", &mut kinds, &mut starts, &mut lengths);
+        let lexemes = lex_into(
+            "a[5m]",
+            Reading::Crate,
+            &mut kinds,
+            &mut starts,
+            &mut lengths,
+        );
         assert_eq!(lexemes.unwrap_err().number(), NO_ROOM);
         assert_eq!(kinds, vec![BLANK.0; room(0)]);
         assert_eq!(starts, vec![BLANK.1; room(1)]);
@@ -128,8 +145,14 @@ fn a_list_that_is_too_short_leaves_all_as_they_were() {
 #[test]
 fn a_refused_query_leaves_the_lists_as_they_were() {
     let (mut kinds, mut starts, mut lengths) = ([BLANK.0; 9], [BLANK.1; 9], [BLANK.2; 9]);
-    let lexemes = lex_into("a + b !", &mut kinds, &mut starts, &mut lengths);
-    assert_eq!(lexemes.unwrap_err().number(), 13);
+    for (query, reading, number) in [
+        ("a + b !", Reading::Crate, 13),
+        ("a + 1_0", Reading::Crate, 20),
+        ("1_0 + 1_", Reading::Documented, 20),
+    ] {
+        let lexemes = lex_into(query, reading, &mut kinds, &mut starts, &mut lengths);
+        assert_eq!(lexemes.unwrap_err().number(), number, "{query}");
+    }
     assert_eq!(
         (kinds, starts, lengths),
         ([BLANK.0; 9], [BLANK.1; 9], [BLANK.2; 9])

@@ -61,10 +61,12 @@ fn answer(record: &str) -> Option<String> {
         "unquote" => unquote_string_into(&bytes, Reading::Crate, &mut lent).map(hex),
         "unquotedoc" => unquote_string_into(&bytes, Reading::Documented, &mut lent).map(hex),
         "number" => parse_str_radix(&bytes).map(number),
+        "numberdoc" => parse_str_radix_in(&bytes, Reading::Documented).map(number),
         "duration" => parse_duration(&bytes).map(timed),
         "durexact" => parse_duration_exact(&bytes).map(timed),
         "durwrite" => Ok(written(&bytes, room)?),
-        "lex" => lexed(&bytes, lent.len()),
+        "lex" => lexed(&bytes, Reading::Crate, lent.len()),
+        "lexdoc" => lexed(&bytes, Reading::Documented, lent.len()),
         _ => panic!("there is no op {op}"),
     };
     Some(match answered {
@@ -117,9 +119,9 @@ fn written(digits: &[u8], room: Option<usize>) -> Option<String> {
 }
 
 /// The lexemes of a query in lists of so many entries.
-fn lexed(query: &[u8], room: usize) -> Result<String, Error> {
+fn lexed(query: &[u8], reading: Reading, room: usize) -> Result<String, Error> {
     let (mut kinds, mut starts, mut lengths) = (vec![0; room], vec![0; room], vec![0; room]);
-    let lexemes = lex_into(query, &mut kinds, &mut starts, &mut lengths)?;
+    let lexemes = lex_into(query, reading, &mut kinds, &mut starts, &mut lengths)?;
     let entry = |l: Lexeme| format!("{},{},{}", l.kind, l.start, l.length);
     Ok(lexemes.map(entry).collect::<Vec<_>>().join(" "))
 }

@@ -2,7 +2,7 @@
 #![cfg(feature = "alloc")]
 
 use simmerpath::utf8::encode;
-use simmerpath::{lexer, parse_duration, parse_duration_exact, parse_str_radix};
+use simmerpath::{lexer, lexer_in, parse_duration, parse_duration_exact, parse_str_radix};
 use simmerpath::{unquote_string, unquote_string_into, Error, Reading};
 
 /// A query, the number and byte of its refusal, and what promql-parser says of it.
@@ -102,6 +102,29 @@ fn of_queries() {
         assert_eq!((error.number(), error.byte()), (number, byte), "{query}");
         assert_eq!(said(query, error).0, message, "{query}");
     }
+}
+
+#[test]
+fn of_queries_with_separators() {
+    let refused = [
+        ("1 + 1__0", Reading::Crate, "1_"),
+        ("1 + 1__0", Reading::Documented, "1_"),
+        ("1_0 + 0x_f_", Reading::Crate, "1_"),
+        ("1_0 + 0x_f_", Reading::Documented, "0x_f_"),
+        ("a[1_0:5m5]", Reading::Documented, "5m5]"),
+        ("1_000m", Reading::Documented, "1_000m"),
+        ("1_0e+1_0z", Reading::Documented, "1_0e+1_0z"),
+        ("1.5_0 1h3_0m", Reading::Documented, "1h3_"),
+    ];
+    for (query, reading, lexeme) in refused {
+        let error = lexer_in(query, reading).unwrap_err();
+        assert_eq!(error.number(), 20, "{query}");
+        let message = format!("bad number or duration syntax: {lexeme}");
+        assert_eq!(said(query, error).0, message, "{query}");
+    }
+    let query = "1_0.5_0e-1_0 'it";
+    let error = lexer_in(query, Reading::Documented).unwrap_err();
+    assert_eq!(said(query, error).0, "unterminated quoted string '");
 }
 
 #[test]

@@ -1,10 +1,11 @@
-//! The values that document 01 gives, its misreadings to catch, the places and the exact durations of document 02, and the worked
-//! examples of promql-parser.
+//! The values that document 01 gives, its misreadings to catch, the places, the exact durations and the digit separators of
+//! document 02, and the worked examples of promql-parser.
 #![cfg(feature = "alloc")]
 
 use simmerpath::token::*;
-use simmerpath::{display_duration, lexer, parse_duration, parse_duration_exact, parse_str_radix};
-use simmerpath::{unquote_string, Error, Lexeme, Notation, Reading};
+use simmerpath::{display_duration, lexer, lexer_in, parse_duration, parse_duration_exact};
+use simmerpath::{parse_str_radix, parse_str_radix_in, unquote_string};
+use simmerpath::{Error, Lexeme, Notation, Reading};
 use std::time::Duration;
 
 /// The kinds of the lexemes of a query.
@@ -42,6 +43,60 @@ fn queries_that_are_refused() {
     assert_eq!(refused("[:5m]"), (29, 1, 1));
     assert_eq!(refused("5m3"), (20, 3, 3));
     assert_eq!(refused("\"é"), (23, 3, 2));
+}
+
+/// The kind and the length of a query that is one lexeme, or the byte of its refusal with 20.
+fn single(query: &str, reading: Reading) -> Result<(TokenId, usize), usize> {
+    let lexemes = lexer_in(query, reading).map_err(|error| {
+        assert_eq!(error.number(), 20, "{query}");
+        error.byte()
+    })?;
+    assert_eq!(lexemes.len(), 2, "{query}");
+    Ok((lexemes[0].kind, lexemes[0].length))
+}
+
+#[test]
+fn separators_in_both_readings() {
+    let cases = [
+        ("1__0", 1, 1),
+        ("1_", 1, 1),
+        ("1_.5", 1, 1),
+        ("1._5", 2, 2),
+        ("1e_5", 2, 2),
+        ("0x_", 2, 2),
+        ("0x__1", 2, 2),
+        ("0_x1", 1, 1),
+        ("1_000m", 1, 5),
+        ("1_0em", 1, 4),
+        ("1_0z", 1, 3),
+        ("5_m", 1, 1),
+        ("1h3_0m", 3, 3),
+    ];
+    for (query, byte, documented) in cases {
+        assert_eq!(single(query, Reading::Crate), Err(byte), "{query}");
+        let answer = single(query, Reading::Documented);
+        assert_eq!(answer, Err(documented), "{query}");
+    }
+    let cases = [
+        ("1_000", 1),
+        ("0x_1f", 2),
+        ("0x1_e", 3),
+        ("1_0e1_0", 1),
+        (".5_0", 2),
+        ("1.5_0", 3),
+        ("1_0e", 1),
+        ("0x1.8_8", 5),
+        ("0_17", 1),
+    ];
+    for (query, byte) in cases {
+        assert_eq!(single(query, Reading::Crate), Err(byte), "{query}");
+        let answer = single(query, Reading::Documented);
+        assert_eq!(answer, Ok((T_NUMBER, query.len())), "{query}");
+    }
+    for reading in [Reading::Crate, Reading::Documented] {
+        assert_eq!(single("_1", reading), Ok((T_IDENTIFIER, 2)));
+        assert_eq!(single("1em", reading), Ok((T_DURATION, 3)));
+    }
 }
 
 #[test]
@@ -182,6 +237,36 @@ fn numbers() {
     assert_eq!(number("9007199254740993"), 53);
     assert_eq!(number("0e5"), 60);
     assert_eq!(number("-0x8000000000000000"), 61);
+}
+
+#[test]
+fn numbers_with_separators() {
+    use Notation::{Decimal, Hex, Octal};
+    let crate_number = |text| parse_str_radix(text).unwrap_err().number();
+    let documented = |text| parse_str_radix_in(text, Reading::Documented);
+    let cases = [
+        ("1 _ 0", 10.0, Decimal),
+        ("0x_5", 5.0, Hex),
+        ("-0x_5", -5.0, Hex),
+        ("0x-5_0", -80.0, Hex),
+        ("0_17", 15.0, Octal),
+        ("0_8", 8.0, Decimal),
+        ("1_0e1_0", 1e11, Decimal),
+        ("9_007_199_254_740_992", 9_007_199_254_740_992.0, Decimal),
+    ];
+    for (text, value, notation) in cases {
+        let read = documented(text).unwrap();
+        assert_eq!((read.value, read.notation), (value, notation), "{text}");
+        assert_eq!(crate_number(text), 60, "{text}");
+    }
+    for text in ["0x-_5", "0_x5", "1_e5", "i_nf", "_1", "1_"] {
+        let error = documented(text).unwrap_err();
+        assert_eq!((error.number(), error.has_place()), (60, false), "{text}");
+        assert_eq!(crate_number(text), 60, "{text}");
+    }
+    let number = |text| documented(text).unwrap_err().number();
+    assert_eq!(number("9_007_199_254_740_993"), 53);
+    assert_eq!(number("0x_8000_0000_0000_0000"), 61);
 }
 
 #[test]

@@ -74,6 +74,9 @@ pub fn lexemes(query: &str) -> Result<Vec<(u16, usize, usize)>, String> {
 /// The same, step by step.
 pub use lex::steps::{steps, Place, Steps, Stopped};
 
+/// What the Rust's files lean on, for what reads beside them.
+pub use regex::Regex;
+
 /// A text, escaped.
 pub fn escape(text: &str) -> String {
     string::escape_string(text)

@@ -1,4 +1,4 @@
-//! The documented reading of string literals, by the program of `go/unquote.go` as `compare/check` builds it.
+//! The documented reading of string literals, by the program of `go/` as `compare/check` builds it; and how that is asked.
 
 use super::literal::Literal;
 use crate::texts::{from_hex, hex};
@@ -7,10 +7,13 @@ use std::iter;
 use std::process::{Command, Stdio};
 use std::thread;
 
-/// The program.
-const PROGRAM: &str = concat!(env!("CARGO_MANIFEST_DIR"), "/../target/go/unquote");
+#[cfg(feature = "promql")]
+pub mod number;
 
-/// The program is asked about so many bytes of literals at a time, or some more.
+/// The program.
+const PROGRAM: &str = concat!(env!("CARGO_MANIFEST_DIR"), "/../target/go/read");
+
+/// The program is asked about so many bytes of texts at a time, or some more.
 const BATCH: usize = 1 << 22;
 
 /// A literal, and what Go says that it stands for.
@@ -28,56 +31,8 @@ impl Documented {
 }
 
 /// The literals, with what Go says of each.
-pub fn documented(mut literals: impl Iterator<Item = Vec<u8>>) -> impl Iterator<Item = Documented> {
-    let batches = iter::from_fn(move || batch(&mut literals));
-    batches.flat_map(|literals| {
-        let texts = unquote(&literals);
-        let asked = literals.into_iter().zip(texts);
-        asked.map(|(bytes, text)| Documented { bytes, text })
-    })
-}
-
-/// The literals that are asked about next; none at the end.
-fn batch(literals: &mut impl Iterator<Item = Vec<u8>>) -> Option<Vec<Vec<u8>>> {
-    let mut batch = vec![literals.next()?];
-    let mut bytes = batch[0].len();
-    while bytes < BATCH {
-        match literals.next() {
-            Some(literal) => {
-                bytes += literal.len();
-                batch.push(literal);
-            }
-            None => break,
-        }
-    }
-    Some(batch)
-}
-
-/// What the program says that each literal stands for: none for a bad one.
-fn unquote(literals: &[Vec<u8>]) -> Vec<Option<Vec<u8>>> {
-    let said = ask(literals)
-        .unwrap_or_else(|error| panic!("{PROGRAM}: {error} (compare/check builds it)"));
-    let texts: Vec<_> = said.lines().map(text).collect();
-    assert_eq!(texts.len(), literals.len(), "{PROGRAM} answers each line");
-    texts
-}
-
-/// What the program writes, given a line for each literal. These are written by another thread, lest both programs wait.
-fn ask(literals: &[Vec<u8>]) -> io::Result<String> {
-    let mut program = Command::new(PROGRAM)
-        .stdin(Stdio::piped())
-        .stdout(Stdio::piped())
-        .spawn()?;
-    let input = program.stdin.take().expect("its input is piped");
-    let output = thread::scope(|scope| {
-        scope.spawn(|| {
-            let mut input = BufWriter::new(input);
-            let mut lines = literals.iter().map(|literal| hex(literal));
-            lines.try_for_each(|line| writeln!(input, "{line}"))
-        });
-        program.wait_with_output()
-    })?;
-    Ok(String::from_utf8_lossy(&output.stdout).into_owned())
+pub fn documented(literals: impl Iterator<Item = Vec<u8>>) -> impl Iterator<Item = Documented> {
+    asked("literals", literals, text).map(|(bytes, text)| Documented { bytes, text })
 }
 
 /// The text that a line of the program has; none where it says `bad`.
@@ -85,4 +40,55 @@ fn text(line: &str) -> Option<Vec<u8>> {
     let text = line.strip_prefix("ok ").and_then(from_hex);
     assert!(text.is_some() || line == "bad", "{PROGRAM} says {line}");
     text
+}
+
+/// Texts, with what the program says of each as literals or as numbers, given what a line of it means.
+fn asked<T>(
+    kind: &'static str,
+    mut texts: impl Iterator<Item = Vec<u8>>,
+    meant: fn(&str) -> T,
+) -> impl Iterator<Item = (Vec<u8>, T)> {
+    let batches = iter::from_fn(move || batch(&mut texts));
+    batches.flat_map(move |texts| {
+        let said = ask(kind, &texts)
+            .unwrap_or_else(|error| panic!("{PROGRAM}: {error} (compare/check builds it)"));
+        let said: Vec<_> = said.lines().map(meant).collect();
+        assert_eq!(said.len(), texts.len(), "{PROGRAM} answers each line");
+        texts.into_iter().zip(said)
+    })
+}
+
+/// The texts that are asked about next; none at the end.
+fn batch(texts: &mut impl Iterator<Item = Vec<u8>>) -> Option<Vec<Vec<u8>>> {
+    let mut batch = vec![texts.next()?];
+    let mut bytes = batch[0].len();
+    while bytes < BATCH {
+        match texts.next() {
+            Some(text) => {
+                bytes += text.len();
+                batch.push(text);
+            }
+            None => break,
+        }
+    }
+    Some(batch)
+}
+
+/// What the program writes, given a line for each text. These are written by another thread, lest both programs wait.
+fn ask(kind: &str, texts: &[Vec<u8>]) -> io::Result<String> {
+    let mut program = Command::new(PROGRAM)
+        .arg(kind)
+        .stdin(Stdio::piped())
+        .stdout(Stdio::piped())
+        .spawn()?;
+    let input = program.stdin.take().expect("its input is piped");
+    let output = thread::scope(|scope| {
+        scope.spawn(|| {
+            let mut input = BufWriter::new(input);
+            let mut lines = texts.iter().map(|text| hex(text));
+            lines.try_for_each(|line| writeln!(input, "{line}"))
+        });
+        program.wait_with_output()
+    })?;
+    Ok(String::from_utf8_lossy(&output.stdout).into_owned())
 }

@@ -13,6 +13,10 @@ type At = fn(&mut Stopped) -> Place;
 /// as Rust shows it, `{text}` for the lexeme up to and with that character, and `{sign}` for the lexeme's first.
 type Row = (u8, &'static str);
 
+/// The number of the refusal of what is neither a number nor a duration, and what the Rust says of it.
+const BAD_NUMERAL: u8 = 20;
+const SAID_OF_NUMERAL: &str = "bad number or duration syntax: {text}";
+
 /// The refusals of the reading, by their places.
 const REFUSALS: [(At, &[Row]); 4] = [
     (
@@ -52,20 +56,19 @@ const REFUSALS: [(At, &[Row]); 4] = [
             (31, "unexpected character inside brackets: '{}'"),
         ],
     ),
-    (
-        Stopped::not_taken,
-        &[(20, "bad number or duration syntax: {text}")],
-    ),
+    (Stopped::not_taken, &[(BAD_NUMERAL, SAID_OF_NUMERAL)]),
 ];
 
 /// What a query is read as: the kind, start and length of each lexeme, and the refusal behind these where there is one.
-#[derive(Default)]
+#[derive(Default, PartialEq)]
 pub struct Lexed {
     pub kinds: Vec<u16>,
     pub starts: Vec<u32>,
     pub lengths: Vec<u32>,
     refused: Option<Answer>,
     said: Option<String>,
+    /// Where the text begins that no lexeme has.
+    rest: usize,
 }
 
 impl Lexed {
@@ -81,8 +84,9 @@ impl Lexed {
     }
 
     /// What a query is read as that is UTF-8 within the limit. The steps must come to what the Rust's public function gives.
-    fn of(query: &str) -> Self {
+    pub(super) fn of(query: &str) -> Self {
         let steps = promql::steps(query);
+        let rest = steps.stopped.as_ref().map_or(0, Stopped::start);
         let stepped = match &steps.stopped {
             Some(stopped) => Err(&stopped.said),
             None => Ok(&steps.lexemes),
@@ -96,6 +100,31 @@ impl Lexed {
             lengths: lexemes.map(|lexeme| lexeme.2 as u32).collect(),
             refused: steps.stopped.map(|stopped| refusal(query, stopped)),
             said,
+            rest,
+        }
+    }
+
+    /// Where what is neither a number nor a duration begins, and where it goes wrong; none where nothing is refused for that.
+    pub(super) fn bad_numeral(&self) -> Option<(usize, usize)> {
+        match self.refused {
+            Some(Answer::Refused(BAD_NUMERAL, byte, _)) => Some((self.rest, byte.into())),
+            _ => None,
+        }
+    }
+
+    /// The same lexemes, and behind them, from byte `start` of a query, what is neither and goes wrong at another place.
+    pub(super) fn with_bad_numeral(
+        self,
+        query: &str,
+        start: usize,
+        byte: usize,
+        character: u64,
+    ) -> Self {
+        let said = filled(SAID_OF_NUMERAL, query, start, byte);
+        Lexed {
+            refused: Some(Answer::Refused(BAD_NUMERAL, byte as u16, character as u16)),
+            said: Some(said),
+            ..self
         }
     }
 

@@ -11,19 +11,19 @@ use super::{Answer, MOST_NUMBER_BYTES};
 /// The number of the refusal of a decimal outside the exact range.
 pub(super) const NOT_EXACT: u8 = 53;
 /// The number of the refusal of what is not a number text.
-const NOT_A_NUMBER: u8 = 60;
+pub(super) const NOT_A_NUMBER: u8 = 60;
 /// The number of the refusal of hex or octal outside a signed 64-bit integer.
 const TOO_GREAT: u8 = 61;
 
 /// The bits of every NaN.
-const NAN: u64 = 0x7ff8_0000_0000_0000;
+pub(super) const NAN: u64 = 0x7ff8_0000_0000_0000;
 
 /// The greatest w, and the least and the greatest E, of an exact value, w times 10^E.
 const MOST_EXACT: u64 = 1 << 53;
 const EXACT_SCALES: [i128; 2] = [-22, 22];
 
 /// How a number is written, by the number that our C function answers with.
-#[derive(Clone, Copy, PartialEq, Eq)]
+#[derive(Clone, Copy, Debug, PartialEq, Eq)]
 pub enum Notation {
     Decimal = 0,
     Hex = 1,
@@ -31,6 +31,7 @@ pub enum Notation {
 }
 
 /// A number, by the bits of its `f64`.
+#[derive(Debug, PartialEq)]
 pub struct Number {
     pub notation: Notation,
     pub bits: u64,
@@ -77,13 +78,13 @@ pub fn is_known(bytes: &[u8]) -> bool {
 }
 
 /// A text without white space, in lower case.
-fn bare(text: &str) -> String {
+pub(super) fn bare(text: &str) -> String {
     let dark = text.chars().filter(|c| !c.is_whitespace());
     dark.collect::<String>().to_ascii_lowercase()
 }
 
 /// How a text is written by document 01, and its digits with the sign of their own; none for an `x` without a leading 0.
-fn notation(bare: &str) -> Option<(Notation, &str)> {
+pub(super) fn notation(bare: &str) -> Option<(Notation, &str)> {
     let unsigned = bare.strip_prefix(&['+', '-'][..]).unwrap_or(bare);
     let leading = unsigned.starts_with('0') && unsigned != "0";
     if !bare.contains('x') && (!leading || bare.contains(&['.', '8', '9'][..])) {

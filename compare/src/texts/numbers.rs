@@ -1,6 +1,8 @@
 //! Number texts, and texts that are nearly such.
 
-use super::{cut_characters, replaced, sequences, short, table_ends, well_formed};
+use super::{
+    cut_characters, grouped, replaced, separated, sequences, short, table_ends, well_formed,
+};
 use crate::oracle::MOST_NUMBER_BYTES;
 use crate::random::Random;
 use std::iter;
@@ -79,6 +81,37 @@ const SAMPLES: [&str; 24] = [
     "0x7fffffffffffffff",
 ];
 
+/// Bytes that numbers with separators are made of.
+const SEPARATED_BYTES: [u8; 9] = *b"018f_.ex-";
+
+/// Numbers with separators, and what is nearly one.
+const SEPARATED: [&str; 24] = [
+    "1_000",
+    "1 _ 0",
+    "1_\u{2003}0",
+    "-1_0.2_5e-1_0",
+    "+.5_0",
+    "5_0.",
+    "1_0E+2_2",
+    "0_17",
+    "-0-1_7",
+    "0_8",
+    "0_0",
+    "0x_5",
+    "-0X_f_F",
+    "0x-5_0",
+    "9_007_199_254_740_992",
+    "9_007_199_254_740_993",
+    "0x7fff_ffff_ffff_ffff",
+    "0x-_5",
+    "0_x5",
+    "1_e5",
+    "1_.5",
+    "1__0",
+    "i_nf",
+    "na_n",
+];
+
 /// The names of numbers.
 const NAMES: [&str; 3] = ["inf", "infinity", "nan"];
 
@@ -141,6 +174,48 @@ pub fn fixed() -> impl Iterator<Item = Vec<u8>> {
         )
         .chain(not_utf8())
         .chain(padded(&SAMPLES))
+}
+
+/// Texts with separators: every one of at most six bytes; numbers of each kind, and decimals and integers at their bounds, with
+/// separators between all their digits; the samples with one or two more at every place; runs of digits of any length, and
+/// texts around the limit; and each character behind a separator.
+pub fn fixed_separated() -> impl Iterator<Item = Vec<u8>> {
+    let sequences = sequences(&SEPARATED_BYTES, 6).filter(|bytes| bytes.contains(&b'_'));
+    let samples = || SAMPLES.into_iter().chain(SEPARATED);
+    let numbers = samples()
+        .map(String::from)
+        .chain(decimals().step_by(5))
+        .chain(integers().step_by(5))
+        .map(|number| grouped(&number));
+    let spoiled = samples().flat_map(|sample| {
+        let once = near(sample.as_bytes(), &["_", "__", " _", "0_0", "x_"]);
+        once.into_iter().flat_map(|text| near(&text, &["_"]))
+    });
+    let runs = (0..=MOST_NUMBER_BYTES / 2 + 1).flat_map(|count| {
+        let run = |piece: &str| piece.repeat(count);
+        [
+            format!("1{}", run("_0")),
+            format!("{}8", run("0_")),
+            format!("0{}", run("_7")),
+            format!("0x{}", run("_f")),
+            format!("-0x{}", run("f_")),
+            format!(".{}5e{count}", run("0_")),
+            format!("1e{}22", run("0_")),
+            format!("1{}", run("_")),
+        ]
+    });
+    let plane = (0..=0xffff).filter_map(char::from_u32);
+    let texts = numbers.chain(runs).chain(plane.map(|c| format!("1_{c}5")));
+    sequences
+        .chain(texts.map(String::into_bytes))
+        .chain(spoiled)
+        .chain(padded(&SEPARATED))
+}
+
+/// Random texts without end, with separators in what has digits.
+pub fn random_separated(seed: u64) -> impl Iterator<Item = Vec<u8>> {
+    let mut places = Random::new(!seed);
+    random(seed).map(move |text| separated(&mut places, &text))
 }
 
 /// Decimals in many spellings, exact ones and others.

@@ -4,7 +4,9 @@ use super::durations::any_units;
 use super::literals::literal;
 use super::numbers::{any_decimal, near, spoiled, NO_WHITE_SPACE, WHITE_SPACE};
 use super::words::{cased, recased};
-use super::{cut_characters, replaced, sequences, short, table_ends, well_formed};
+use super::{
+    cut_characters, grouped, replaced, separated, sequences, short, table_ends, well_formed,
+};
 use crate::oracle::MOST_BYTES;
 use crate::random::Random;
 use std::iter;
@@ -176,6 +178,55 @@ const NO_NUMBERS: [&str; 15] = [
     "5m5\u{e9}",
     "5a\u{e9}",
 ];
+
+/// Numbers with separators, and what is nearly one.
+const SEPARATED: [&str; 42] = [
+    "1_000",
+    "0x_1f",
+    "0x1_e",
+    "1_0e1_0",
+    ".5_0",
+    "1.5_0",
+    "1_0e",
+    "0x1.8_8",
+    "0_17",
+    "1_0.",
+    "0X_f_F",
+    "0x_1.8_8",
+    "1_0.0_1e+1_0",
+    "0x1_e+5_0",
+    "1_0e-",
+    "1__0",
+    "1_",
+    "1_.5",
+    "1._5",
+    "1e_5",
+    "1e+_5",
+    "0x_",
+    "0x__1",
+    "0x._8",
+    "0x_.8",
+    "0x1_.8",
+    "0_x1",
+    "1_000m",
+    "1_0em",
+    "1_0.5s",
+    "0x_5m",
+    "1_0z",
+    "1_0.5.",
+    "1_0..",
+    "5_m",
+    "5m_",
+    "1h3_0m",
+    "1h30_m",
+    "1_0_",
+    "1_0\u{e9}",
+    "_1",
+    "._5",
+];
+
+/// What numbers with separators are made of.
+const SEPARATED_PIECES: [&str; 9] = ["0", "1", "_", ".", "e", "x", "m", "s", "f"];
 
 /// Strings, and what is nearly one.
 const STRINGS: [&str; 13] = [
@@ -548,6 +599,19 @@ const LONGEST: [[&str; 3]; 70] = [
     ["", "'\u{e9}' ", "$"],
 ];
 
+/// The same, of one long number with separators each.
+const LONGEST_SEPARATED: [[&str; 3]; 9] = [
+    ["1", "_0", ""],
+    ["1", "_0", "_"],
+    ["1", "_0", "m"],
+    ["0x", "_f", ""],
+    ["0x", "f_", "f.8"],
+    [".5", "_5", "e_"],
+    ["1e", "0_", "5"],
+    ["1h", "0_", "5m"],
+    ["[5m:", "1_", "1]"],
+];
+
 /// Every text of at most two bytes, and of at most four telling characters; every row of the pieces of each rule; any two
 /// pieces; the words, and every character, with much around them; deep parentheses; escapes; texts that are not UTF-8; queries
 /// cut short at each byte, and with a byte changed; texts around the limit.
@@ -564,6 +628,50 @@ pub fn fixed<'a>(words: &'a [&str]) -> impl Iterator<Item = Vec<u8>> + 'a {
         .chain(not_utf8())
         .chain(samples())
         .chain(long())
+}
+
+/// Queries with separators: every text of at most six pieces of numbers, and of at most five in brackets and behind a longer
+/// character; a number with separators and another piece, together and apart; the queries with separators between all their
+/// digits, and with one, or with a number, put in at each place; texts around the limit.
+pub fn fixed_separated() -> impl Iterator<Item = Vec<u8>> {
+    let arounds = [
+        (["", ""], 6),
+        (["[", "]"], 5),
+        (["a + '\u{e9}' - ", " + 1_0"], 5),
+    ];
+    let rows = arounds.into_iter().flat_map(|([front, back], most)| {
+        let rows = sequences(&SEPARATED_PIECES, most).map(|pieces| pieces.concat());
+        rows.filter(|row| row.contains('_'))
+            .map(move |row| [front, &row, back].concat())
+    });
+    let pieces = || PIECES.into_iter().flatten().chain(&SEPARATED);
+    let pairs = SEPARATED.into_iter().flat_map(move |number| {
+        pieces().flat_map(move |piece| {
+            ["", " ", "+"].into_iter().flat_map(move |between| {
+                let pairs = [[number, between, piece], [piece, between, number]];
+                pairs.map(|pair| pair.concat())
+            })
+        })
+    });
+    let pairs = pairs.flat_map(|pair| AROUND.map(|[front, back]| [front, &pair, back].concat()));
+    let samples = QUERIES.into_iter().flat_map(|query| {
+        let grouped = grouped(query).into_bytes();
+        let put_in = ["_", "1_0", "0x_f", "1_0m", " 1__0"];
+        [query.as_bytes(), &grouped].map(|query| near(query, &put_in))
+    });
+    let long = LONGEST_SEPARATED.into_iter().flat_map(|parts| {
+        (MOST_BYTES - 1..=MOST_BYTES + 1).map(move |length| of_length(parts, length).into_bytes())
+    });
+    rows.chain(pairs)
+        .map(String::into_bytes)
+        .chain(samples.flatten())
+        .chain(long)
+}
+
+/// Random texts without end, with separators in what has digits.
+pub fn random_separated<'a>(seed: u64, words: &'a [&str]) -> impl Iterator<Item = Vec<u8>> + 'a {
+    let mut places = Random::new(!seed);
+    random(seed, words).map(move |text| separated(&mut places, &text))
 }
 
 /// Every text of at most four telling characters.

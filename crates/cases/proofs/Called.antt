@@ -14,6 +14,7 @@ use denote.Triple.Clauses.{AtExit}
 use borrow.Author.Tests.{leb-true, le-leb}
 use Rattle.proving.proofs.One.{Answers, Leaves, Shows}
 use Rattle.utf8.specs.declared.Reading.{Reading}
+use Rattle.utf8.specs.declared.Reading.the-variants.{Crate}
 use Rattle.utf8.specs.declared.Writing.{Writing}
 use Rattle.utf8.specs.declared.Writing.the-variants.{Written}
 use Rattle.utf8.specs.Writing.{leftBy}
@@ -76,11 +77,11 @@ pub record Unquoted (r : Reading) (xs ys d : List ℕ) : Type 0 where
   pub leaves : Leaves unquote.ps unquote.r unquote-reads.Post (Lent r xs d) (λ κs e. now (e .1 .1 .0)) left
   pub hands : Shows part.ps part.r part-reads.Post (λ κs a. (now (a .0) ≡ xs) × (now (a .1 .0) ≡ left) × (a .1 .1 .0 ≡ answer)) (λ κs x. now x) ys
 
--- calls of `lexer` on the query are accepted in any lists that its lexemes fit, and leave their kinds there, or are refused; those on the
--- literal hand its text back, with any buffer that it fits
+-- calls of `lexer` on the query in the crate reading are accepted in any lists that its lexemes fit, and leave their kinds there, or are refused;
+-- those on the literal hand its text back, with any buffer that it fits
 abbrev pub Called : Case → Type 0
-Called (lexes q ks) = (c : LexCall q) → length ks ≤ roomIn c → (c .result ≡ lexing.Count (length ks)) × (take (length ks) (kindsLeft c) ≡ ks)
-Called (refuses q r p) = (c : LexCall q) → c .result ≡ lexing.Refused (refusedAt q r p)
+Called (lexes q ks) = (c : LexCall Crate q) → length ks ≤ roomIn c → (c .result ≡ lexing.Count (length ks)) × (take (length ks) (kindsLeft c) ≡ ks)
+Called (refuses q r p) = (c : LexCall Crate q) → c .result ≡ lexing.Refused (refusedAt q r p)
 Called (literal r xs ys) = (d : List ℕ) → length ys ≤ length d → Unquoted r xs ys d
 Called (timed xs t) = (c : Timed xs) → c .result ≡ t
 Called (written d ys) = (room : ℕ) (c : Displayed d room) → length ys ≤ room → d .nanos < nanosASecond → (c .result ≡ Written (length ys)) × (take (length ys) (now (c .exit .1 .0)) ≡ ys)
@@ -88,12 +89,12 @@ Called (written d ys) = (room : ℕ) (c : Displayed d room) → length ys ≤ ro
 lexes-called : (q ks : List ℕ) → Shown (lexes q ks) → Called (lexes q ks)
 unfolding lexed
 lexes-called q ks s c h =
-    let e : c .result ≡ lexing.Count (length ks) = answered q c ∙ rw (s .0, le-leb (length ks) (roomIn c) h) in
-    (e, writes q c (length ks) e .0 ∙ s .1)
+    let e : c .result ≡ lexing.Count (length ks) = answered Crate q c ∙ rw (s .0, le-leb (length ks) (roomIn c) h) in
+    (e, writes Crate q c (length ks) e .0 ∙ s .1)
 
 refuses-called : (q : List ℕ) (r p : ℕ) → Shown (refuses q r p) → Called (refuses q r p)
 unfolding lexed
-refuses-called q r p s c = answered q c ∙ ap (roomed (roomIn c)) s
+refuses-called q r p s c = answered Crate q c ∙ ap (roomed (roomIn c)) s
 
 literal-called : (r : Reading) (xs ys : List ℕ) → Shown (literal r xs ys) → isAscii xs ≡ true → leb (length xs) textLimit ≡ true → Called (literal r xs ys)
 literal-called r xs ys s a l d h =

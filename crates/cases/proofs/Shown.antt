@@ -5,6 +5,7 @@ use lib.Count.{trailingZeros}
 use lib.Ieee.{round, size, span, climb, units as floatUnits, odd, lt, le}
 use Rattle.scan.specs.Ascii.{ascii}
 use Rattle.scan.specs.Run.{runLength}
+use Rattle.scan.specs.Separated.{separatedLength}
 use Rattle.scan.specs.Text.{has, sameText}
 use Rattle.scan.specs.Byte.{isWithin, isHexDigit, digitOf, isDigitIn, lowered, isIn, isAlpha, isQuote}
 use Rattle.utf8.specs.Table.{fits, sizeIn, charLength}
@@ -36,7 +37,7 @@ use Rattle.lex.specs.Lex.{answerBy, measured}
 use Rattle.cases.specs.laws.Cases.{Case, queries, texts, elapsed, days, Shown, Each, AllShown}
 
 pub queries-shown : Each Shown queries
-unfolding measured answerBy stepsPast readFrom munched stepIn outsideTable braceTable bracketTable isWordStart isQuote wordStep braceWord numberStep commentStep rightParenStep endStep colonStep deeper ruleBy braceRule kindBy isFill isOr keywordOf words kindIn numeralOf numberEnd exponentEnd fractionEnd isHex isUnit durationFrom turnOf stopOf commentEnd isSign admitted validityOf charsPast sizeOf charNumber begunIn charLength sizeIn fits codeOf isWithin isIn isSpace isAlpha isAlphaNumeric isWord isLine lowered runLength sameText has
+unfolding measured answerBy stepsPast readFrom munched stepIn outsideTable braceTable bracketTable isWordStart isQuote wordStep braceWord numberStep commentStep rightParenStep endStep colonStep deeper ruleBy braceRule kindBy isFill isOr keywordOf words kindIn numeralOf numberEnd exponentEnd fractionEnd isHex isUnit durationFrom turnOf stopOf commentEnd isSign admitted validityOf charsPast sizeOf charNumber begunIn charLength sizeIn fits codeOf isWithin isIn isSpace isAlpha isAlphaNumeric isWord isLine lowered runLength separatedLength sameText has
 queries-shown = ((refl, refl), ((refl, refl), ((refl, refl), (refl, ((refl, refl), ((refl, refl), ((refl, refl), (refl, tt))))))))
 
 -- the durations that are read

@@ -7,6 +7,7 @@ use mathlib.Core.Path.{_≡_, sym, ap, _∙_}
 use lib.ListN.{take, getD}
 use denote.Ref.{now}
 use Rattle.scan.specs.Ascii.{ascii}
+use Rattle.utf8.specs.declared.Reading.the-variants.{Crate}
 use Rattle.utf8.specs.declared.Refusal.{Refusal}
 use Rattle.lex.specs.declared.Lexing.{Lexing}
 use Rattle.lex.specs.declared.Lexing.the-variants.{Count, Refused}
@@ -31,7 +32,7 @@ count : Lexing → ℕ
 count (Count n) = n
 count (Refused r) = 0
 
-module _ (c : LexCall fill) (room : 4 ≤ roomIn c) where
+module _ (c : LexCall Crate fill) (room : 4 ≤ roomIn c) where
   -- "always refusing"
   pub never-refused : (r : Refusal) → c .result ≡ Refused r → ⊥
   unfolding count
@@ -47,7 +48,7 @@ module _ (c : LexCall fill) (room : 4 ≤ roomIn c) where
   kind i = ap (λ (ks : List ℕ). getD ks i 0) (fill-called c room .1)
 
   -- "writing nothing and claiming success"
-  pub something-written : take 4 (now (c .args .1 .0)) ≡ 0 ∷ 0 ∷ 0 ∷ 0 ∷ [] → kindsLeft c ≡ now (c .args .1 .0) → ⊥
+  pub something-written : take 4 (now (c .args .1 .1 .0)) ≡ 0 ∷ 0 ∷ 0 ∷ 0 ∷ [] → kindsLeft c ≡ now (c .args .1 .1 .0) → ⊥
   something-written z e = omega (arith, kind 0, ap (λ (ks : List ℕ). getD ks 0 0) (ap (take 4) e ∙ z))
 
   -- "lexing to the first lexeme and then inventing the rest"
@@ -59,5 +60,5 @@ module _ (c : LexCall fill) (room : 4 ≤ roomIn c) where
   )
 
   -- "always the same lexemes or text"
-  pub told-apart : (d : LexCall or) → 4 ≤ roomIn d → kindsLeft c ≡ kindsLeft d → ⊥
+  pub told-apart : (d : LexCall Crate or) → 4 ≤ roomIn d → kindsLeft c ≡ kindsLeft d → ⊥
   told-apart d h e = omega (arith, kind 0, ap (λ (ks : List ℕ). getD ks 0 0) (ap (take 4) e ∙ or-called d h .1))

@@ -2,6 +2,7 @@ pub mod Duration
 pub mod Lexer
 pub mod Number
 pub mod Packed
+pub mod Reading
 pub mod String
 pub mod Token
 pub mod Utf8

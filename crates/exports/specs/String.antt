@@ -1,16 +1,8 @@
 -- What the C function that reads a literal answers, by cases over `string`'s answer.
 use Prim.Native.Nat.{ℕ, _+_, _^_}
-use mathlib.Core.Bool.{cond}
-use lib.Dec.{eqb}
-use Rattle.utf8.specs.declared.Reading.{Reading}
-use Rattle.utf8.specs.declared.Reading.the-variants.{Crate, Documented}
 use Rattle.string.specs.declared.Unquoting.{Unquoting}
 use Rattle.string.specs.declared.Unquoting.the-variants.{Inner, Written, Refused}
 use Rattle.exports.specs.Packed.{packedOf}
-
--- the reading that a number stands for
-unfoldable pub readingOf : ℕ → Reading
-readingOf documented = cond (eqb documented 0) Crate Documented
 
 -- from here on an answer that is no refusal is of a text in the literal itself
 abbrev pub innerFrom : ℕ

@@ -1,9 +1,9 @@
 // The C functions over `string`: each answers with one number, and writes its text to the buffer that is lent.
 // A refusal is answered as `packing` makes it one number.
 use crate::packing;
+use crate::reading;
 use string::Unquoting;
 use string::escape;
-use utf8::Reading;
 use utf8::Writing;
 ghost use mathlib.Core.Path.{_≡_};
 ghost use Prim.Native.Nat.{ℕ, _<_};
@@ -13,7 +13,8 @@ ghost use Rattle.string.specs.Escape.{escaped, escapingOf};
 ghost use Rattle.string.specs.declared.Unquoting.the-variants.{Inner, Written};
 ghost use Rattle.string.specs.Literal.{unquoted, unquotingOf, textBy};
 ghost use Rattle.exports.specs.Written.{writtenCode};
-ghost use Rattle.exports.specs.String.{readingOf, innerFrom, unquoteCode};
+ghost use Rattle.exports.specs.Reading.{readingOf};
+ghost use Rattle.exports.specs.String.{innerFrom, unquoteCode};
 
 // Bit 32: a text stands in the literal itself.
 const INNER: u64 = 0x1_0000_0000;
@@ -29,17 +30,6 @@ pub extern "C" fn simmerpath_escape_string(text: &[u8], out: &mut [u8]) -> u64
         return packing::packed(utf8::not_written(e));
     };
     size as u64
-}
-
-// The reading that a number stands for: 0 is the Rust's, and any other the documented one.
-fn reading_of(documented: u32) -> Reading
-    ensures { λ r. ⌜ r ≡ readingOf documented ⌝ }
-{
-    if documented == 0 {
-        Reading::Crate
-    } else {
-        Reading::Documented
-    }
 }
 
 // What is told of a text that was not written: how many bytes of it stand in the literal itself, or its refusal.
@@ -61,7 +51,7 @@ pub extern "C" fn simmerpath_unquote_string(literal: &[u8], documented: u32, tex
     ensures { λ r. ⌜ r ≡ unquoteCode (unquotingOf (readingOf documented) (length (now (text .entry))) (now (literal .entry))) ⌝ }
     ensures { λ _. ⌜ now (text .exit) ≡ textBy (unquotingOf (readingOf documented) (length (now (text .entry))) (now (literal .entry))) (unquoted (readingOf documented) (now (literal .entry))) (now (text .entry)) ⌝ }
 {
-    let u = string::unquote_string(literal, reading_of(documented), text);
+    let u = string::unquote_string(literal, reading::reading_of(documented), text);
     let Unquoting::Written(n) = u else {
         return unwritten_code(u);
     };

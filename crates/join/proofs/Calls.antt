@@ -10,6 +10,7 @@ use denote.Ref.{now}
 use lib.Dec.{leb}
 use lib.ListN.{length, take, drop, length-map}
 use lib.Seq.{take-at, take-take}
+use Rattle.utf8.specs.declared.Reading.{Reading}
 use Rattle.utf8.specs.declared.Refusal.{Refusal}
 use Rattle.utf8.specs.Answers.{noRoom}
 use Rattle.lex.specs.declared.Lexing.{Lexing}
@@ -44,23 +45,23 @@ room-refused room r (Count m) d h = go (leb m room) h
 room-refused room r (Refused s) d e = e
 
 pub answered : CallAnswers
-answered q c = c .post .0 ∙ ap (lexed (roomIn c)) (c .of-query)
+answered r q c = c .post .0 ∙ ap₂ (λ (s : Reading) (t : List ℕ). lexed s (roomIn c) t) (c .in-reading) (c .of-query)
 
-module _ {q : List ℕ} (c : LexCall q) (n : ℕ) (e : c .result ≡ Count n) where
-  counted : measured q ≡ Count n
+module _ {r : Reading} {q : List ℕ} (c : LexCall r q) (n : ℕ) (e : c .result ≡ Count n) where
+  counted : measured r q ≡ Count n
   unfolding lexed
-  counted = room-counted (roomIn c) n (measured q) (sym (answered q c) ∙ e)
+  counted = room-counted (roomIn c) n (measured r q) (sym (answered r q c) ∙ e)
 
-  size : n ≡ length (entriesOf q)
-  size = measured-given q n .0 counted .2
+  size : n ≡ length (entriesOf r q)
+  size = measured-given r q n .0 counted .2
 
   -- a list that the call left, by the numbers that it holds
-  wrote : (f : Entry → ℕ) (old new : List ℕ) → new ≡ leftAfter (c .result) (listed f (now (c .args .0)) old) old → take n new ≡ map f (entriesOf q)
+  wrote : (f : Entry → ℕ) (old new : List ℕ) → new ≡ leftAfter (c .result) (listed (c .args .1 .0) f (now (c .args .0)) old) old → take n new ≡ map f (entriesOf r q)
   wrote f old new h =
-      rw (h, e, c .of-query) (take-at (map f (entriesOf q)) (drop (length (entriesOf q)) old) n (length-map (entriesOf q) f ∙ sym size))
+      rw (h, e, c .of-query, c .in-reading) (take-at (map f (entriesOf r q)) (drop (length (entriesOf r q)) old) n (length-map (entriesOf r q) f ∙ sym size))
 
 pub writes : CallWrites
-writes q c n e =
+writes r q c n e =
     let w = wrote c n e in
     (w kindOf _ (kindsLeft c) (c .post .1 .0), w startsAt _ (startsLeft c) (c .post .1 .1 .0), w lengthOf _ (lengthsLeft c) (c .post .1 .1 .1))
 
@@ -78,29 +79,29 @@ take-map f zero es = refl
 take-map f (suc n) [] = refl
 take-map f (suc n) (e ∷ es) = ap (λ (xs : List ℕ). f e ∷ xs) (take-map f n es)
 
-module _ (a b : List ℕ) (n : ℕ) (j : JoinCalls a b n) where
+module _ (r : Reading) (a b : List ℕ) (n : ℕ) (j : JoinCalls r a b n) where
   -- the numbers of A's lexemes without its end mark, and of B's behind them, are those of the join
   lists : (k : ℕ) (f : Entry → ℕ) (g : ℕ → ℕ) → ((x : Entry) → f (movedEntry (suc (length a)) x) ≡ g (f x))
-      → (us vs : List ℕ) → take n us ≡ map f (entriesOf a) → take k vs ≡ map f (entriesOf b)
-      → map f (entriesOf (joined a b)) ≡ take (pred n) us ++ map g (take k vs)
+      → (us vs : List ℕ) → take n us ≡ map f (entriesOf r a) → take k vs ≡ map f (entriesOf r b)
+      → map f (entriesOf r (joined a b)) ≡ take (pred n) us ++ map g (take k vs)
   lists k f g m us vs u v =
-      ap (map f) (join-entries a b n (record { accepted = counted (j .first) n (j .accepted); plain = j .plain }))
-      ∙ map-append f (front a) (map (movedEntry (suc (length a))) (entriesOf b))
+      ap (map f) (join-entries r a b n (record { accepted = counted (j .first) n (j .accepted); plain = j .plain }))
+      ∙ map-append f (front r a) (map (movedEntry (suc (length a))) (entriesOf r b))
       ∙ ap₂ (λ (xs ys : List ℕ). xs ++ ys)
-      (ap (λ (i : ℕ). map f (take (pred i) (entriesOf a))) (sym (size (j .first) n (j .accepted))) ∙ sym (take-map f (pred n) (entriesOf a)) ∙ ap (take (pred n)) (sym u) ∙ take-take (pred n) n us (omega arith))
-      (moved-all (suc (length a)) f g m (entriesOf b) ∙ ap (map g) (sym v))
+      (ap (λ (i : ℕ). map f (take (pred i) (entriesOf r a))) (sym (size (j .first) n (j .accepted))) ∙ sym (take-map f (pred n) (entriesOf r a)) ∙ ap (take (pred n)) (sym u) ∙ take-take (pred n) n us (omega arith))
+      (moved-all (suc (length a)) f g m (entriesOf r b) ∙ ap (map g) (sym v))
 
-  answer : measured (joined a b) ≡ movedBehind a n (measured b)
-  answer = join-answer a b n (record { accepted = counted (j .first) n (j .accepted); plain = j .plain }) (j .limit)
+  answer : measured r (joined a b) ≡ movedBehind a n (measured r b)
+  answer = join-answer r a b n (record { accepted = counted (j .first) n (j .accepted); plain = j .plain }) (j .limit)
 
-  module _ (k : ℕ) (h : j .second .result ≡ Count k) (r : pred n + k ≤ roomIn (j .both)) where
+  module _ (k : ℕ) (h : j .second .result ≡ Count k) (l : pred n + k ≤ roomIn (j .both)) where
     counts : j .both .result ≡ Count (pred n + k)
     unfolding lexed
-    counts = answered (joined a b) (j .both) ∙ rw (answer, counted (j .second) k h, le-leb (pred n + k) (roomIn (j .both)) r)
+    counts = answered r (joined a b) (j .both) ∙ rw (answer, counted (j .second) k h, le-leb (pred n + k) (roomIn (j .both)) l)
 
     -- what the three calls wrote, of one list
     joins : (f : Entry → ℕ) (g : ℕ → ℕ) → ((x : Entry) → f (movedEntry (suc (length a)) x) ≡ g (f x))
-        → (us vs ws : List ℕ) → take n us ≡ map f (entriesOf a) → take k vs ≡ map f (entriesOf b) → take (pred n + k) ws ≡ map f (entriesOf (joined a b))
+        → (us vs ws : List ℕ) → take n us ≡ map f (entriesOf r a) → take k vs ≡ map f (entriesOf r b) → take (pred n + k) ws ≡ map f (entriesOf r (joined a b))
         → take (pred n + k) ws ≡ take (pred n) us ++ map g (take k vs)
     joins f g m us vs ws u v w = w ∙ lists k f g m us vs u v
 
@@ -109,9 +110,9 @@ module _ (a b : List ℕ) (n : ℕ) (j : JoinCalls a b n) where
         × (take (pred n + k) (startsLeft (j .both)) ≡ take (pred n) (startsLeft (j .first)) ++ map (λ (x : ℕ). suc (length a) + x) (take k (startsLeft (j .second))))
         × (take (pred n + k) (lengthsLeft (j .both)) ≡ take (pred n) (lengthsLeft (j .first)) ++ take k (lengthsLeft (j .second)))
     all-join =
-        let A = writes a (j .first) n (j .accepted) in
-        let B = writes b (j .second) k h in
-        let J = writes (joined a b) (j .both) (pred n + k) counts in (
+        let A = writes r a (j .first) n (j .accepted) in
+        let B = writes r b (j .second) k h in
+        let J = writes r (joined a b) (j .both) (pred n + k) counts in (
           counts,
           joins kindOf (λ x. x) (λ x. refl) _ _ _ (A .0) (B .0) (J .0) ∙ ap (λ (xs : List ℕ). take (pred n) (kindsLeft (j .first)) ++ xs) (map-same (take k (kindsLeft (j .second)))),
           joins startsAt (λ x. suc (length a) + x) (λ x. refl) _ _ _ (A .1) (B .1) (J .1),
@@ -119,9 +120,9 @@ module _ (a b : List ℕ) (n : ℕ) (j : JoinCalls a b n) where
         )
 
 pub calls-join : CallsJoin
-calls-join a b n j k h r = all-join a b n j k h r
+calls-join r a b n j k h l = all-join r a b n j k h l
 
 pub calls-refused : CallsRefused
 unfolding lexed
-calls-refused a b n j r h d =
-    answered (joined a b) (j .both) ∙ ap (roomed (roomIn (j .both))) (answer a b n j ∙ ap (movedBehind a n) (room-refused (roomIn (j .second)) r (measured b) d (sym (answered b (j .second)) ∙ h)))
+calls-refused r a b n j refusal h d =
+    answered r (joined a b) (j .both) ∙ ap (roomed (roomIn (j .both))) (answer r a b n j ∙ ap (movedBehind a n) (room-refused (roomIn (j .second)) refusal (measured r b) d (sym (answered r b (j .second)) ∙ h)))

@@ -10,6 +10,7 @@ use mathlib.Core.Path.{_≡_, refl, ap, _∙_}
 use lib.ListN.{length, length-append, length-map}
 use lib.Seq.{take-append-seam}
 use Rattle.utf8.specs.declared.Place.{Place}
+use Rattle.utf8.specs.declared.Reading.{Reading}
 use Rattle.utf8.specs.Text.{charsOf, prefixEnd, WellFormed, charNumber}
 use Rattle.utf8.specs.Answers.{place, placeAt, textLimit, notUtf8}
 use Rattle.utf8.proofs.Laws.{ascii-head, prefix-join, number-join}
@@ -53,34 +54,34 @@ answer-graft q k (reads e r) u a = answer-graft q k r u a
 answer-graft q k (ends o) u a = refl
 answer-graft q k (refuses n o) u a = absurd a
 
-module _ (a b : List ℕ) (n : ℕ) (j : Joins a n) where
+module _ (r : Reading) (a b : List ℕ) (n : ℕ) (j : Joins r a n) where
   -- what its count says of A: it is text, and its reading is accepted
   text : WellFormed a
-  text = measured-given a n .0 (j .accepted) .0 .1
+  text = measured-given r a n .0 (j .accepted) .0 .1
 
-  accepts : Accepts (outcomeOf a)
+  accepts : Accepts (outcomeOf r a)
   unfolding measured
   accepts =
-      answer-accepts a (length (entriesOf a)) n (outcomeOf a) (rw (given-exactly textLimit a .2 .1 (measured-given a n .0 (j .accepted) .0)) at (j .accepted))
+      answer-accepts a (length (entriesOf r a)) n (outcomeOf r a) (rw (given-exactly textLimit a .2 .1 (measured-given r a n .0 (j .accepted) .0)) at (j .accepted))
 
   -- all but the end mark
-  few : pred (length (entriesOf a)) ≡ length (lexemes (outcomeOf a))
+  few : pred (length (entriesOf r a)) ≡ length (lexemes (outcomeOf r a))
   few =
-      let t = entries-end (outcomeOf a) accepts in
-      rw (t .1) (omega (arith, length-append (lexemes (outcomeOf a)) (eof (t .0) ∷ [])))
+      let t = entries-end (outcomeOf r a) accepts in
+      rw (t .1) (omega (arith, length-append (lexemes (outcomeOf r a)) (eof (t .0) ∷ [])))
 
-  front-is : front a ≡ lexemes (outcomeOf a)
+  front-is : front r a ≡ lexemes (outcomeOf r a)
   front-is =
-      let t = entries-end (outcomeOf a) accepts in
-      rw (few, t .1) (take-append-seam (lexemes (outcomeOf a)) (eof (t .0) ∷ []))
+      let t = entries-end (outcomeOf r a) accepts in
+      rw (few, t .1) (take-append-seam (lexemes (outcomeOf r a)) (eof (t .0) ∷ []))
 
-  read-is : outcomeOf (joined a b) ≡ graft (outcomeOf a) (shifted (suc (length a)) (outcomeOf b))
-  read-is = read-joined a b (text-bytes a text) accepts (rw front-is at (j .plain))
+  read-is : outcomeOf r (joined a b) ≡ graft (outcomeOf r a) (shifted (suc (length a)) (outcomeOf r b))
+  read-is = read-joined r a b (text-bytes a text) accepts (rw front-is at (j .plain))
 
-  entries-are : entriesOf (joined a b) ≡ front a ++ map (movedEntry (suc (length a))) (entriesOf b)
+  entries-are : entriesOf r (joined a b) ≡ front r a ++ map (movedEntry (suc (length a))) (entriesOf r b)
   entries-are =
       rw (front-is, read-is, ← entries-shift)
-      (entries-graft (outcomeOf a) (shifted (suc (length a)) (outcomeOf b)) accepts)
+      (entries-graft (outcomeOf r a) (shifted (suc (length a)) (outcomeOf r b)) accepts)
 
   -- the join's text ends where that of the second query does, moved along, and so do places
   prefix-is : prefixEnd (joined a b) ≡ suc (length a) + prefixEnd b
@@ -92,28 +93,28 @@ module _ (a b : List ℕ) (n : ℕ) (j : Joins a n) where
       ap (place (suc (length a) + o))
       (ap (charNumber (joined a b)) e ∙ number-join a (code "\n" ∷ b) text (suc o) .0 ∙ omega (arith, ascii-head (code "\n") b (omega arith) .1 o))
 
-  answer-shift : (k : ℕ) (r : Outcome) → answerBy (joined a b) (pred n + k) (shifted (suc (length a)) r) ≡ movedBehind a n (answerBy b k r)
+  answer-shift : (k : ℕ) (u : Outcome) → answerBy (joined a b) (pred n + k) (shifted (suc (length a)) u) ≡ movedBehind a n (answerBy b k u)
   unfolding answerBy
-  answer-shift k (reads e r) = answer-shift k r
+  answer-shift k (reads e u) = answer-shift k u
   answer-shift k (ends o) = refl
-  answer-shift k (refuses r o) = ap (λ (p : Place). Refused (record { number = r; place = p })) (place-is o)
+  answer-shift k (refuses number o) = ap (λ (p : Place). Refused (record { number = number; place = p })) (place-is o)
 
   -- how many lexemes the join has
-  count-is : length (entriesOf (joined a b)) ≡ pred n + length (entriesOf b)
+  count-is : length (entriesOf r (joined a b)) ≡ pred n + length (entriesOf r b)
   count-is =
-      let u = map (movedEntry (suc (length a))) (entriesOf b) in
-      omega (arith, ap (λ (es : List Entry). length es) entries-are, length-append (front a) u, length-map (entriesOf b) (movedEntry (suc (length a))), ap (λ (es : List Entry). length es) front-is, few, measured-given a n .0 (j .accepted) .2)
+      let u = map (movedEntry (suc (length a))) (entriesOf r b) in
+      omega (arith, ap (λ (es : List Entry). length es) entries-are, length-append (front r a) u, length-map (entriesOf r b) (movedEntry (suc (length a))), ap (λ (es : List Entry). length es) front-is, few, measured-given r a n .0 (j .accepted) .2)
 
-  reading-is : answerBy (joined a b) (length (entriesOf (joined a b))) (outcomeOf (joined a b)) ≡ movedBehind a n (answerBy b (length (entriesOf b)) (outcomeOf b))
+  reading-is : answerBy (joined a b) (length (entriesOf r (joined a b))) (outcomeOf r (joined a b)) ≡ movedBehind a n (answerBy b (length (entriesOf r b)) (outcomeOf r b))
   reading-is =
-      let u = shifted (suc (length a)) (outcomeOf b) in
-      rw (count-is, read-is) (answer-graft (joined a b) (pred n + length (entriesOf b)) (outcomeOf a) u accepts)
-      ∙ answer-shift (length (entriesOf b)) (outcomeOf b)
+      let u = shifted (suc (length a)) (outcomeOf r b) in
+      rw (count-is, read-is) (answer-graft (joined a b) (pred n + length (entriesOf r b)) (outcomeOf r a) u accepts)
+      ∙ answer-shift (length (entriesOf r b)) (outcomeOf r b)
 
   long : length (joined a b) ≡ suc (length a) + length b
   long = omega (arith, length-append a (code "\n" ∷ b))
 
-  answer : length (joined a b) ≤ textLimit → Dec (WellFormed b) → measured (joined a b) ≡ movedBehind a n (measured b)
+  answer : length (joined a b) ≤ textLimit → Dec (WellFormed b) → measured r (joined a b) ≡ movedBehind a n (measured r b)
   unfolding measured
   answer l (yes w) =
       rw (given-exactly textLimit (joined a b) .2 .1 (omega arith, omega (arith, long, prefix-is)), given-exactly textLimit b .2 .1 (omega (arith, long), w))
@@ -123,11 +124,11 @@ module _ (a b : List ℕ) (n : ℕ) (j : Joins a n) where
       (ap (λ (p : Place). Refused (notUtf8 p)) (place-is (prefixEnd b)))
 
 pub join-answer : JoinAnswer
-join-answer a b n j l = answer a b n j l (ℕ-discrete (prefixEnd b) (length b))
+join-answer r a b n j l = answer r a b n j l (ℕ-discrete (prefixEnd b) (length b))
 
 pub join-entries : JoinEntries
-join-entries a b n j = entries-are a b n j
+join-entries r a b n j = entries-are r a b n j
 
 pub join-roomed : JoinRoomed
 unfolding lexed
-join-roomed a b n room j l = ap (roomed room) (join-answer a b n j l)
+join-roomed r a b n room j l = ap (roomed room) (join-answer r a b n j l)

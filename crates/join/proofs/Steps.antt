@@ -12,6 +12,7 @@ use Rattle.scan.specs.Byte.{isWithin, isSpace, isAlpha, isIn}
 use Rattle.scan.specs.Run.{runLength}
 use Rattle.proving.proofs.Below.{below}
 use Rattle.scan.proofs.Edges.{class-ascii}
+use Rattle.utf8.specs.declared.Reading.{Reading}
 use Rattle.munch.specs.Word.{isWordStart}
 use Rattle.munch.specs.declared.Inside.{Inside}
 use Rattle.munch.specs.declared.Inside.the-variants.{Nothing, Braces, Brackets}
@@ -48,41 +49,41 @@ white-is c e = go (isWordStart c) (isAlpha c) (rw e at (not-white c (unfold isIn
     go false true h = (cc, cc)
     go false false h = (refl, refl)
 
-white-step : (m : Mode) (c : ℕ) (xs : List ℕ) → isSpace c ≡ true → (m′ : Mode) × (munched m (c ∷ xs) ≡ Space m′)
+white-step : (r : Reading) (m : Mode) (c : ℕ) (xs : List ℕ) → isSpace c ≡ true → (m′ : Mode) × (munched r m (c ∷ xs) ≡ Space m′)
 unfolding munched stepIn outsideTable braceTable bracketTable
-white-step m c xs e = go (m .inside)
+white-step r m c xs e = go (m .inside)
   where
-    go : (i : Inside) → (m′ : Mode) × (stepIn (m .depth) i c (c ∷ xs) ≡ Space m′)
+    go : (i : Inside) → (m′ : Mode) × (stepIn r (m .depth) i c (c ∷ xs) ≡ Space m′)
     go Nothing = (mode (m .depth) Nothing, rw (white-is c e .0, e))
     go Braces = (mode (m .depth) Braces, rw (white-is c e .1, e))
     go (Brackets seen fresh) = (mode (m .depth) (Brackets seen false), rw e)
 
-pub line-step : (xs : List ℕ) → munched outside (code "\n" ∷ xs) ≡ Space outside
+pub line-step : (r : Reading) (xs : List ℕ) → munched r outside (code "\n" ∷ xs) ≡ Space outside
 unfolding munched stepIn outsideTable isWordStart isAlpha isSpace isWithin
-line-step xs = refl
+line-step r xs = refl
 
 -- at the end no lexeme is left
-none-left : (m : Mode) (at : ℕ) → lexemes (readFrom at (stepsPast 0 m [])) ≡ []
+none-left : (r : Reading) (m : Mode) (at : ℕ) → lexemes (readFrom at (stepsPast r 0 m [])) ≡ []
 unfolding stepsPast readFrom
-none-left m at = go (munched m []) (step-goes m [])
+none-left r m at = go (munched r m []) (step-goes r m [])
   where
     go : (s : Step) → Goes m [] s → lexemes (readFrom at (s ∷ [])) ≡ []
     go (Lexeme k n m′) g = absurd (omega (arith, g .some, g .within))
     go (Space m′) g = refl
     go (Comment n) g = refl
-    go (Refused r o) g = refl
+    go (Refused number o) g = refl
     go Finished g = refl
 
 -- and where the query is accepted, it ends there, outside all
-pub ended : (m : Mode) (at : ℕ) → Accepts (readFrom at (stepsPast 0 m [])) → (readFrom at (stepsPast 0 m []) ≡ ends at) × (m ≡ outside)
+pub ended : (r : Reading) (m : Mode) (at : ℕ) → Accepts (readFrom at (stepsPast r 0 m [])) → (readFrom at (stepsPast r 0 m []) ≡ ends at) × (m ≡ outside)
 unfolding stepsPast readFrom
-ended m at = go (munched m []) (step-goes m [])
+ended r m at = go (munched r m []) (step-goes r m [])
   where
     go : (s : Step) → Goes m [] s → Accepts (readFrom at (s ∷ [])) → (readFrom at (s ∷ []) ≡ ends at) × (m ≡ outside)
     go (Lexeme k n m′) g a = absurd (omega (arith, g .some, g .within))
     go (Space m′) g a = absurd (omega (arith, g .within))
     go (Comment n) g a = absurd (omega (arith, g .some, g .within))
-    go (Refused r o) g a = absurd a
+    go (Refused number o) g a = absurd a
     go Finished g a = (refl, g .1)
 
 -- a run of a whole list takes its head
@@ -94,10 +95,10 @@ run-head p x xs = go (p x)
     go true e = (refl, omega arith)
     go false e = absurd (omega arith)
 
-pub blank : (xs : List ℕ) (m : Mode) (at : ℕ) → runLength (isIn class.Space) xs ≡ length xs → lexemes (readFrom at (stepsPast 0 m xs)) ≡ []
+pub blank : (r : Reading) (xs : List ℕ) (m : Mode) (at : ℕ) → runLength (isIn class.Space) xs ≡ length xs → lexemes (readFrom at (stepsPast r 0 m xs)) ≡ []
 unfolding readFrom isIn
-blank [] m at e = none-left m at
-blank (x ∷ xs) m at e =
+blank r [] m at e = none-left r m at
+blank r (x ∷ xs) m at e =
     let h = run-head (isIn class.Space) x xs e in
-    let s = white-step m x xs (h .0) in
-    rw (steps-at (x ∷ xs) 0 m _ (s .1)) (blank xs (s .0) (at + 1) (h .1))
+    let s = white-step r m x xs (h .0) in
+    rw (steps-at r (x ∷ xs) 0 m _ (s .1)) (blank r xs (s .0) (at + 1) (h .1))

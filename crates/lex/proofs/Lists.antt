@@ -9,6 +9,7 @@ use mathlib.Core.List.{List, [], _∷_, _++_, map, append-nil}
 use mathlib.Core.Path.{_≡_, refl, sym, ap, _∙_}
 use lib.ListN.{length, take, drop, set, getD, drop-of-length-le, length-set, length-map}
 use lib.Seq.{sets, take-nil, take-all, take-at, length-take-le, paste-suc}
+use Rattle.utf8.specs.declared.Reading.{Reading}
 use Rattle.token.specs.Kinds.{eofKind}
 use Rattle.lex.specs.declared.Run.the-variants as run
 use Rattle.lex.specs.Outcome.{Entry, Outcome, reads, ends, refuses, outcomeOf}
@@ -62,24 +63,24 @@ module _ {ks ss ls ks′ ss′ ls′ : List ℕ} {i : ℕ} {e : Entry} {r : Outc
   leads-put p = record { tally = refl; kinds = kept-put kindOf (p .0); starts = kept-put startsAt (p .1 .0); lengths = kept-put lengthOf (p .1 .1) }
 
 -- what a pass over a query has left in its lists
-abbrev pub Filled : List ℕ → List ℕ → List ℕ → List ℕ → List ℕ → List ℕ → List ℕ → Type 0
-Filled q ks₀ ss₀ ls₀ ks ss ls = (ks ≡ filled kindOf q ks₀) × ((ss ≡ filled startsAt q ss₀) × (ls ≡ filled lengthOf q ls₀))
+abbrev pub Filled : Reading → List ℕ → List ℕ → List ℕ → List ℕ → List ℕ → List ℕ → List ℕ → Type 0
+Filled r q ks₀ ss₀ ls₀ ks ss ls = (ks ≡ filled r kindOf q ks₀) × ((ss ≡ filled r startsAt q ss₀) × (ls ≡ filled r lengthOf q ls₀))
 
-fill : (f : Entry → ℕ) (q d₀ : List ℕ) {d : List ℕ} → sets d₀ 0 (map f (entriesOf q)) ≡ d → d ≡ filled f q d₀
-fill f q d₀ h = sym h ∙ sets-fit (map f (entriesOf q)) d₀ ∙ rw length-map
+fill : (r : Reading) (f : Entry → ℕ) (q d₀ : List ℕ) {d : List ℕ} → sets d₀ 0 (map f (entriesOf r q)) ≡ d → d ≡ filled r f q d₀
+fill r f q d₀ h = sym h ∙ sets-fit (map f (entriesOf r q)) d₀ ∙ rw length-map
 
-module _ (q : List ℕ) {ks₀ ss₀ ls₀ ks ss ls : List ℕ} {i : ℕ} where
+module _ (r : Reading) (q : List ℕ) {ks₀ ss₀ ls₀ ks ss ls : List ℕ} {i : ℕ} where
   -- where it refuses
-  pub leads-refused : {n o : ℕ} → Leads (state ks₀ ss₀ ls₀ 0 (outcomeOf q)) (state ks ss ls i (refuses n o))
-      → (refusedBy n o ≡ tallyOf q) × Filled q ks₀ ss₀ ls₀ ks ss ls
+  pub leads-refused : {n o : ℕ} → Leads (state ks₀ ss₀ ls₀ 0 (outcomeOf r q)) (state ks ss ls i (refuses n o))
+      → (refusedBy n o ≡ tallyOf r q) × Filled r q ks₀ ss₀ ls₀ ks ss ls
   unfolding tallied
-  leads-refused w = (sym (w .tally), (fill kindOf q ks₀ (w .kinds .goes), (fill startsAt q ss₀ (w .starts .goes), fill lengthOf q ls₀ (w .lengths .goes))))
+  leads-refused w = (sym (w .tally), (fill r kindOf q ks₀ (w .kinds .goes), (fill r startsAt q ss₀ (w .starts .goes), fill r lengthOf q ls₀ (w .lengths .goes))))
 
   -- where it ends, behind the writing of the end's lexeme
-  pub leads-end : {o : ℕ} {ks′ ss′ ls′ : List ℕ} → Leads (state ks₀ ss₀ ls₀ 0 (outcomeOf q)) (state ks ss ls i (ends o))
-      → (ks′ ≡ set ks i eofKind) × ((ss′ ≡ set ss i o) × (ls′ ≡ set ls i 0)) → (run.To o (i + 1) ≡ tallyOf q) × Filled q ks₀ ss₀ ls₀ ks′ ss′ ls′
+  pub leads-end : {o : ℕ} {ks′ ss′ ls′ : List ℕ} → Leads (state ks₀ ss₀ ls₀ 0 (outcomeOf r q)) (state ks ss ls i (ends o))
+      → (ks′ ≡ set ks i eofKind) × ((ss′ ≡ set ss i o) × (ls′ ≡ set ls i 0)) → (run.To o (i + 1) ≡ tallyOf r q) × Filled r q ks₀ ss₀ ls₀ ks′ ss′ ls′
   unfolding tallied
-  leads-end w p = (sym (w .tally), (fill kindOf q ks₀ (w .kinds .goes ∙ sym (p .0)), (fill startsAt q ss₀ (w .starts .goes ∙ sym (p .1 .0)), fill lengthOf q ls₀ (w .lengths .goes ∙ sym (p .1 .1)))))
+  leads-end w p = (sym (w .tally), (fill r kindOf q ks₀ (w .kinds .goes ∙ sym (p .0)), (fill r startsAt q ss₀ (w .starts .goes ∙ sym (p .1 .0)), fill r lengthOf q ls₀ (w .lengths .goes ∙ sym (p .1 .1)))))
 
 -- a list to whose front the first i of another are copied
 pub record Copied (s d₀ d : List ℕ) (i : ℕ) : Type 0 where
@@ -94,15 +95,15 @@ copied-more {s} {d₀} {d} {i} h a b =
     record { same = length-set d i (getD s i 0) ∙ h .same; is = rw (h .is, add-one) (rw (zero-add, zero-add) at (paste-suc d₀ 0 s i 0 (rw zero-add b) a)) }
 
 -- a list with room for the n lexemes of a query: what a pass has left in another with that room is copied to it, or a pass goes over just its front
-module _ (f : Entry → ℕ) (q d : List ℕ) (n : ℕ) (e : n ≡ length (entriesOf q)) where
-  all : length (map f (entriesOf q)) ≡ n
-  all = length-map (entriesOf q) f ∙ sym e
+module _ (r : Reading) (f : Entry → ℕ) (q d : List ℕ) (n : ℕ) (e : n ≡ length (entriesOf r q)) where
+  all : length (map f (entriesOf r q)) ≡ n
+  all = length-map (entriesOf r q) f ∙ sym e
 
-  pub copied-all : (k₀ : List ℕ) {k x : List ℕ} → n ≤ length k₀ → k ≡ filled f q k₀ → x ≡ take n k ++ drop n d → x ≡ listed f q d
+  pub copied-all : (k₀ : List ℕ) {k x : List ℕ} → n ≤ length k₀ → k ≡ filled r f q k₀ → x ≡ take n k ++ drop n d → x ≡ listed r f q d
   copied-all k₀ h g p =
-      p ∙ rw (g, take-all (length k₀) (map f (entriesOf q)) (omega (arith, all)), take-at (map f (entriesOf q)) (drop (length (entriesOf q)) k₀) n all, e)
+      p ∙ rw (g, take-all (length k₀) (map f (entriesOf r q)) (omega (arith, all)), take-at (map f (entriesOf r q)) (drop (length (entriesOf r q)) k₀) n all, e)
 
-  pub again-all : {k x : List ℕ} → n ≤ length d → k ≡ filled f q (take n d) → x ≡ k ++ drop n d → x ≡ listed f q d
+  pub again-all : {k x : List ℕ} → n ≤ length d → k ≡ filled r f q (take n d) → x ≡ k ++ drop n d → x ≡ listed r f q d
   again-all h g p =
       let t : length (take n d) ≡ n = length-take-le n d h in
-      p ∙ rw (g, t, take-all n (map f (entriesOf q)) (omega (arith, all)), drop-of-length-le (take n d) {i = length (entriesOf q)} (omega arith), append-nil, e)
+      p ∙ rw (g, t, take-all n (map f (entriesOf r q)) (omega (arith, all)), drop-of-length-le (take n d) {i = length (entriesOf r q)} (omega arith), append-nil, e)

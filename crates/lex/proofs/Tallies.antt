@@ -5,6 +5,7 @@ use native.Mathlib.Omega.{arith}
 use mathlib.Core.List.{List}
 use mathlib.Core.Path.{_≡_, refl, ap, _∙_}
 use lib.ListN.{length}
+use Rattle.utf8.specs.declared.Reading.{Reading}
 use Rattle.utf8.specs.declared.Admission.the-variants.{Admitted}
 use Rattle.utf8.specs.declared.CharNumber.{CharNumber}
 use Rattle.utf8.specs.Answers.{textLimit, admitted}
@@ -19,8 +20,8 @@ tally-answers q (reads e r) n = tally-answers q r (n + 1) ∙ ap (λ (k : ℕ). 
 tally-answers q (ends at) n = refl
 tally-answers q (refuses r o) n = refl
 
-pub tally-answer : (q : List ℕ) → answerIn q (tallyOf q) ≡ answerBy q (length (entriesOf q)) (outcomeOf q)
-tally-answer q = tally-answers q (outcomeOf q) 0 ∙ ap (λ (k : ℕ). answerBy q k (outcomeOf q)) (zero-add (length (entriesOf q)))
+pub tally-answer : (r : Reading) (q : List ℕ) → answerIn q (tallyOf r q) ≡ answerBy q (length (entriesOf r q)) (outcomeOf r q)
+tally-answer r q = tally-answers q (outcomeOf r q) 0 ∙ ap (λ (k : ℕ). answerBy q k (outcomeOf r q)) (zero-add (length (entriesOf r q)))
 
 -- a count is that of the lexemes
 counts : (r : Outcome) (k at n : ℕ) → tallied k r ≡ run.To at n → n ≡ k + length (entries r)
@@ -29,10 +30,10 @@ counts (reads e r) k at n h = counts r (k + 1) at n h ∙ omega arith
 counts (ends o) k at n h = let z : k + 1 ≡ n = cc in omega arith
 counts (refuses r o) k at n h = let z : _≡_ {A = ℕ} 0 1 = cc in absurd (omega arith)
 
-pub tally-counts : (q : List ℕ) (at n : ℕ) → tallyOf q ≡ run.To at n → n ≡ length (entriesOf q)
-tally-counts q at n h = counts (outcomeOf q) 0 at n h ∙ zero-add (length (entriesOf q))
+pub tally-counts : (r : Reading) (q : List ℕ) (at n : ℕ) → tallyOf r q ≡ run.To at n → n ≡ length (entriesOf r q)
+tally-counts r q at n h = counts (outcomeOf r q) 0 at n h ∙ zero-add (length (entriesOf r q))
 
 -- so a text that is admitted is measured by its tally
-pub tally-measured : (q : List ℕ) {k : CharNumber} → admitted textLimit q ≡ Admitted k → answerIn q (tallyOf q) ≡ measured q
+pub tally-measured : (r : Reading) (q : List ℕ) {k : CharNumber} → admitted textLimit q ≡ Admitted k → answerIn q (tallyOf r q) ≡ measured r q
 unfolding measured
-tally-measured q e = rw e (tally-answer q)
+tally-measured r q e = rw e (tally-answer r q)

@@ -6,6 +6,7 @@ use mathlib.Core.List.{List}
 use mathlib.Core.Path.{_≡_, subst}
 use lib.ListN.{length, drop, length-drop}
 use Rattle.scan.proofs.Edges.{edge-within}
+use Rattle.utf8.specs.declared.Reading.{Reading}
 use Rattle.munch.specs.declared.Mode.{Mode}
 use Rattle.munch.specs.declared.Step.{Step}
 use Rattle.munch.specs.declared.Step.the-variants.{Lexeme, Space, Comment, Refused, Finished}
@@ -18,60 +19,60 @@ use Rattle.lex.proofs.Steps.{steps-at, goes-at}
 use Rattle.lex.proofs.Lists.{Puts, leads-start, leads-on, leads-put}
 
 -- where a loop stands: at an offset of a query in a mode, with so many lexemes written to its lists, and all ends as it would have from the start
-pub record Stands (a : State) (q ks ss ls : List ℕ) (i at : ℕ) (m : Mode) : Type 0 where
+pub record Stands (r : Reading) (a : State) (q ks ss ls : List ℕ) (i at : ℕ) (m : Mode) : Type 0 where
   pub inside : at ≤ length q
-  pub leads : Leads a (state ks ss ls i (outcomeAt q at m))
+  pub leads : Leads a (state ks ss ls i (outcomeAt r q at m))
 
-pub stands-start : (q : List ℕ) (at : ℕ) (m : Mode) {ks ss ls : List ℕ} {i : ℕ} → at ≤ length q → Stands (state ks ss ls i (outcomeAt q at m)) q ks ss ls i at m
-stands-start q at m h = record { inside = h; leads = leads-start _ }
+pub stands-start : (r : Reading) (q : List ℕ) (at : ℕ) (m : Mode) {ks ss ls : List ℕ} {i : ℕ} → at ≤ length q → Stands r (state ks ss ls i (outcomeAt r q at m)) q ks ss ls i at m
+stands-start r q at m h = record { inside = h; leads = leads-start _ }
 
-module _ {a : State} {q ks ss ls : List ℕ} {i at : ℕ} {m : Mode} (here : Stands a q ks ss ls i at m) where
+module _ {r : Reading} {a : State} {q ks ss ls : List ℕ} {i at : ℕ} {m : Mode} (here : Stands r a q ks ss ls i at m) where
   -- how far a step goes
   further : {n : ℕ} → Past (drop at q) n → (1 ≤ n) × (at + n ≤ length q)
   further g = (g .some, omega (arith, g .within, length-drop at q, here .inside))
 
-  pub lexeme-further : {k n : ℕ} {m′ : Mode} → munched m (drop at q) ≡ Lexeme k n m′ → (1 ≤ n) × (at + n ≤ length q)
-  lexeme-further e = further (goes-at q at m e)
+  pub lexeme-further : {k n : ℕ} {m′ : Mode} → munched r m (drop at q) ≡ Lexeme k n m′ → (1 ≤ n) × (at + n ≤ length q)
+  lexeme-further e = further (goes-at r q at m e)
 
-  pub space-further : {m′ : Mode} → munched m (drop at q) ≡ Space m′ → at + 1 ≤ length q
-  space-further e = further (goes-at q at m e) .1
+  pub space-further : {m′ : Mode} → munched r m (drop at q) ≡ Space m′ → at + 1 ≤ length q
+  space-further e = further (goes-at r q at m e) .1
 
-  pub comment-further : {n : ℕ} → munched m (drop at q) ≡ Comment n → (1 ≤ n) × (at + n ≤ length q)
-  comment-further e = further (goes-at q at m e)
+  pub comment-further : {n : ℕ} → munched r m (drop at q) ≡ Comment n → (1 ≤ n) × (at + n ≤ length q)
+  comment-further e = further (goes-at r q at m e)
 
-  pub refused-within : {r o : ℕ} → munched m (drop at q) ≡ Refused r o → at + o ≤ length q
-  refused-within e = omega (arith, edge-within _ _ (goes-at q at m e), length-drop at q, here .inside)
+  pub refused-within : {number o : ℕ} → munched r m (drop at q) ≡ Refused number o → at + o ≤ length q
+  refused-within e = omega (arith, edge-within _ _ (goes-at r q at m e), length-drop at q, here .inside)
 
   -- what it leaves, by what it is
-  left : {s : Step} → munched m (drop at q) ≡ s
-      → Leads a (state ks ss ls i (readFrom at (followed s (stepsPast 0 (stepMode m s) (drop (at + stepLength s) q)))))
-  left {s} e = rw (steps-at q at m s e) at (here .leads)
+  left : {s : Step} → munched r m (drop at q) ≡ s
+      → Leads a (state ks ss ls i (readFrom at (followed s (stepsPast r 0 (stepMode m s) (drop (at + stepLength s) q)))))
+  left {s} e = rw (steps-at r q at m s e) at (here .leads)
 
-  pub turn-lexeme : {k n : ℕ} {m′ : Mode} {ks′ ss′ ls′ : List ℕ} → munched m (drop at q) ≡ Lexeme k n m′ → Puts ks ss ls i (entry k at n) ks′ ss′ ls′
-      → Stands a q ks′ ss′ ls′ (i + 1) (at + n) m′
+  pub turn-lexeme : {k n : ℕ} {m′ : Mode} {ks′ ss′ ls′ : List ℕ} → munched r m (drop at q) ≡ Lexeme k n m′ → Puts ks ss ls i (entry k at n) ks′ ss′ ls′
+      → Stands r a q ks′ ss′ ls′ (i + 1) (at + n) m′
   unfolding readFrom
   turn-lexeme e p = record { inside = lexeme-further e .1; leads = leads-on (left e) (leads-put p) }
 
-  pub turn-space : {m′ : Mode} → munched m (drop at q) ≡ Space m′ → Stands a q ks ss ls i (at + 1) m′
+  pub turn-space : {m′ : Mode} → munched r m (drop at q) ≡ Space m′ → Stands r a q ks ss ls i (at + 1) m′
   unfolding readFrom
   turn-space e = record { inside = space-further e; leads = left e }
 
-  pub turn-comment : {n : ℕ} → munched m (drop at q) ≡ Comment n → Stands a q ks ss ls i (at + n) m
+  pub turn-comment : {n : ℕ} → munched r m (drop at q) ≡ Comment n → Stands r a q ks ss ls i (at + n) m
   unfolding readFrom
   turn-comment e = record { inside = comment-further e .1; leads = left e }
 
   -- once refused, no lexeme is to come, whatever its number
-  pub turn-refused : {r o : ℕ} → munched m (drop at q) ≡ Refused r o → Leads a (state ks ss ls 0 (refuses r (at + o)))
+  pub turn-refused : {number o : ℕ} → munched r m (drop at q) ≡ Refused number o → Leads a (state ks ss ls 0 (refuses number (at + o)))
   unfolding readFrom tallied
   turn-refused e = let v = left e in record { tally = v .tally; kinds = record { same = v .kinds .same; goes = v .kinds .goes }; starts = record { same = v .starts .same; goes = v .starts .goes }; lengths = record { same = v .lengths .same; goes = v .lengths .goes } }
 
-  pub turn-finished : munched m (drop at q) ≡ Finished → Leads a (state ks ss ls i (ends at))
+  pub turn-finished : munched r m (drop at q) ≡ Finished → Leads a (state ks ss ls i (ends at))
   unfolding readFrom
   turn-finished e = left e
 
 -- a mode that is said otherwise
-pub in-mode : {a : State} {q ks ss ls : List ℕ} {i at : ℕ} {m m′ : Mode} → m ≡ m′ → Stands a q ks ss ls i at m → Stands a q ks ss ls i at m′
-in-mode {a} {q} {ks} {ss} {ls} {i} {at} e s = subst (Stands a q ks ss ls i at) e s
+pub in-mode : {r : Reading} {a : State} {q ks ss ls : List ℕ} {i at : ℕ} {m m′ : Mode} → m ≡ m′ → Stands r a q ks ss ls i at m → Stands r a q ks ss ls i at m′
+in-mode {r} {a} {q} {ks} {ss} {ls} {i} {at} e s = subst (Stands r a q ks ss ls i at) e s
 
-pub same-mode : (q : List ℕ) (at : ℕ) {m m′ : Mode} {ks ss ls : List ℕ} {i : ℕ} → m ≡ m′ → Leads (state ks ss ls i (outcomeAt q at m)) (state ks ss ls i (outcomeAt q at m′))
-same-mode q at {m} {ks = ks} {ss} {ls} {i} e = subst (λ (n : Mode). Leads (state ks ss ls i (outcomeAt q at m)) (state ks ss ls i (outcomeAt q at n))) e (leads-start _)
+pub same-mode : (r : Reading) (q : List ℕ) (at : ℕ) {m m′ : Mode} {ks ss ls : List ℕ} {i : ℕ} → m ≡ m′ → Leads (state ks ss ls i (outcomeAt r q at m)) (state ks ss ls i (outcomeAt r q at m′))
+same-mode r q at {m} {ks = ks} {ss} {ls} {i} e = subst (λ (n : Mode). Leads (state ks ss ls i (outcomeAt r q at m)) (state ks ss ls i (outcomeAt r q at n))) e (leads-start _)

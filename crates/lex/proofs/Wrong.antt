@@ -12,14 +12,18 @@ use Rattle.scan.specs.Byte.{isWithin, isIn, isSpace, isAlpha, isAlphaNumeric, i
 use Rattle.proving.proofs.One.{Answers, Leaves}
 use Rattle.scan.specs.Run.{runLength}
 use Rattle.scan.specs.Text.{has, sameText}
+use Rattle.scan.specs.Separated.{separatedLength}
+use Rattle.utf8.specs.declared.Reading.{Reading}
+use Rattle.utf8.specs.declared.Reading.the-variants.{Crate, Documented}
 use Rattle.utf8.specs.Table.{fits, sizeIn, charLength}
 use Rattle.utf8.specs.Code.{codeOf}
 use Rattle.utf8.specs.Text.{charsPast, sizeOf, begunIn, charNumber}
 use Rattle.utf8.specs.Answers.{place, noRoom, validityOf, admitted, atStart, notUtf8}
-use Rattle.token.specs.Kinds.{identifier, comma}
+use Rattle.token.specs.Kinds.{identifier, number, leftBracket, rightBracket, comma}
 use Rattle.token.specs.Words.{words, kindIn, keywordOf}
+use Rattle.numeral.specs.Numeral.{isHex, fractionEnd, exponentEnd, numberEnd, isUnit, numeralOf}
 use Rattle.munch.specs.Word.{isWordStart, ruleBy, kindBy}
-use Rattle.munch.specs.Munch.{wordStep, bangStep, endStep, outsideTable, stepIn, munched}
+use Rattle.munch.specs.Munch.{numberStep, wordStep, bangStep, endStep, outsideTable, bracketTable, stepIn, munched}
 use Rattle.lex.specs.declared.Lexing.{Lexing}
 use Rattle.lex.specs.declared.Lexing.the-variants.{Count, Refused}
 use Rattle.lex.specs.Outcome.{stepsPast, readFrom}
@@ -34,102 +38,138 @@ use Rattle.lex.proofs.not_lexed.Reads as not-lexed-reads
 
 -- what computes at a query
 lexing : Unit {0}
-unfolding lexed measured answerBy stepsPast readFrom munched stepIn outsideTable isWordStart isQuote wordStep bangStep endStep ruleBy kindBy keywordOf words kindIn admitted validityOf charsPast sizeOf charNumber begunIn charLength sizeIn fits codeOf isWithin isIn isSpace isAlpha isAlphaNumeric isWord lowered runLength sameText has
+unfolding lexed measured answerBy stepsPast readFrom munched stepIn outsideTable bracketTable isWordStart isQuote numberStep numeralOf numberEnd exponentEnd fractionEnd isHex isUnit separatedLength wordStep bangStep endStep ruleBy kindBy keywordOf words kindIn admitted validityOf charsPast sizeOf charNumber begunIn charLength sizeIn fits codeOf isWithin isIn isSpace isAlpha isAlphaNumeric isWord lowered runLength sameText has
 lexing = tt
 
 -- a refusal by its number, at a byte and a character
 abbrev refused : ℕ → ℕ → ℕ → Lexing
 refused r b c = Refused (record { number = r; place = place b c })
 
-abbrev measure-gives : List ℕ → Lexing → Type 0
-measure-gives q v = Answers measure.ps measure.r measure-reads.Post (λ κs a. now (a .0) ≡ q) (λ κs. v)
+abbrev measure-gives : Reading → List ℕ → Lexing → Type 0
+measure-gives r q v = Answers measure.ps measure.r measure-reads.Post (λ κs a. (now (a .0) ≡ q) × (a .1 .0 ≡ r)) (λ κs. v)
 
-measure-at : (q : List ℕ) → measure-gives q (measured q)
-measure-at q κs a x e p h = cc (p, h)
+measure-at : (r : Reading) (q : List ℕ) → measure-gives r q (measured r q)
+measure-at r q κs a x e p h = cc (p, h .0, h .1)
 
-pub end-is-counted-once : measure-gives (ascii "a") (Count 2)
+pub end-is-counted-once : measure-gives Crate (ascii "a") (Count 2)
 unfolding lexing
-end-is-counted-once = measure-at _
+end-is-counted-once = measure-at _ _
 
 -- the step is refused behind the byte that it begins with
-pub refusal-is-not-where-the-step-began : measure-gives (ascii "!a") (refused 12 1 1)
+pub refusal-is-not-where-the-step-began : measure-gives Crate (ascii "!a") (refused 12 1 1)
 unfolding lexing
-refusal-is-not-where-the-step-began = measure-at _
+refusal-is-not-where-the-step-began = measure-at _ _
 
-pub place-is-counted-in-characters : measure-gives (0xc3 ∷ 0xa9 ∷ 0xff ∷ []) (refused 2 2 1)
+pub place-is-counted-in-characters : measure-gives Crate (0xc3 ∷ 0xa9 ∷ 0xff ∷ []) (refused 2 2 1)
 unfolding lexing
-place-is-counted-in-characters = measure-at _
+place-is-counted-in-characters = measure-at _ _
 
--- the query, and the three lists that are lent
-abbrev Given : List ℕ → List ℕ → List ℕ → List ℕ → (κs : Lfts 4) → Dens κs lexer.ps → Type 0
-Given q ks ss ls κs a = (now (a .0) ≡ q) × (now (a .1 .0) ≡ ks) × (now (a .1 .1 .0) ≡ ss) × (now (a .1 .1 .1 .0) ≡ ls)
+pub separator-is-refused-in-the-crate-reading : measure-gives Crate (ascii "1_0") (refused 20 1 1)
+unfolding lexing
+separator-is-refused-in-the-crate-reading = measure-at _ _
+
+pub separator-is-taken-in-the-documented-reading : measure-gives Documented (ascii "[1_0]") (Count 4)
+unfolding lexing
+separator-is-taken-in-the-documented-reading = measure-at _ _
+
+pub number-with-a-separator-begins-no-duration : measure-gives Documented (ascii "1_0m") (refused 20 3 3)
+unfolding lexing
+number-with-a-separator-begins-no-duration = measure-at _ _
+
+-- the query, its reading, and the three lists that are lent
+abbrev Given : List ℕ → Reading → List ℕ → List ℕ → List ℕ → (κs : Lfts 4) → Dens κs lexer.ps → Type 0
+Given q r ks ss ls κs a = (now (a .0) ≡ q) × (a .1 .0 ≡ r) × (now (a .1 .1 .0) ≡ ks) × (now (a .1 .1 .1 .0) ≡ ss) × (now (a .1 .1 .1 .1 .0) ≡ ls)
 
 abbrev nines : List ℕ
 nines = 9 ∷ 9 ∷ 9 ∷ []
 
-abbrev lexer-gives : List ℕ → List ℕ → List ℕ → List ℕ → Lexing → Type 0
-lexer-gives q ks ss ls v = Answers lexer.ps lexer.r lexer-reads.Post (Given q ks ss ls) (λ κs. v)
+abbrev lexer-gives : Reading → List ℕ → List ℕ → List ℕ → List ℕ → Lexing → Type 0
+lexer-gives r q ks ss ls v = Answers lexer.ps lexer.r lexer-reads.Post (Given q r ks ss ls) (λ κs. v)
 
-lexer-at : (q ks ss ls : List ℕ) → lexer-gives q ks ss ls (lexed (shortest (length ks) (length ss) (length ls)) q)
-lexer-at q ks ss ls κs a x e p h = cc (p .0, h .0, h .1, h .2, h .3)
+lexer-at : (r : Reading) (q ks ss ls : List ℕ) → lexer-gives r q ks ss ls (lexed r (shortest (length ks) (length ss) (length ls)) q)
+lexer-at r q ks ss ls κs a x e p h = cc (p .0, h .0, h .1, h .2, h .3, h .4)
 
-pub query-with-room-is-not-refused : lexer-gives (ascii "ab") nines nines nines (Count 2)
+pub query-with-room-is-not-refused : lexer-gives Crate (ascii "ab") nines nines nines (Count 2)
 unfolding lexing
-query-with-room-is-not-refused = lexer-at _ _ _ _
+query-with-room-is-not-refused = lexer-at _ _ _ _ _
 
-pub shortest-list-is-the-room : lexer-gives (ascii "ab") nines nines (9 ∷ []) (Refused noRoom)
+pub shortest-list-is-the-room : lexer-gives Crate (ascii "ab") nines nines (9 ∷ []) (Refused noRoom)
 unfolding lexing
-shortest-list-is-the-room = lexer-at _ _ _ _
+shortest-list-is-the-room = lexer-at _ _ _ _ _
 
-abbrev lexer-leaves-kinds : List ℕ → List ℕ → List ℕ → List ℕ → List ℕ → Type 0
-lexer-leaves-kinds q ks ss ls v = Leaves lexer.ps lexer.r lexer-reads.Post (Given q ks ss ls) (λ κs e. now (e .1 .0)) v
-
-lexer-left-kinds : (q ks ss ls : List ℕ) → lexer-leaves-kinds q ks ss ls (leftAfter (lexed (shortest (length ks) (length ss) (length ls)) q) (listed kindOf q ks) ks)
-lexer-left-kinds q ks ss ls κs a x e p h = cc (p .0, p .1 .0, h .0, h .1, h .2, h .3)
-
-pub kind-is-written : lexer-leaves-kinds (ascii "ab") nines nines nines (identifier ∷ 0 ∷ 9 ∷ [])
+pub lexer-refuses-a-separator-in-the-crate-reading : lexer-gives Crate (ascii "1_0") nines nines nines (refused 20 1 1)
 unfolding lexing
-kind-is-written = lexer-left-kinds _ _ _ _
+lexer-refuses-a-separator-in-the-crate-reading = lexer-at _ _ _ _ _
 
-pub comma-is-no-identifier : lexer-leaves-kinds (ascii ",") nines nines nines (comma ∷ 0 ∷ 9 ∷ [])
+pub lexer-takes-a-separator-in-the-documented-reading : lexer-gives Documented (ascii "1_0") nines nines nines (Count 2)
 unfolding lexing
-comma-is-no-identifier = lexer-left-kinds _ _ _ _
+lexer-takes-a-separator-in-the-documented-reading = lexer-at _ _ _ _ _
 
-pub end-is-no-comma : lexer-leaves-kinds [] nines nines nines (0 ∷ 9 ∷ 9 ∷ [])
+pub lexer-refuses-a-unit-behind-a-separator : lexer-gives Documented (ascii "1_0m") nines nines nines (refused 20 3 3)
 unfolding lexing
-end-is-no-comma = lexer-left-kinds _ _ _ _
+lexer-refuses-a-unit-behind-a-separator = lexer-at _ _ _ _ _
 
-pub refused-query-leaves-the-kinds : lexer-leaves-kinds (ascii "a!") nines nines nines nines
+abbrev lexer-leaves-kinds : Reading → List ℕ → List ℕ → List ℕ → List ℕ → List ℕ → Type 0
+lexer-leaves-kinds r q ks ss ls v = Leaves lexer.ps lexer.r lexer-reads.Post (Given q r ks ss ls) (λ κs e. now (e .1 .1 .0)) v
+
+lexer-left-kinds : (r : Reading) (q ks ss ls : List ℕ) → lexer-leaves-kinds r q ks ss ls (leftAfter (lexed r (shortest (length ks) (length ss) (length ls)) q) (listed r kindOf q ks) ks)
+lexer-left-kinds r q ks ss ls κs a x e p h = cc (p .0, p .1 .0, h .0, h .1, h .2, h .3, h .4)
+
+pub kind-is-written : lexer-leaves-kinds Crate (ascii "ab") nines nines nines (identifier ∷ 0 ∷ 9 ∷ [])
 unfolding lexing
-refused-query-leaves-the-kinds = lexer-left-kinds _ _ _ _
+kind-is-written = lexer-left-kinds _ _ _ _ _
 
-abbrev lexer-leaves-starts : List ℕ → List ℕ → List ℕ → List ℕ → List ℕ → Type 0
-lexer-leaves-starts q ks ss ls v = Leaves lexer.ps lexer.r lexer-reads.Post (Given q ks ss ls) (λ κs e. now (e .1 .1 .0)) v
-
-lexer-left-starts : (q ks ss ls : List ℕ) → lexer-leaves-starts q ks ss ls (leftAfter (lexed (shortest (length ks) (length ss) (length ls)) q) (listed startsAt q ss) ss)
-lexer-left-starts q ks ss ls κs a x e p h = cc (p .0, p .1 .1 .0, h .0, h .1, h .2, h .3)
-
-pub end-starts-behind-the-last-byte : lexer-leaves-starts (ascii "ab") nines nines nines (0 ∷ 2 ∷ 9 ∷ [])
+pub comma-is-no-identifier : lexer-leaves-kinds Crate (ascii ",") nines nines nines (comma ∷ 0 ∷ 9 ∷ [])
 unfolding lexing
-end-starts-behind-the-last-byte = lexer-left-starts _ _ _ _
+comma-is-no-identifier = lexer-left-kinds _ _ _ _ _
 
-pub refused-query-leaves-the-starts : lexer-leaves-starts (ascii "a!") nines nines nines nines
+pub end-is-no-comma : lexer-leaves-kinds Crate [] nines nines nines (0 ∷ 9 ∷ 9 ∷ [])
 unfolding lexing
-refused-query-leaves-the-starts = lexer-left-starts _ _ _ _
+end-is-no-comma = lexer-left-kinds _ _ _ _ _
 
-abbrev lexer-leaves-lengths : List ℕ → List ℕ → List ℕ → List ℕ → List ℕ → Type 0
-lexer-leaves-lengths q ks ss ls v = Leaves lexer.ps lexer.r lexer-reads.Post (Given q ks ss ls) (λ κs e. now (e .1 .1 .1 .0)) v
-
-lexer-left-lengths : (q ks ss ls : List ℕ) → lexer-leaves-lengths q ks ss ls (leftAfter (lexed (shortest (length ks) (length ss) (length ls)) q) (listed lengthOf q ls) ls)
-lexer-left-lengths q ks ss ls κs a x e p h = cc (p .0, p .1 .1 .1, h .0, h .1, h .2, h .3)
-
-pub end-has-no-length : lexer-leaves-lengths (ascii "ab") nines nines nines (2 ∷ 0 ∷ 9 ∷ [])
+pub refused-query-leaves-the-kinds : lexer-leaves-kinds Crate (ascii "a!") nines nines nines nines
 unfolding lexing
-end-has-no-length = lexer-left-lengths _ _ _ _
+refused-query-leaves-the-kinds = lexer-left-kinds _ _ _ _ _
 
-pub refused-query-leaves-the-lengths : lexer-leaves-lengths (ascii "a!") nines nines nines nines
+pub number-with-a-separator-is-a-number : lexer-leaves-kinds Documented (ascii "1_0") nines nines nines (number ∷ 0 ∷ 9 ∷ [])
 unfolding lexing
-refused-query-leaves-the-lengths = lexer-left-lengths _ _ _ _
+number-with-a-separator-is-a-number = lexer-left-kinds _ _ _ _ _
+
+pub and-so-in-brackets : lexer-leaves-kinds Documented (ascii "[1_0]") (9 ∷ nines) (9 ∷ nines) (9 ∷ nines) (leftBracket ∷ number ∷ rightBracket ∷ 0 ∷ [])
+unfolding lexing
+and-so-in-brackets = lexer-left-kinds _ _ _ _ _
+
+abbrev lexer-leaves-starts : Reading → List ℕ → List ℕ → List ℕ → List ℕ → List ℕ → Type 0
+lexer-leaves-starts r q ks ss ls v = Leaves lexer.ps lexer.r lexer-reads.Post (Given q r ks ss ls) (λ κs e. now (e .1 .1 .1 .0)) v
+
+lexer-left-starts : (r : Reading) (q ks ss ls : List ℕ) → lexer-leaves-starts r q ks ss ls (leftAfter (lexed r (shortest (length ks) (length ss) (length ls)) q) (listed r startsAt q ss) ss)
+lexer-left-starts r q ks ss ls κs a x e p h = cc (p .0, p .1 .1 .0, h .0, h .1, h .2, h .3, h .4)
+
+pub end-starts-behind-the-last-byte : lexer-leaves-starts Crate (ascii "ab") nines nines nines (0 ∷ 2 ∷ 9 ∷ [])
+unfolding lexing
+end-starts-behind-the-last-byte = lexer-left-starts _ _ _ _ _
+
+pub refused-query-leaves-the-starts : lexer-leaves-starts Crate (ascii "a!") nines nines nines nines
+unfolding lexing
+refused-query-leaves-the-starts = lexer-left-starts _ _ _ _ _
+
+abbrev lexer-leaves-lengths : Reading → List ℕ → List ℕ → List ℕ → List ℕ → List ℕ → Type 0
+lexer-leaves-lengths r q ks ss ls v = Leaves lexer.ps lexer.r lexer-reads.Post (Given q r ks ss ls) (λ κs e. now (e .1 .1 .1 .1 .0)) v
+
+lexer-left-lengths : (r : Reading) (q ks ss ls : List ℕ) → lexer-leaves-lengths r q ks ss ls (leftAfter (lexed r (shortest (length ks) (length ss) (length ls)) q) (listed r lengthOf q ls) ls)
+lexer-left-lengths r q ks ss ls κs a x e p h = cc (p .0, p .1 .1 .1, h .0, h .1, h .2, h .3, h .4)
+
+pub end-has-no-length : lexer-leaves-lengths Crate (ascii "ab") nines nines nines (2 ∷ 0 ∷ 9 ∷ [])
+unfolding lexing
+end-has-no-length = lexer-left-lengths _ _ _ _ _
+
+pub separator-is-of-the-number : lexer-leaves-lengths Documented (ascii "1_0") nines nines nines (3 ∷ 0 ∷ 9 ∷ [])
+unfolding lexing
+separator-is-of-the-number = lexer-left-lengths _ _ _ _ _
+
+pub refused-query-leaves-the-lengths : lexer-leaves-lengths Crate (ascii "a!") nines nines nines nines
+unfolding lexing
+refused-query-leaves-the-lengths = lexer-left-lengths _ _ _ _ _
 
 abbrev not-lexed-gives : Lexing → Refusal → Type 0
 not-lexed-gives t v = Answers not-lexed.ps not-lexed.r not-lexed-reads.Post (λ κs a. a .0 ≡ t) (λ κs. v)

@@ -1,9 +1,10 @@
--- What lexing a query answers, and what it leaves in the lent lists: document 01, "Refusal numbers", "Limits".
+-- What lexing a query in a reading answers, and what it leaves in the lent lists: document 01, "Refusal numbers", "Limits".
 use Prim.Native.Nat.{ℕ, min}
 use mathlib.Core.Bool.{cond}
 use mathlib.Core.List.{List, [], _∷_, _++_, map}
 use lib.Dec.{leb}
 use lib.ListN.{length, drop}
+use Rattle.utf8.specs.declared.Reading.{Reading}
 use Rattle.utf8.specs.declared.Refusal.{Refusal}
 use Rattle.utf8.specs.declared.Admission.{Admission}
 use Rattle.utf8.specs.declared.Admission.the-variants as admission
@@ -20,45 +21,45 @@ eof at = entry eofKind at 0
 abbrev pub entries : Outcome → List Entry
 entries (reads e r) = e ∷ entries r
 entries (ends at) = eof at ∷ []
-entries (refuses r o) = []
+entries (refuses number o) = []
 
-abbrev pub entriesOf : List ℕ → List Entry
-entriesOf q = entries (outcomeOf q)
+abbrev pub entriesOf : Reading → List ℕ → List Entry
+entriesOf r q = entries (outcomeOf r q)
 
 -- the refusal that the reading came to, else so many lexemes
 unfoldable pub answerBy : List ℕ → ℕ → Outcome → Lexing
 answerBy q n (reads e r) = answerBy q n r
 answerBy q n (ends at) = Count n
-answerBy q n (refuses r o) = Refused (refusedAt q r o)
+answerBy q n (refuses number o) = Refused (refusedAt q number o)
 
 -- "Order: 1, 2, the reading left to right (first refusal wins),
-abbrev pub readAs : List ℕ → Admission → Lexing
-readAs q (admission.Admitted n) = answerBy q (length (entriesOf q)) (outcomeOf q)
-readAs q (admission.Refused r) = Refused r
+abbrev pub readAs : Reading → List ℕ → Admission → Lexing
+readAs r q (admission.Admitted n) = answerBy q (length (entriesOf r q)) (outcomeOf r q)
+readAs r q (admission.Refused refusal) = Refused refusal
 
-unfoldable pub measured : List ℕ → Lexing
-measured q = readAs q (admitted textLimit q)
+unfoldable pub measured : Reading → List ℕ → Lexing
+measured r q = readAs r q (admitted textLimit q)
 
 -- 3." "Room is the shortest list."
 abbrev pub roomed : ℕ → Lexing → Lexing
 roomed room (Count n) = cond (leb n room) (Count n) (Refused noRoom)
-roomed room (Refused r) = Refused r
+roomed room (Refused refusal) = Refused refusal
 
-unfoldable pub lexed : ℕ → List ℕ → Lexing
-lexed room q = roomed room (measured q)
+unfoldable pub lexed : Reading → ℕ → List ℕ → Lexing
+lexed r room q = roomed room (measured r q)
 
 -- why a query is refused
 abbrev pub notLexed : Lexing → Refusal
 notLexed (Count n) = noRefusal
-notLexed (Refused r) = r
+notLexed (Refused refusal) = refusal
 
 -- "the first count entries of the three lent lists .. are written, no other"
-abbrev pub listed : (Entry → ℕ) → List ℕ → List ℕ → List ℕ
-listed f q d = map f (entriesOf q) ++ drop (length (entriesOf q)) d
+abbrev pub listed : Reading → (Entry → ℕ) → List ℕ → List ℕ → List ℕ
+listed r f q d = map f (entriesOf r q) ++ drop (length (entriesOf r q)) d
 
 abbrev pub leftAfter : Lexing → List ℕ → List ℕ → List ℕ
 leftAfter (Count n) new old = new
-leftAfter (Refused r) new old = old
+leftAfter (Refused refusal) new old = old
 
 abbrev pub kindOf : Entry → ℕ
 kindOf e = e .kind

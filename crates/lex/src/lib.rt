@@ -1,11 +1,12 @@
-// Lexing a query to three lent lists. A pass reads it into lists of the lexer's own, so that nothing lent is written before the query is measured; where all
-// lexemes had room there they are copied, and otherwise a second pass writes them. A refused query writes nothing.
+// Lexing a query, in a reading, to three lent lists. A pass reads it into lists of the lexer's own, so that nothing lent is written before the
+// query is measured; where all lexemes had room there they are copied, and otherwise a second pass writes them. A refused query writes nothing.
 use munch::Inside;
 use munch::Mode;
 use munch::Step;
 use token::kinds;
 use utf8::Admission;
 use utf8::ByteOffset;
+use utf8::Reading;
 use utf8::Refusal;
 ghost use mathlib.Core.Path.{_≡_};
 ghost use mathlib.Core.List.{_++_};
@@ -73,6 +74,7 @@ fn refused_by(number: usize, at: usize) -> Run
 }
 
 // Reads on in braces from a place, through the brace that closes them, and writes the lexemes that have room, the first of them at place `first`.
+// Nothing in braces differs by the reading.
 fn braces(
     leads: &[u8; munch::BYTES],
     query: &[u8],
@@ -86,7 +88,7 @@ fn braces(
     requires { ⌜ now leads ≡ leadTable ⌝ ∗ ⌜ length (now query) ≤ textLimit ⌝ ∗ ⌜ Alike (now kinds) (now starts) (now lengths) ⌝ }
     requires { ⌜ (from ≤ length (now query)) × (first ≤ from) ⌝ }
     ensures { λ r. ⌜ Reached (now (query .entry)) from r ⌝ }
-    ensures { λ r. ⌜ Leads (state (now (kinds .entry)) (now (starts .entry)) (now (lengths .entry)) first (outcomeAt (now (query .entry)) from (mode depth Braces))) (stateBehind (now (query .entry)) (now (kinds .exit)) (now (starts .exit)) (now (lengths .exit)) depth r) ⌝ }
+    ensures { λ r. ⌜ ((reading : Reading) → Leads (state (now (kinds .entry)) (now (starts .entry)) (now (lengths .entry)) first (outcomeAt reading (now (query .entry)) from (mode depth Braces))) (stateBehind reading (now (query .entry)) (now (kinds .exit)) (now (starts .exit)) (now (lengths .exit)) depth r)) ⌝ }
 {
     let mut at = from;
     let mut i = first;
@@ -113,6 +115,7 @@ fn braces(
 // The same in brackets.
 fn brackets(
     query: &[u8],
+    reading: Reading,
     kinds: &mut [u16],
     starts: &mut [u32],
     lengths: &mut [u32],
@@ -123,14 +126,14 @@ fn brackets(
     requires { ⌜ length (now query) ≤ textLimit ⌝ ∗ ⌜ Alike (now kinds) (now starts) (now lengths) ⌝ }
     requires { ⌜ (from ≤ length (now query)) × (first ≤ from) ⌝ }
     ensures { λ r. ⌜ Reached (now (query .entry)) from r ⌝ }
-    ensures { λ r. ⌜ Leads (state (now (kinds .entry)) (now (starts .entry)) (now (lengths .entry)) first (outcomeAt (now (query .entry)) from (mode depth (Brackets false true)))) (stateBehind (now (query .entry)) (now (kinds .exit)) (now (starts .exit)) (now (lengths .exit)) depth r) ⌝ }
+    ensures { λ r. ⌜ Leads (state (now (kinds .entry)) (now (starts .entry)) (now (lengths .entry)) first (outcomeAt reading (now (query .entry)) from (mode depth (Brackets false true)))) (stateBehind reading (now (query .entry)) (now (kinds .exit)) (now (starts .exit)) (now (lengths .exit)) depth r) ⌝ }
 {
     let mut at = from;
     let mut i = first;
     let mut seen = false;
     let mut fresh = true;
     loop {
-        let s = munch::bracket_step(&query[at..], depth, seen, fresh);
+        let s = munch::bracket_step(&query[at..], reading, depth, seen, fresh);
         match s {
             Step::Lexeme { kind, length, mode } => {
                 put(kinds, starts, lengths, i, kind, placed(at, length));
@@ -158,6 +161,7 @@ fn brackets(
 fn opened(
     leads: &[u8; munch::BYTES],
     query: &[u8],
+    reading: Reading,
     kinds: &mut [u16],
     starts: &mut [u32],
     lengths: &mut [u32],
@@ -168,7 +172,7 @@ fn opened(
     requires { ⌜ now leads ≡ leadTable ⌝ ∗ ⌜ length (now query) ≤ textLimit ⌝ ∗ ⌜ Alike (now kinds) (now starts) (now lengths) ⌝ }
     requires { ⌜ Opens (next .inside) ⌝ ∗ ⌜ (at ≤ length (now query)) × (count ≤ at) ⌝ }
     ensures { λ r. ⌜ Reached (now (query .entry)) at r ⌝ }
-    ensures { λ r. ⌜ Leads (state (now (kinds .entry)) (now (starts .entry)) (now (lengths .entry)) count (outcomeAt (now (query .entry)) at next)) (stateBehind (now (query .entry)) (now (kinds .exit)) (now (starts .exit)) (now (lengths .exit)) (next .depth) r) ⌝ }
+    ensures { λ r. ⌜ Leads (state (now (kinds .entry)) (now (starts .entry)) (now (lengths .entry)) count (outcomeAt reading (now (query .entry)) at next)) (stateBehind reading (now (query .entry)) (now (kinds .exit)) (now (starts .exit)) (now (lengths .exit)) (next .depth) r) ⌝ }
 {
     let depth = next.depth;
     let inside = next.inside;
@@ -176,7 +180,7 @@ fn opened(
         Inside::Nothing => Run::To { at, count },
         Inside::Braces => braces(leads, query, kinds, starts, lengths, depth, at, count),
         Inside::Brackets { seen: _, fresh: _ } => {
-            brackets(query, kinds, starts, lengths, depth, at, count)
+            brackets(query, reading, kinds, starts, lengths, depth, at, count)
         }
     }
 }
@@ -186,28 +190,29 @@ fn pass(
     leads: &[u8; munch::BYTES],
     words: &[u8],
     query: &[u8],
+    reading: Reading,
     kinds: &mut [u16],
     starts: &mut [u32],
     lengths: &mut [u32],
 ) -> Run
     requires { ⌜ (now leads ≡ leadTable) × (now words ≡ wordTable) ⌝ ∗ ⌜ length (now query) ≤ textLimit ⌝ ∗ ⌜ Alike (now kinds) (now starts) (now lengths) ⌝ }
-    ensures { λ r. ⌜ r ≡ tallyOf (now (query .entry)) ⌝ }
-    ensures { λ _. ⌜ now (kinds .exit) ≡ filled kindOf (now (query .entry)) (now (kinds .entry)) ⌝ }
-    ensures { λ _. ⌜ now (starts .exit) ≡ filled startsAt (now (query .entry)) (now (starts .entry)) ⌝ }
-    ensures { λ _. ⌜ now (lengths .exit) ≡ filled lengthOf (now (query .entry)) (now (lengths .entry)) ⌝ }
+    ensures { λ r. ⌜ r ≡ tallyOf reading (now (query .entry)) ⌝ }
+    ensures { λ _. ⌜ now (kinds .exit) ≡ filled reading kindOf (now (query .entry)) (now (kinds .entry)) ⌝ }
+    ensures { λ _. ⌜ now (starts .exit) ≡ filled reading startsAt (now (query .entry)) (now (starts .entry)) ⌝ }
+    ensures { λ _. ⌜ now (lengths .exit) ≡ filled reading lengthOf (now (query .entry)) (now (lengths .entry)) ⌝ }
 {
     let mut at = 0;
     let mut i = 0;
     let mut depth = 0;
     loop {
-        let s = munch::outside_step(leads, words, &query[at..], depth);
+        let s = munch::outside_step(leads, words, &query[at..], reading, depth);
         match s {
             Step::Lexeme { kind, length, mode } => {
                 put(kinds, starts, lengths, i, kind, placed(at, length));
                 at += length;
                 i += 1;
                 depth = mode.depth;
-                let r = opened(leads, query, kinds, starts, lengths, mode, at, i);
+                let r = opened(leads, query, reading, kinds, starts, lengths, mode, at, i);
                 let Run::To { at: end, count } = r else {
                     return r;
                 };
@@ -237,8 +242,8 @@ fn refused_in(query: &[u8], run: Run) -> Refusal
 }
 
 // How many lexemes a query has, its end included, or why it is refused: a pass that has no room.
-pub fn measure(query: &[u8]) -> Lexing
-    ensures { λ r. ⌜ r ≡ measured (now (query .entry)) ⌝ }
+pub fn measure(query: &[u8], reading: Reading) -> Lexing
+    ensures { λ r. ⌜ r ≡ measured reading (now (query .entry)) ⌝ }
 {
     let a = utf8::admit(query, utf8::TEXT_LIMIT);
     let Admission::Admitted(_) = a else {
@@ -249,7 +254,15 @@ pub fn measure(query: &[u8]) -> Lexing
     let mut kinds = [0u16; 0];
     let mut starts = [0u32; 0];
     let mut lengths = [0u32; 0];
-    let r = pass(&leads, &words, query, &mut kinds, &mut starts, &mut lengths);
+    let r = pass(
+        &leads,
+        &words,
+        query,
+        reading,
+        &mut kinds,
+        &mut starts,
+        &mut lengths,
+    );
     let Run::To { at: _, count: n } = r else {
         return Lexing::Refused(refused_in(query, r));
     };
@@ -307,21 +320,23 @@ fn write(
     leads: &[u8; munch::BYTES],
     words: &[u8],
     query: &[u8],
+    reading: Reading,
     n: usize,
     kinds: &mut [u16],
     starts: &mut [u32],
     lengths: &mut [u32],
 )
-    requires { ⌜ (now leads ≡ leadTable) × (now words ≡ wordTable) ⌝ ∗ ⌜ length (now query) ≤ textLimit ⌝ ∗ ⌜ n ≡ length (entriesOf (now query)) ⌝ }
+    requires { ⌜ (now leads ≡ leadTable) × (now words ≡ wordTable) ⌝ ∗ ⌜ length (now query) ≤ textLimit ⌝ ∗ ⌜ n ≡ length (entriesOf reading (now query)) ⌝ }
     requires { ⌜ (n ≤ length (now kinds)) × (n ≤ length (now starts)) × (n ≤ length (now lengths)) ⌝ }
-    ensures { λ _. ⌜ now (kinds .exit) ≡ listed kindOf (now (query .entry)) (now (kinds .entry)) ⌝ }
-    ensures { λ _. ⌜ now (starts .exit) ≡ listed startsAt (now (query .entry)) (now (starts .entry)) ⌝ }
-    ensures { λ _. ⌜ now (lengths .exit) ≡ listed lengthOf (now (query .entry)) (now (lengths .entry)) ⌝ }
+    ensures { λ _. ⌜ now (kinds .exit) ≡ listed reading kindOf (now (query .entry)) (now (kinds .entry)) ⌝ }
+    ensures { λ _. ⌜ now (starts .exit) ≡ listed reading startsAt (now (query .entry)) (now (starts .entry)) ⌝ }
+    ensures { λ _. ⌜ now (lengths .exit) ≡ listed reading lengthOf (now (query .entry)) (now (lengths .entry)) ⌝ }
 {
     pass(
         leads,
         words,
         query,
+        reading,
         &mut kinds[..n],
         &mut starts[..n],
         &mut lengths[..n],
@@ -333,6 +348,7 @@ fn lex_text(
     leads: &[u8; munch::BYTES],
     words: &[u8],
     query: &[u8],
+    reading: Reading,
     ks: &mut [u16],
     ss: &mut [u32],
     ls: &mut [u32],
@@ -341,12 +357,12 @@ fn lex_text(
     lengths: &mut [u32],
 ) -> Lexing
     requires { ⌜ (now leads ≡ leadTable) × (now words ≡ wordTable) ⌝ ∗ ⌜ length (now query) ≤ textLimit ⌝ ∗ ⌜ Alike (now ks) (now ss) (now ls) ⌝ }
-    ensures { λ r. ⌜ r ≡ roomed (shortest (length (now (kinds .entry))) (length (now (starts .entry))) (length (now (lengths .entry)))) (answerIn (now (query .entry)) (tallyOf (now (query .entry)))) ⌝ }
-    ensures { λ r. ⌜ now (kinds .exit) ≡ leftAfter r (listed kindOf (now (query .entry)) (now (kinds .entry))) (now (kinds .entry)) ⌝ }
-    ensures { λ r. ⌜ now (starts .exit) ≡ leftAfter r (listed startsAt (now (query .entry)) (now (starts .entry))) (now (starts .entry)) ⌝ }
-    ensures { λ r. ⌜ now (lengths .exit) ≡ leftAfter r (listed lengthOf (now (query .entry)) (now (lengths .entry))) (now (lengths .entry)) ⌝ }
+    ensures { λ r. ⌜ r ≡ roomed (shortest (length (now (kinds .entry))) (length (now (starts .entry))) (length (now (lengths .entry)))) (answerIn (now (query .entry)) (tallyOf reading (now (query .entry)))) ⌝ }
+    ensures { λ r. ⌜ now (kinds .exit) ≡ leftAfter r (listed reading kindOf (now (query .entry)) (now (kinds .entry))) (now (kinds .entry)) ⌝ }
+    ensures { λ r. ⌜ now (starts .exit) ≡ leftAfter r (listed reading startsAt (now (query .entry)) (now (starts .entry))) (now (starts .entry)) ⌝ }
+    ensures { λ r. ⌜ now (lengths .exit) ≡ leftAfter r (listed reading lengthOf (now (query .entry)) (now (lengths .entry))) (now (lengths .entry)) ⌝ }
 {
-    let r = pass(leads, words, query, ks, ss, ls);
+    let r = pass(leads, words, query, reading, ks, ss, ls);
     let Run::To { at: _, count: n } = r else {
         return Lexing::Refused(refused_in(query, r));
     };
@@ -356,7 +372,7 @@ fn lex_text(
     if n <= ks.len() {
         copy(n, ks, ss, ls, kinds, starts, lengths);
     } else {
-        write(leads, words, query, n, kinds, starts, lengths);
+        write(leads, words, query, reading, n, kinds, starts, lengths);
     }
     Lexing::Count(n)
 }
@@ -369,11 +385,17 @@ const FEW: usize = 64;
 const MANY: usize = 1024;
 
 // Lexes a query to three lent lists, which it leaves as they were where it refuses.
-pub fn lexer(query: &[u8], kinds: &mut [u16], starts: &mut [u32], lengths: &mut [u32]) -> Lexing
-    ensures { λ r. ⌜ r ≡ lexed (shortest (length (now (kinds .entry))) (length (now (starts .entry))) (length (now (lengths .entry)))) (now (query .entry)) ⌝ }
-    ensures { λ r. ⌜ now (kinds .exit) ≡ leftAfter r (listed kindOf (now (query .entry)) (now (kinds .entry))) (now (kinds .entry)) ⌝ }
-    ensures { λ r. ⌜ now (starts .exit) ≡ leftAfter r (listed startsAt (now (query .entry)) (now (starts .entry))) (now (starts .entry)) ⌝ }
-    ensures { λ r. ⌜ now (lengths .exit) ≡ leftAfter r (listed lengthOf (now (query .entry)) (now (lengths .entry))) (now (lengths .entry)) ⌝ }
+pub fn lexer(
+    query: &[u8],
+    reading: Reading,
+    kinds: &mut [u16],
+    starts: &mut [u32],
+    lengths: &mut [u32],
+) -> Lexing
+    ensures { λ r. ⌜ r ≡ lexed reading (shortest (length (now (kinds .entry))) (length (now (starts .entry))) (length (now (lengths .entry)))) (now (query .entry)) ⌝ }
+    ensures { λ r. ⌜ now (kinds .exit) ≡ leftAfter r (listed reading kindOf (now (query .entry)) (now (kinds .entry))) (now (kinds .entry)) ⌝ }
+    ensures { λ r. ⌜ now (starts .exit) ≡ leftAfter r (listed reading startsAt (now (query .entry)) (now (starts .entry))) (now (starts .entry)) ⌝ }
+    ensures { λ r. ⌜ now (lengths .exit) ≡ leftAfter r (listed reading lengthOf (now (query .entry)) (now (lengths .entry))) (now (lengths .entry)) ⌝ }
 {
     let leads = munch::leads();
     let words = token::words();
@@ -389,6 +411,7 @@ pub fn lexer(query: &[u8], kinds: &mut [u16], starts: &mut [u32], lengths: &mut 
             &leads,
             &words,
             query,
+            reading,
             &mut ks,
             &mut ss,
             &mut ls,
@@ -404,6 +427,7 @@ pub fn lexer(query: &[u8], kinds: &mut [u16], starts: &mut [u32], lengths: &mut 
         &leads,
         &words,
         query,
+        reading,
         &mut ks,
         &mut ss,
         &mut ls,

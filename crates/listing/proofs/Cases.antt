@@ -1,6 +1,7 @@
 -- Both texts hold: antt computes them.
 use mathlib.Core.Path.{refl}
 use Rattle.scan.specs.Run.{runLength}
+use Rattle.scan.specs.Separated.{separatedLength}
 use Rattle.scan.specs.Text.{has, sameText}
 use Rattle.scan.specs.Byte.{isWithin, lowered, isIn, isAlpha, isSpace, isAlphaNumeric, isWord, isLine, isQuote}
 use Rattle.utf8.specs.Table.{fits, sizeIn, charLength}
@@ -20,5 +21,5 @@ use Rattle.listing.specs.Listing.{refusal, lexemesText, printedBy, print
 use Rattle.listing.specs.laws.Cases.{AllPrinted}
 
 pub all-printed : AllPrinted
-unfolding printed printedBy lexemesText refusal lexed measured answerBy stepsPast readFrom munched stepIn outsideTable bracketTable isWordStart isQuote wordStep numberStep quotedStep endStep ruleBy kindBy isFill keywordOf words kindIn numeralOf numberEnd exponentEnd fractionEnd isHex isUnit durationFrom turnOf stopOf quotedFrom isSign admitted validityOf charsPast sizeOf charNumber begunIn charLength sizeIn fits codeOf isWithin isIn isSpace isAlpha isAlphaNumeric isWord isLine lowered runLength sameText has decimalText digitsWithin digitFor
+unfolding printed printedBy lexemesText refusal lexed measured answerBy stepsPast readFrom munched stepIn outsideTable bracketTable isWordStart isQuote wordStep numberStep quotedStep endStep ruleBy kindBy isFill keywordOf words kindIn numeralOf numberEnd exponentEnd fractionEnd isHex isUnit durationFrom turnOf stopOf quotedFrom isSign admitted validityOf charsPast sizeOf charNumber begunIn charLength sizeIn fits codeOf isWithin isIn isSpace isAlpha isAlphaNumeric isWord isLine lowered runLength separatedLength sameText has decimalText digitsWithin digitFor
 all-printed = (refl, refl)

@@ -5,6 +5,7 @@ use mathlib.Core.Path.{_≡_}
 use mathlib.Core.List.{List, _++_}
 use lib.ListN.{length, length-append}
 use Rattle.scan.specs.Ascii.{ascii}
+use Rattle.utf8.specs.declared.Reading.the-variants.{Crate}
 use Rattle.utf8.specs.declared.Refusal.{Refusal}
 use Rattle.writing.specs.Decimal.{mostDigits, decimalText}
 use Rattle.writing.proofs.Decimals.{digits-below, digits-few}
@@ -51,7 +52,7 @@ refusal-few r f g h =
     omega (arith, length-append (ascii "refused ") three, numbers-few before64 before64 before64 (r .number) (r .place .byte .0) (r .place .character .0) (omega arith) (omega arith) (omega arith))
 
 -- a refusal of a query
-pub refused-few : (room : ℕ) (q : List ℕ) (r : Refusal) → lexed room q ≡ Refused r → length (refusal r) ≤ longestLine
+pub refused-few : (room : ℕ) (q : List ℕ) (r : Refusal) → lexed Crate room q ≡ Refused r → length (refusal r) ≤ longestLine
 refused-few room q r e =
-    let b : LexingWithin (Refused r) = rw e at (lexing-bounded room q) in
+    let b : LexingWithin (Refused r) = rw e at (lexing-bounded Crate room q) in
     refusal-few r (omega (arith, b .0)) (omega (arith, b .1)) (omega (arith, b .2))

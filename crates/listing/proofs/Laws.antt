@@ -9,6 +9,7 @@ use lib.ListN.{length, length-append}
 use borrow.Author.Tests.{le-leb, ltb-false}
 use Rattle.proving.proofs.Choice.{either}
 use Rattle.utf8.specs.Answers.{tooLong}
+use Rattle.utf8.specs.declared.Reading.the-variants.{Crate}
 use Rattle.lex.specs.declared.Lexing.{Lexing}
 use Rattle.lex.specs.declared.Lexing.the-variants.{Count, Refused}
 use Rattle.lex.specs.Outcome.{Entry}
@@ -22,10 +23,10 @@ use Rattle.listing.proofs.Few.{lexeme-few, refusal-few, refused-few}
 
 pub room-enough : RoomEnough
 unfolding lexed
-room-enough q h = go (measured q) refl
+room-enough q h = go (measured Crate q) refl
   where
-    go : (x : Lexing) → measured q ≡ x → lexed mostLexemes q ≡ measured q
-    go (Count n) e = let l : n ≤ mostLexemes = omega (arith, measured-given q n .0 e .2, entries-within q .1) in rw (e, le-leb n mostLexemes l)
+    go : (x : Lexing) → measured Crate q ≡ x → lexed Crate mostLexemes q ≡ measured Crate q
+    go (Count n) e = let l : n ≤ mostLexemes = omega (arith, measured-given Crate q n .0 e .2, entries-within Crate q .1) in rw (e, le-leb n mostLexemes l)
     go (Refused r) e = rw e
 
 -- the lexemes of a query within the limit
@@ -39,11 +40,11 @@ pub text-fits : TextFits
 unfolding printed printedBy
 text-fits q =
     either (λ (t : List ℕ). length t ≤ mostText) (ltb inputLimit (length q)) (λ e. long)
-    (λ e. go (ltb-false inputLimit (length q) e) (lexed mostLexemes q) refl)
+    (λ e. go (ltb-false inputLimit (length q) e) (lexed Crate mostLexemes q) refl)
   where
     long : length (refusal tooLong) ≤ mostText
     long = omega (arith, refusal-few tooLong (omega arith) (omega arith) (omega arith))
 
-    go : length q ≤ inputLimit → (x : Lexing) → lexed mostLexemes q ≡ x → length (printedBy q x) ≤ mostText
-    go h (Count n) e = omega (arith, lexemes-few (length q) h (entriesOf q) (entries-within q .0), entries-within q .1)
+    go : length q ≤ inputLimit → (x : Lexing) → lexed Crate mostLexemes q ≡ x → length (printedBy q x) ≤ mostText
+    go h (Count n) e = omega (arith, lexemes-few (length q) h (entriesOf Crate q) (entries-within Crate q .0), entries-within Crate q .1)
     go h (Refused r) e = omega (arith, refused-few mostLexemes q r e)

@@ -7,6 +7,7 @@ use mathlib.Core.Path.{_≡_, refl, sym, ap, _∙_}
 use mathlib.Core.List.{List, [], _∷_, _++_, map, append-assoc, append-nil}
 use lib.ListN.{length, take, drop, getD, length-map}
 use lib.Seq.{take-suc, take-all, take-at}
+use Rattle.utf8.specs.declared.Reading.the-variants.{Crate}
 use Rattle.lex.specs.declared.Lexing.{Lexing}
 use Rattle.lex.specs.declared.Lexing.the-variants.{Count}
 use Rattle.lex.specs.Outcome.{Entry, entry}
@@ -19,21 +20,21 @@ zipped-back : (es : List Entry) → zipped (map kindOf es) (map startsAt es) (ma
 zipped-back [] = refl
 zipped-back (e ∷ es) = ap (λ (t : List Entry). e ∷ t) (zipped-back es)
 
-listed-front : (f : Entry → ℕ) (q d : List ℕ) (n : ℕ) → n ≡ length (entriesOf q) → take n (listed f q d) ≡ map f (entriesOf q)
-listed-front f q d n h = take-at (map f (entriesOf q)) (drop (length (entriesOf q)) d) n (length-map (entriesOf q) f ∙ sym h)
+listed-front : (f : Entry → ℕ) (q d : List ℕ) (n : ℕ) → n ≡ length (entriesOf Crate q) → take n (listed Crate f q d) ≡ map f (entriesOf Crate q)
+listed-front f q d n h = take-at (map f (entriesOf Crate q)) (drop (length (entriesOf Crate q)) d) n (length-map (entriesOf Crate q) f ∙ sym h)
 
 -- what `lexer` promises of an accepted query is that the first entries of the three lists are its lexemes, and that there is room for them
 pub lists-hold : (q ks ss ls : List ℕ) {x : Lexing} {n : ℕ} {ks′ ss′ ls′ : List ℕ}
-    → (x ≡ lexed (shortest (length ks) (length ss) (length ls)) q)
-    × ((ks′ ≡ leftAfter x (listed kindOf q ks) ks) × ((ss′ ≡ leftAfter x (listed startsAt q ss) ss) × (ls′ ≡ leftAfter x (listed lengthOf q ls) ls)))
+    → (x ≡ lexed Crate (shortest (length ks) (length ss) (length ls)) q)
+    × ((ks′ ≡ leftAfter x (listed Crate kindOf q ks) ks) × ((ss′ ≡ leftAfter x (listed Crate startsAt q ss) ss) × (ls′ ≡ leftAfter x (listed Crate lengthOf q ls) ls)))
     → x ≡ Count n
-    → (n ≤ shortest (length ks) (length ss) (length ls)) × (zipped (take n ks′) (take n ss′) (take n ls′) ≡ entriesOf q)
+    → (n ≤ shortest (length ks) (length ss) (length ls)) × (zipped (take n ks′) (take n ss′) (take n ls′) ≡ entriesOf Crate q)
 lists-hold q ks ss ls {n = n} p told =
-    let w = (lexing-given (shortest (length ks) (length ss) (length ls)) q .4 n) .0 (sym (p .0) ∙ told) in
-    let kinds = ap (take n) (p .1 .0 ∙ ap (λ y. leftAfter y (listed kindOf q ks) ks) told) ∙ listed-front kindOf q ks n (w .2) in
-    let starts = ap (take n) (p .1 .1 .0 ∙ ap (λ y. leftAfter y (listed startsAt q ss) ss) told) ∙ listed-front startsAt q ss n (w .2) in
-    let lengths = ap (take n) (p .1 .1 .1 ∙ ap (λ y. leftAfter y (listed lengthOf q ls) ls) told) ∙ listed-front lengthOf q ls n (w .2) in
-    (w .3, rw (kinds, starts, lengths) (zipped-back (entriesOf q)))
+    let w = (lexing-given Crate (shortest (length ks) (length ss) (length ls)) q .4 n) .0 (sym (p .0) ∙ told) in
+    let kinds = ap (take n) (p .1 .0 ∙ ap (λ y. leftAfter y (listed Crate kindOf q ks) ks) told) ∙ listed-front kindOf q ks n (w .2) in
+    let starts = ap (take n) (p .1 .1 .0 ∙ ap (λ y. leftAfter y (listed Crate startsAt q ss) ss) told) ∙ listed-front startsAt q ss n (w .2) in
+    let lengths = ap (take n) (p .1 .1 .1 ∙ ap (λ y. leftAfter y (listed Crate lengthOf q ls) ls) told) ∙ listed-front lengthOf q ls n (w .2) in
+    (w .3, rw (kinds, starts, lengths) (zipped-back (entriesOf Crate q)))
 
 one-more : (es : List Entry) (e : Entry) → lexemesText (es ++ e ∷ []) ≡ lexemesText es ++ lexemeText e
 unfolding lexemesText

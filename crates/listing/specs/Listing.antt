@@ -1,10 +1,11 @@
--- What the program prints of a query: document 01, "Order of the port" and "Values on both sides".
+-- What the program prints of a query, which it lexes in the crate reading: document 01, "Order of the port" and "Values on both sides".
 use Prim.Native.Nat.{ℕ, _+_, _*_}
 use mathlib.Core.Bool.{cond}
 use mathlib.Core.List.{List, [], _∷_, _++_}
 use lib.Dec.{ltb}
 use lib.ListN.{length}
 use Rattle.scan.specs.Ascii.{ascii}
+use Rattle.utf8.specs.declared.Reading.the-variants.{Crate}
 use Rattle.utf8.specs.declared.Refusal.{Refusal}
 use Rattle.utf8.specs.Answers.{tooLong}
 use Rattle.writing.specs.Decimal.{mostDigits, decimalText}
@@ -65,9 +66,9 @@ zipped (k ∷ ks) (s ∷ ss) (l ∷ ls) = entry k s l ∷ zipped ks ss ls
 
 -- "The program prints each lexeme ..; a refusal ..": its one line and no lexeme
 unfoldable pub printedBy : List ℕ → Lexing → List ℕ
-printedBy q (Count n) = lexemesText (entriesOf q)
+printedBy q (Count n) = lexemesText (entriesOf Crate q)
 printedBy q (Refused r) = refusal r
 
 -- "Order of the port" 6: "longer input is refusal 1"
 unfoldable pub printed : List ℕ → List ℕ
-printed q = cond (ltb inputLimit (length q)) (refusal tooLong) (printedBy q (lexed mostLexemes q))
+printed q = cond (ltb inputLimit (length q)) (refusal tooLong) (printedBy q (lexed Crate mostLexemes q))

@@ -1,6 +1,7 @@
-// What the program prints of a query: a line for each lexeme, or one for the refusal. A text is written whole where it fits, and
-// else not at all.
+// What the program prints of a query, lexed in the crate reading: a line for each lexeme, or one for the refusal. A text is written whole where
+// it fits, and else not at all.
 use lex::Lexing;
+use utf8::Reading;
 use utf8::Refusal;
 ghost use mathlib.Core.Path.{_≡_};
 ghost use Prim.Native.Nat.{_+_, _≤_};
@@ -93,9 +94,9 @@ fn lex_to(
 ) -> usize
     requires { ⌜ (length (now kinds) ≡ mostLexemes) × (length (now starts) ≡ mostLexemes) × (length (now lengths) ≡ mostLexemes) ⌝ }
     requires { ⌜ mostRoom ≤ length (now text) ⌝ }
-    ensures { λ r. ⌜ Puts (printedBy (now (query .entry)) (lexed mostLexemes (now (query .entry)))) (now (text .entry)) 0 r (now (text .exit)) ⌝ }
+    ensures { λ r. ⌜ Puts (printedBy (now (query .entry)) (lexed Reading.Crate mostLexemes (now (query .entry)))) (now (text .entry)) 0 r (now (text .exit)) ⌝ }
 {
-    let x = lex::lexer(query, kinds, starts, lengths);
+    let x = lex::lexer(query, Reading::Crate, kinds, starts, lengths);
     let Lexing::Count(n) = x else {
         return put_refusal(text, 0, lex::not_lexed(x));
     };

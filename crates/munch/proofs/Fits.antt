@@ -14,6 +14,7 @@ use Rattle.proving.proofs.Choice.{either}
 use Rattle.token.specs.Words.{keywordOf}
 use Rattle.token.specs.Kinds.{lte, lss, gte, gtr}
 use Rattle.token.proofs.Fits.{keyword-fits}
+use Rattle.utf8.specs.declared.Reading.{Reading}
 use Rattle.numeral.specs.declared.Numeral.{Numeral}
 use Rattle.numeral.specs.declared.Numeral.the-variants.{Number, Duration, Neither}
 use Rattle.numeral.specs.Numeral.{numeralOf}
@@ -30,11 +31,11 @@ use Rattle.munch.specs.laws.Step.{Fits, StepFits}
 use Rattle.munch.proofs.Openings.{by-rows}
 
 module _ (m : Mode) (xs : List ℕ) where
-  number-fits : Fits (numberStep m xs)
+  number-fits : (r : Reading) → Fits (numberStep r m xs)
   unfolding numberStep
-  number-fits = go (numeralOf xs)
+  number-fits r = go (numeralOf r xs)
     where
-      go : (r : Numeral) → Fits (numberBy m r)
+      go : (n : Numeral) → Fits (numberBy m n)
       go (Number n) = omega arith
       go (Duration n) = omega arith
       go (Neither n) = tt
@@ -51,9 +52,9 @@ module _ (m : Mode) (xs : List ℕ) where
   next-fits : (c : ℕ) (s t : Step) → Fits s → Fits t → Fits (ifNext xs c s t)
   next-fits c s t f g = either Fits (eqb (peekAt xs 1) c) (λ e. f) (λ e. g)
 
-  dot-fits : Fits (dotStep m xs)
+  dot-fits : (r : Reading) → Fits (dotStep r m xs)
   unfolding dotStep
-  dot-fits = either Fits (isDigit (peekAt xs 1)) (λ e. number-fits) (λ e. next-fits end _ _ tt tt)
+  dot-fits r = either Fits (isDigit (peekAt xs 1)) (λ e. number-fits r) (λ e. next-fits end _ _ tt tt)
 
   equals-fits : Fits (equalsStep m xs)
   unfolding equalsStep
@@ -75,7 +76,7 @@ module _ (m : Mode) (xs : List ℕ) where
   unfolding braceBang
   brace-bang-fits = next-fits (code "=") _ _ (omega arith) (next-fits (code "~") _ _ (omega arith) (next-fits end _ _ tt tt))
 
-module _ (d : ℕ) (xs : List ℕ) where
+module _ (r : Reading) (d : ℕ) (xs : List ℕ) where
   paren-fits : Fits (rightParenStep d)
   unfolding rightParenStep
   paren-fits = either Fits (eqb d 0) (λ e. tt) (λ e. omega arith)
@@ -100,18 +101,18 @@ module _ (d : ℕ) (xs : List ℕ) where
   abbrev Small : (List ℕ → Step) → Type 0
   Small step = Fits (step xs)
 
-  outside-fits : Fits (stepIn d Nothing (peekAt xs 0) xs)
+  outside-fits : Fits (stepIn r d Nothing (peekAt xs 0) xs)
   unfolding stepIn outsideTable commentStep
   outside-fits =
       let here = mode d Nothing in
-      by-rows Small (peekAt xs 0) (outsideTable d) 19
+      by-rows Small (peekAt xs 0) (outsideTable r d) 19
       (λ h. word-step-fits here)
       (λ h. tt)
       (λ h. string-fits here xs)
-      (λ h. number-fits here xs)
+      (λ h. number-fits here xs r)
       (λ h. end-fits)
       (λ h. tt)
-      (λ h. dot-fits here xs)
+      (λ h. dot-fits here xs r)
       (λ h. omega arith)
       (λ h. paren-fits)
       (λ h. omega arith)
@@ -132,7 +133,7 @@ module _ (d : ℕ) (xs : List ℕ) where
       (λ h. omega arith)
       (λ n. tt)
 
-  brace-fits : Fits (stepIn d Braces (peekAt xs 0) xs)
+  brace-fits : Fits (stepIn r d Braces (peekAt xs 0) xs)
   unfolding stepIn braceTable commentStep
   brace-fits =
       let here = mode d Braces in
@@ -149,23 +150,23 @@ module _ (d : ℕ) (xs : List ℕ) where
       (λ h. brace-bang-fits here xs)
       (λ n. tt)
 
-  bracket-fits : (seen fresh : Bool) → Fits (stepIn d (Brackets seen fresh) (peekAt xs 0) xs)
+  bracket-fits : (seen fresh : Bool) → Fits (stepIn r d (Brackets seen fresh) (peekAt xs 0) xs)
   unfolding stepIn bracketTable
   bracket-fits seen fresh =
-      by-rows Small (peekAt xs 0) (bracketTable d seen fresh) 31
+      by-rows Small (peekAt xs 0) (bracketTable r d seen fresh) 31
       (λ h. tt)
-      (λ h. number-fits _ xs)
+      (λ h. number-fits _ xs r)
       (λ h. tt)
       (λ h. tt)
       (λ h. omega arith)
       (λ h. colon-fits seen fresh)
       (λ n. tt)
 
-  inside-fits : (i : Inside) → Fits (stepIn d i (peekAt xs 0) xs)
+  inside-fits : (i : Inside) → Fits (stepIn r d i (peekAt xs 0) xs)
   inside-fits Nothing = outside-fits
   inside-fits Braces = brace-fits
   inside-fits (Brackets seen fresh) = bracket-fits seen fresh
 
 pub step-fits : StepFits
 unfolding munched
-step-fits m xs = inside-fits (m .depth) xs (m .inside)
+step-fits r m xs = inside-fits r (m .depth) xs (m .inside)

@@ -19,6 +19,7 @@ use Rattle.scan.specs.Run.{runEnd}
 use Rattle.proving.proofs.Choice.{either}
 use Rattle.scan.proofs.Edges.{ascii-inside, edge-within, edge-run, class-ascii, one-ascii}
 use Rattle.token.specs.Kinds.{eqlc, neq, lte, lss, gte, gtr, eqlRegex, neqRegex}
+use Rattle.utf8.specs.declared.Reading.{Reading}
 use Rattle.numeral.specs.declared.Numeral.{Numeral}
 use Rattle.numeral.specs.declared.Numeral.the-variants.{Number, Duration, Neither}
 use Rattle.numeral.specs.Numeral.{numeralOf}
@@ -82,19 +83,19 @@ module _ (xs : List ℕ) (h : peekAt xs 0 < 0x80) where
 
 module _ (m : Mode) (xs : List ℕ) where
   -- a number, whatever mode it leaves
-  number-goes : (m′ : Mode) → isDigit (peekAt xs 0) || eqb (peekAt xs 0) (code ".") ≡ true → Goes m xs (numberStep m′ xs)
+  number-goes : (r : Reading) (m′ : Mode) → isDigit (peekAt xs 0) || eqb (peekAt xs 0) (code ".") ≡ true → Goes m xs (numberStep r m′ xs)
   unfolding numberStep
-  number-goes m′ e = go (numeralOf xs) (numeral-within xs e)
+  number-goes r m′ e = go (numeralOf r xs) (numeral-within r xs e)
     where
-      go : (r : Numeral) → (1 ≤ taken r) × Edge xs (taken r) → Goes m xs (numberBy m′ r)
+      go : (n : Numeral) → (1 ≤ taken n) × Edge xs (taken n) → Goes m xs (numberBy m′ n)
       go (Number n) w = past-edge xs n (w .0) (w .1)
       go (Duration n) w = past-edge xs n (w .0) (w .1)
       go (Neither n) w = w .1
 
-  dot-goes : peekAt xs 0 ≡ code "." → Goes m xs (dotStep m xs)
+  dot-goes : (r : Reading) → peekAt xs 0 ≡ code "." → Goes m xs (dotStep r m xs)
   unfolding dotStep isWithin
-  dot-goes e =
-      either (Goes m xs) (isDigit (peekAt xs 1)) (λ f. number-goes m (rw e))
+  dot-goes r e =
+      either (Goes m xs) (isDigit (peekAt xs 1)) (λ f. number-goes r m (rw e))
       (λ f. either (Goes m xs) (eqb (peekAt xs 1) end) (λ g. first) (λ g. behind 0 (omega arith)))
 
   module _ (h : peekAt xs 0 < 0x80) where
@@ -136,7 +137,7 @@ module _ (m : Mode) (xs : List ℕ) where
     unfolding braceBang
     brace-bang-goes = two-goes (code "=") neq _ (omega arith) (two-goes (code "~") neqRegex _ (omega arith) (after-bang 24))
 
-module _ (d : ℕ) (xs : List ℕ) where
+module _ (r : Reading) (d : ℕ) (xs : List ℕ) where
   paren-goes : peekAt xs 0 < 0x80 → Goes (mode d Nothing) xs (rightParenStep d)
   unfolding rightParenStep
   paren-goes h = either (Goes (mode d Nothing) xs) (eqb d 0) (λ e. first) (λ e. past-one xs h)
@@ -162,18 +163,18 @@ module _ (d : ℕ) (xs : List ℕ) where
   one-sign : (y : ℕ) → y < 0x80 → eqb (peekAt xs 0) y ≡ true → Past xs 1
   one-sign y l h = past-one xs (ascii-sign y l h)
 
-  outside-goes : Goes (mode d Nothing) xs (stepIn d Nothing (peekAt xs 0) xs)
+  outside-goes : Goes (mode d Nothing) xs (stepIn r d Nothing (peekAt xs 0) xs)
   unfolding stepIn outsideTable wordStep commentStep
   outside-goes =
       let here = mode d Nothing in
-      by-rows (Going Nothing) (peekAt xs 0) (outsideTable d) 19
+      by-rows (Going Nothing) (peekAt xs 0) (outsideTable r d) 19
       (λ h. past-run xs (start-ascii (peekAt xs 0) h) Word (class-ascii Word refl))
       (λ h. past-one xs (space-ascii (peekAt xs 0) h))
       (λ h. string-goes here xs (quote-ascii (peekAt xs 0) h))
-      (λ h. number-goes here xs here (rw h))
+      (λ h. number-goes here xs r here (rw h))
       (λ h. end-goes (eqb-true (peekAt xs 0) end h))
       (λ h. past-comment xs (ascii-sign (code "#") (omega arith) h))
-      (λ h. dot-goes here xs (eqb-true (peekAt xs 0) (code ".") h))
+      (λ h. dot-goes here xs r (eqb-true (peekAt xs 0) (code ".") h))
       (one-sign (code "(") (omega arith))
       (λ h. paren-goes (ascii-sign (code ")") (omega arith) h))
       (one-sign (code "{") (omega arith))
@@ -194,7 +195,7 @@ module _ (d : ℕ) (xs : List ℕ) where
       (one-sign (code "@") (omega arith))
       (λ n. first)
 
-  brace-goes : Goes (mode d Braces) xs (stepIn d Braces (peekAt xs 0) xs)
+  brace-goes : Goes (mode d Braces) xs (stepIn r d Braces (peekAt xs 0) xs)
   unfolding stepIn braceTable braceWord commentStep
   brace-goes =
       let here = mode d Braces in
@@ -211,23 +212,23 @@ module _ (d : ℕ) (xs : List ℕ) where
       (λ h. brace-bang-goes here xs (ascii-sign (code "!") (omega arith) h))
       (λ n. first)
 
-  bracket-goes : (seen fresh : Bool) → Goes (mode d (Brackets seen fresh)) xs (stepIn d (Brackets seen fresh) (peekAt xs 0) xs)
+  bracket-goes : (seen fresh : Bool) → Goes (mode d (Brackets seen fresh)) xs (stepIn r d (Brackets seen fresh) (peekAt xs 0) xs)
   unfolding stepIn bracketTable
   bracket-goes seen fresh =
-      by-rows (Going (Brackets seen fresh)) (peekAt xs 0) (bracketTable d seen fresh) 31
+      by-rows (Going (Brackets seen fresh)) (peekAt xs 0) (bracketTable r d seen fresh) 31
       (λ h. past-one xs (space-ascii (peekAt xs 0) h))
-      (λ h. number-goes (mode d (Brackets seen fresh)) xs (mode d (Brackets seen false)) (rw h))
+      (λ h. number-goes (mode d (Brackets seen fresh)) xs r (mode d (Brackets seen false)) (rw h))
       (λ h. first)
       (λ h. first)
       (one-sign (code "]") (omega arith))
       (λ h. colon-goes seen fresh (ascii-sign (code ":") (omega arith) h))
       (λ n. first)
 
-  inside-goes : (i : Inside) → Goes (mode d i) xs (stepIn d i (peekAt xs 0) xs)
+  inside-goes : (i : Inside) → Goes (mode d i) xs (stepIn r d i (peekAt xs 0) xs)
   inside-goes Nothing = outside-goes
   inside-goes Braces = brace-goes
   inside-goes (Brackets seen fresh) = bracket-goes seen fresh
 
 pub step-goes : StepGoes
 unfolding munched
-step-goes m xs = inside-goes (m .depth) xs (m .inside)
+step-goes r m xs = inside-goes r (m .depth) xs (m .inside)

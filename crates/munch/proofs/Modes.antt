@@ -11,6 +11,7 @@ use lib.ListN.{drop}
 use Rattle.scan.specs.Byte.{end, peekAt, isDigit}
 use Rattle.proving.proofs.Choice.{either}
 use Rattle.token.specs.Kinds.{lte, lss, gte, gtr}
+use Rattle.utf8.specs.declared.Reading.{Reading}
 use Rattle.numeral.specs.declared.Numeral.{Numeral}
 use Rattle.numeral.specs.declared.Numeral.the-variants.{Number, Duration, Neither}
 use Rattle.numeral.specs.Numeral.{numeralOf}
@@ -26,11 +27,11 @@ use Rattle.munch.specs.laws.Modes.{Behind, LeadsTo, StepLeads}
 use Rattle.munch.proofs.Openings.{by-rows}
 
 module _ (d : ℕ) (i : Inside) (m : Mode) (xs : List ℕ) (b : Behind d i m) where
-  number-leads : LeadsTo d i (numberStep m xs)
+  number-leads : (r : Reading) → LeadsTo d i (numberStep r m xs)
   unfolding numberStep
-  number-leads = go (numeralOf xs)
+  number-leads r = go (numeralOf r xs)
     where
-      go : (r : Numeral) → LeadsTo d i (numberBy m r)
+      go : (n : Numeral) → LeadsTo d i (numberBy m n)
       go (Number n) = b
       go (Duration n) = b
       go (Neither n) = tt
@@ -47,20 +48,20 @@ module _ (d : ℕ) (i : Inside) (m : Mode) (xs : List ℕ) (b : Behind d i m) wh
 next-leads : (d : ℕ) (i : Inside) (xs : List ℕ) (c : ℕ) (s t : Step) → LeadsTo d i s → LeadsTo d i t → LeadsTo d i (ifNext xs c s t)
 next-leads d i xs c s t f g = either (LeadsTo d i) (eqb (peekAt xs 1) c) (λ e. f) (λ e. g)
 
-module _ (d : ℕ) (xs : List ℕ) where
-  outside-leads : LeadsTo d Nothing (stepIn d Nothing (peekAt xs 0) xs)
+module _ (r : Reading) (d : ℕ) (xs : List ℕ) where
+  outside-leads : LeadsTo d Nothing (stepIn r d Nothing (peekAt xs 0) xs)
   unfolding stepIn outsideTable commentStep wordStep dotStep equalsStep bangStep compareStep rightParenStep endStep
   outside-leads =
       let here = mode d Nothing in
       let next = next-leads d Nothing xs in
-      by-rows (λ step. LeadsTo d Nothing (step xs)) (peekAt xs 0) (outsideTable d) 19
+      by-rows (λ step. LeadsTo d Nothing (step xs)) (peekAt xs 0) (outsideTable r d) 19
       (λ h. tt)
       (λ h. refl)
       (λ h. string-leads d Nothing here xs tt)
-      (λ h. number-leads d Nothing here xs tt)
+      (λ h. number-leads d Nothing here xs tt r)
       (λ h. either (LeadsTo d Nothing) (eqb d 0) (λ e. refl) (λ e. tt))
       (λ h. tt)
-      (λ h. either (LeadsTo d Nothing) (isDigit (peekAt xs 1)) (λ e. number-leads d Nothing here xs tt) (λ e. next end _ _ tt tt))
+      (λ h. either (LeadsTo d Nothing) (isDigit (peekAt xs 1)) (λ e. number-leads d Nothing here xs tt r) (λ e. next end _ _ tt tt))
       (λ h. tt)
       (λ h. either (LeadsTo d Nothing) (eqb d 0) (λ e. tt) (λ e. tt))
       (λ h. tt)
@@ -81,7 +82,7 @@ module _ (d : ℕ) (xs : List ℕ) where
       (λ h. tt)
       (λ n. tt)
 
-  brace-leads : LeadsTo d Braces (stepIn d Braces (peekAt xs 0) xs)
+  brace-leads : LeadsTo d Braces (stepIn r d Braces (peekAt xs 0) xs)
   unfolding stepIn braceTable commentStep braceWord braceEquals braceBang
   brace-leads =
       let stays : Behind d Braces (mode d Braces) = inr refl in
@@ -99,24 +100,24 @@ module _ (d : ℕ) (xs : List ℕ) where
       (λ h. next (code "=") _ _ stays (next (code "~") _ _ stays (next end _ _ tt tt)))
       (λ n. tt)
 
-  bracket-leads : (seen fresh : Bool) → LeadsTo d (Brackets seen fresh) (stepIn d (Brackets seen fresh) (peekAt xs 0) xs)
+  bracket-leads : (seen fresh : Bool) → LeadsTo d (Brackets seen fresh) (stepIn r d (Brackets seen fresh) (peekAt xs 0) xs)
   unfolding stepIn bracketTable colonStep
   bracket-leads seen fresh =
       let i = Brackets seen fresh in
-      by-rows (λ step. LeadsTo d i (step xs)) (peekAt xs 0) (bracketTable d seen fresh) 31
+      by-rows (λ step. LeadsTo d i (step xs)) (peekAt xs 0) (bracketTable r d seen fresh) 31
       (λ h. refl)
-      (λ h. number-leads d i (mode d (Brackets seen false)) xs (inr (seen, refl)))
+      (λ h. number-leads d i (mode d (Brackets seen false)) xs (inr (seen, refl)) r)
       (λ h. tt)
       (λ h. tt)
       (λ h. inl refl)
       (λ h. either (LeadsTo d i) seen (λ e. tt) (λ e. either (LeadsTo d i) fresh (λ f. tt) (λ f. inr (true, refl))))
       (λ n. tt)
 
-  inside-leads : (i : Inside) → LeadsTo d i (stepIn d i (peekAt xs 0) xs)
+  inside-leads : (i : Inside) → LeadsTo d i (stepIn r d i (peekAt xs 0) xs)
   inside-leads Nothing = outside-leads
   inside-leads Braces = brace-leads
   inside-leads (Brackets seen fresh) = bracket-leads seen fresh
 
 pub step-leads : StepLeads
 unfolding munched
-step-leads d i xs = inside-leads d xs i
+step-leads r d i xs = inside-leads r d xs i

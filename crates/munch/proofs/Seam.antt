@@ -19,6 +19,7 @@ use Rattle.scan.specs.Byte.{end, peekAt, isWithin, isAlpha, isDigit, isAlphaNum
 use Rattle.scan.specs.Run.{runEnd}
 use Rattle.proving.proofs.Choice.{either}
 use Rattle.scan.proofs.Runs.{run-within, run-append, run-inside, peek-append}
+use Rattle.utf8.specs.declared.Reading.{Reading}
 use Rattle.token.specs.declared.Keyword.{Keyword}
 use Rattle.token.specs.declared.Keyword.the-variants as keyword
 use Rattle.token.specs.Kinds.{identifier, lss, lte, gtr, gte}
@@ -133,13 +134,13 @@ module _ (x : ℕ) (xs ys : List ℕ) where
         let n = runEnd (isIn class.AlphaNumeric) (x ∷ xs) 1 in
         rw (run-line class.AlphaNumeric brace-word-line, or-line (x ∷ xs) ys n (run-bound class.AlphaNumeric)) (same _)
 
-    number-seam : Seamed (numberStep m (x ∷ xs)) (numberStep m on)
+    number-seam : (r : Reading) → Seamed (numberStep r m (x ∷ xs)) (numberStep r m on)
     unfolding numberStep
-    number-seam = rw (numeral-seam (x ∷ xs) ys) (same _)
+    number-seam r = rw (numeral-seam r (x ∷ xs) ys) (same _)
 
-    dot-seam : Seamed (dotStep m (x ∷ xs)) (dotStep m on)
+    dot-seam : (r : Reading) → Seamed (dotStep r m (x ∷ xs)) (dotStep r m on)
     unfolding dotStep
-    dot-seam = next-seam isDigit digit-line number-seam (refusals-seam (eqb (peekAt (x ∷ xs) 1) end) 15 0 14 1 _)
+    dot-seam r = next-seam isDigit digit-line (number-seam r) (refusals-seam (eqb (peekAt (x ∷ xs) 1) end) 15 0 14 1 _)
 
     quoted-seam : Seamed (quotedStep m (x ∷ xs)) (quotedStep m on)
     unfolding quotedStep
@@ -175,19 +176,19 @@ module _ (x : ℕ) (xs ys : List ℕ) where
   abbrev Seaming : (List ℕ → Step) → Type 0
   Seaming step = Seamed (step (x ∷ xs)) (step on)
 
-  module _ (d : ℕ) where
-    outside-seam : Seamed (stepIn d Nothing x (x ∷ xs)) (stepIn d Nothing x on)
+  module _ (r : Reading) (d : ℕ) where
+    outside-seam : Seamed (stepIn r d Nothing x (x ∷ xs)) (stepIn r d Nothing x on)
     unfolding stepIn outsideTable
     outside-seam =
         let here = mode d Nothing in
-        by-rows Seaming x (outsideTable d) 19
+        by-rows Seaming x (outsideTable r d) 19
         (λ h. word-seam here)
         (λ h. same _)
         (λ h. quoted-seam here)
-        (λ h. number-seam here)
+        (λ h. number-seam here r)
         (λ h. same _)
         (λ h. comment-seamed)
-        (λ h. dot-seam here)
+        (λ h. dot-seam here r)
         (λ h. same _)
         (λ h. same _)
         (λ h. same _)
@@ -208,7 +209,7 @@ module _ (x : ℕ) (xs ys : List ℕ) where
         (λ h. same _)
         (λ n. same _)
 
-    brace-seam : Seamed (stepIn d Braces x (x ∷ xs)) (stepIn d Braces x on)
+    brace-seam : Seamed (stepIn r d Braces x (x ∷ xs)) (stepIn r d Braces x on)
     unfolding stepIn braceTable
     brace-seam =
         let here = mode d Braces in
@@ -225,12 +226,12 @@ module _ (x : ℕ) (xs ys : List ℕ) where
         (λ h. brace-bang-seam here)
         (λ n. same _)
 
-    bracket-seam : (seen fresh : Bool) → Seamed (stepIn d (Brackets seen fresh) x (x ∷ xs)) (stepIn d (Brackets seen fresh) x on)
+    bracket-seam : (seen fresh : Bool) → Seamed (stepIn r d (Brackets seen fresh) x (x ∷ xs)) (stepIn r d (Brackets seen fresh) x on)
     unfolding stepIn bracketTable
     bracket-seam seen fresh =
-        by-rows Seaming x (bracketTable d seen fresh) 31
+        by-rows Seaming x (bracketTable r d seen fresh) 31
         (λ h. same _)
-        (λ h. number-seam (mode d (Brackets seen false)))
+        (λ h. number-seam (mode d (Brackets seen false)) r)
         (λ h. same _)
         (λ h. same _)
         (λ h. same _)
@@ -238,12 +239,12 @@ module _ (x : ℕ) (xs ys : List ℕ) where
         (λ n. same _)
 
     -- the first byte, and so the row, stays
-    inside-seam : (i : Inside) → Seamed (stepIn d i x (x ∷ xs)) (stepIn d i x on)
+    inside-seam : (i : Inside) → Seamed (stepIn r d i x (x ∷ xs)) (stepIn r d i x on)
     inside-seam Nothing = outside-seam
     inside-seam Braces = brace-seam
     inside-seam (Brackets seen fresh) = bracket-seam seen fresh
 
 pub step-seam : StepSeam
 unfolding munched
-step-seam m [] ys h = absurd (omega arith)
-step-seam m (x ∷ xs) ys h = inside-seam x xs ys (m .depth) (m .inside)
+step-seam r m [] ys h = absurd (omega arith)
+step-seam r m (x ∷ xs) ys h = inside-seam x xs ys r (m .depth) (m .inside)

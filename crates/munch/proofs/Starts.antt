@@ -13,6 +13,7 @@ use Rattle.scan.specs.Byte.{isWithin, isSpace, isAlpha, isDigit, isQuote, isIn}
 use Rattle.scan.specs.laws.Edge.{AsciiAlone}
 use Rattle.scan.proofs.byte.Classes.{within-bounds, below-not}
 use Rattle.scan.proofs.Edges.{class-ascii, one-ascii, or-ascii}
+use Rattle.utf8.specs.declared.Reading.{Reading}
 use Rattle.munch.specs.Word.{isWordStart}
 use Rattle.munch.specs.declared.Inside.the-variants.{Nothing, Braces, Brackets}
 use Rattle.munch.specs.Munch.{mode, numberStep, quotedStep, outsideTable, braceTable, bracketTable, stepIn}
@@ -46,13 +47,13 @@ module _ (c : ℕ) (e : isDigit c ≡ true) where
       rw (ne-eqb c (code "\"") (omega arith), ne-eqb c (code "'") (omega arith), ne-eqb c (code "`") (omega arith))
 
 -- so its row is the first that is for it
-pub digit-outside : (d c : ℕ) → isDigit c ≡ true → stepIn d Nothing c ≡ numberStep (mode d Nothing)
+pub digit-outside : (r : Reading) (d c : ℕ) → isDigit c ≡ true → stepIn r d Nothing c ≡ numberStep r (mode d Nothing)
 unfolding stepIn outsideTable
-digit-outside d c e = rw (no-start c e, no-space c e, no-quote c e, e)
+digit-outside r d c e = rw (no-start c e, no-space c e, no-quote c e, e)
 
-pub digit-in-brackets : (d : ℕ) (seen fresh : Bool) (c : ℕ) → isDigit c ≡ true → stepIn d (Brackets seen fresh) c ≡ numberStep (mode d (Brackets seen false))
+pub digit-in-brackets : (r : Reading) (d : ℕ) (seen fresh : Bool) (c : ℕ) → isDigit c ≡ true → stepIn r d (Brackets seen fresh) c ≡ numberStep r (mode d (Brackets seen false))
 unfolding stepIn bracketTable
-digit-in-brackets d seen fresh c e = rw (no-space c e, e)
+digit-in-brackets r d seen fresh c e = rw (no-space c e, e)
 
 -- what holds at each of the three quotes
 one-quote : {A : Type 0} (f : ℕ → A) {a : A} → f (code "\"") ≡ a → f (code "'") ≡ a → f (code "`") ≡ a → (c : ℕ) → isQuote c ≡ true → f c ≡ a
@@ -64,10 +65,10 @@ one-quote f {a} x y z c e = go (tests-or (tests-eq c (code "\"")) (tests-or (tes
     go (inr (inl p)) = ap f p ∙ y
     go (inr (inr p)) = ap f p ∙ z
 
-pub quote-outside : (d c : ℕ) → isQuote c ≡ true → stepIn d Nothing c ≡ quotedStep (mode d Nothing)
+pub quote-outside : (r : Reading) (d c : ℕ) → isQuote c ≡ true → stepIn r d Nothing c ≡ quotedStep (mode d Nothing)
 unfolding stepIn outsideTable isWordStart isQuote isAlpha isSpace isWithin
-quote-outside d = one-quote (stepIn d Nothing) refl refl refl
+quote-outside r d = one-quote (stepIn r d Nothing) refl refl refl
 
-pub quote-in-braces : (d c : ℕ) → isQuote c ≡ true → stepIn d Braces c ≡ quotedStep (mode d Braces)
+pub quote-in-braces : (r : Reading) (d c : ℕ) → isQuote c ≡ true → stepIn r d Braces c ≡ quotedStep (mode d Braces)
 unfolding stepIn braceTable isQuote isAlpha isSpace isWithin
-quote-in-braces d = one-quote (stepIn d Braces) refl refl refl
+quote-in-braces r d = one-quote (stepIn r d Braces) refl refl refl

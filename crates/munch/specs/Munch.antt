@@ -1,5 +1,6 @@
--- One step of reading a query: what the bytes that are left begin with, in a mode. Document 01, "Lexing rules"; its refusals 10 to 32, of which
--- "11, 12 and 14 to 18 are given only outside braces and brackets, 13 also in braces". The three tables say what each first byte does.
+-- One step of reading a query: what the bytes that are left begin with, in a mode and in a reading, by which numbers alone differ. Document 01,
+-- "Lexing rules", and document 02, L2; 01's refusals 10 to 32, of which "11, 12 and 14 to 18 are given only outside braces and brackets, 13 also in
+-- braces". The three tables say what each first byte does.
 -- A refusal's place is its offset in the bytes that are left: "it" is 0, or 1 behind a `!`; "end" is where they end, which is 1 behind a `!`.
 use Prim.Native.Nat.{ℕ, suc, _-_}
 use Prim.Native.Char.{Char, code}
@@ -10,6 +11,7 @@ use lib.ListN.{take, drop}
 use Rattle.scan.specs.declared.byte.Class.the-variants.{AlphaNumeric, Word}
 use Rattle.scan.specs.Byte.{end, peekAt, isSpace, isAlpha, isDigit, isQuote, isIn}
 use Rattle.scan.specs.Run.{runEnd}
+use Rattle.utf8.specs.declared.Reading.{Reading}
 use Rattle.token.specs.Words.{keywordOf}
 use Rattle.token.specs.Kinds.{string, number, duration, leftParen, rightParen, leftBrace, rightBrace, leftBracket, rightBracket, comma, colon, eql, add, sub, mul, div, modulo, pow, eqlc, neq, lte, lss, gte, gtr, eqlRegex, neqRegex, atSign}
 use Rattle.numeral.specs.declared.Numeral.{Numeral}
@@ -53,7 +55,7 @@ abbrev pub white : Mode → List ℕ → Step
 white m = always (Space m)
 
 abbrev pub refuse : ℕ → List ℕ → Step
-refuse r = always (Refused r 0)
+refuse n = always (Refused n 0)
 
 -- one step where a byte, or the end, follows the first, else another
 abbrev pub ifNext : List ℕ → ℕ → Step → Step → Step
@@ -65,17 +67,17 @@ numberBy m (Number n) = Lexeme number n m
 numberBy m (Duration n) = Lexeme duration n m
 numberBy m (Neither n) = Refused 20 n
 
-unfoldable pub numberStep : Mode → List ℕ → Step
-numberStep m xs = numberBy m (numeralOf xs)
+unfoldable pub numberStep : Reading → Mode → List ℕ → Step
+numberStep r m xs = numberBy m (numeralOf r xs)
 
 -- "by `.` and a digit"; 14 "`.` before a non-digit", at "that one"; 15 "`.` at the end", at "the dot"
-unfoldable pub dotStep : Mode → List ℕ → Step
-dotStep m xs = cond (isDigit (peekAt xs 1)) (numberStep m xs) (ifNext xs end (Refused 15 0) (Refused 14 1))
+unfoldable pub dotStep : Reading → Mode → List ℕ → Step
+dotStep r m xs = cond (isDigit (peekAt xs 1)) (numberStep r m xs) (ifNext xs end (Refused 15 0) (Refused 14 1))
 
 -- "The lexeme includes both signs." 21 to 23 are given where `quoted` says, one byte on for the opening sign
 abbrev pub quotedBy : Mode → Quoted → Step
 quotedBy m (quoting.Closed n) = Lexeme string (suc n) m
-quotedBy m (quoting.Refused r n) = Refused r (suc n)
+quotedBy m (quoting.Refused refusal n) = Refused refusal (suc n)
 
 unfoldable pub quotedStep : Mode → List ℕ → Step
 quotedStep m xs = quotedBy m (quotedOf (peekAt xs 0) (drop 1 xs))
@@ -141,20 +143,20 @@ isEnd c = eqb c end
 
 -- the step of the first row that is for the byte; where none is, it is refused with a number
 abbrev pub stepFor : List Opening → ℕ → ℕ → List ℕ → Step
-stepFor [] r c = refuse r
-stepFor (o ∷ t) r c = cond (o .takes c) (o .step) (stepFor t r c)
+stepFor [] n c = refuse n
+stepFor (o ∷ t) n c = cond (o .takes c) (o .step) (stepFor t n c)
 
 -- outside braces and brackets; 17, 18 "unmatched .. `}`, `]`"
-unfoldable pub outsideTable : ℕ → List Opening
-outsideTable d =
+unfoldable pub outsideTable : Reading → ℕ → List Opening
+outsideTable r d =
     let here = mode d Nothing in
     row isWordStart (wordStep here)
     ∷ row isSpace (white here)
     ∷ row isQuote (quotedStep here)
-    ∷ row isDigit (numberStep here)
+    ∷ row isDigit (numberStep r here)
     ∷ row isEnd (always (endStep d))
     ∷ row (is "#") commentStep
-    ∷ row (is ".") (dotStep here)
+    ∷ row (is ".") (dotStep r here)
     ∷ row (is "(") (sign leftParen (mode (deeper d) Nothing))
     ∷ row (is ")") (always (rightParenStep d))
     ∷ row (is "{") (sign leftBrace (mode d Braces))
@@ -194,11 +196,11 @@ braceTable d =
 -- in brackets, which "hold white space, numbers, durations and at most one colon, not directly after `[`": whether their colon was seen, and
 -- whether the byte before is their `[`. White space ends that, so that `[ :5m]` is accepted. A `#` begins nothing there ("none exist inside
 -- `[ ]`"), nor does a point ("outside brackets, by `.` and a digit"). 30 "`[` in brackets"; 32 "end .. in brackets"
-unfoldable pub bracketTable : ℕ → Bool → Bool → List Opening
-bracketTable d seen fresh =
+unfoldable pub bracketTable : Reading → ℕ → Bool → Bool → List Opening
+bracketTable r d seen fresh =
     let here = mode d (Brackets seen false) in
     row isSpace (white here)
-    ∷ row isDigit (numberStep here)
+    ∷ row isDigit (numberStep r here)
     ∷ row isEnd (refuse 32)
     ∷ row (is "[") (refuse 30)
     ∷ row (is "]") (sign rightBracket (mode d Nothing))
@@ -206,11 +208,11 @@ bracketTable d seen fresh =
     ∷ []
 
 -- 19, 26, 31 "other character outside, in braces, in brackets"
-unfoldable pub stepIn : ℕ → Inside → ℕ → List ℕ → Step
-stepIn d Nothing = stepFor (outsideTable d) 19
-stepIn d Braces = stepFor (braceTable d) 26
-stepIn d (Brackets seen fresh) = stepFor (bracketTable d seen fresh) 31
+unfoldable pub stepIn : Reading → ℕ → Inside → ℕ → List ℕ → Step
+stepIn r d Nothing = stepFor (outsideTable r d) 19
+stepIn r d Braces = stepFor (braceTable d) 26
+stepIn r d (Brackets seen fresh) = stepFor (bracketTable r d seen fresh) 31
 
 -- the step, by the first of the bytes that are left, or their end
-unfoldable pub munched : Mode → List ℕ → Step
-munched m xs = stepIn (m .depth) (m .inside) (peekAt xs 0) xs
+unfoldable pub munched : Reading → Mode → List ℕ → Step
+munched r m xs = stepIn r (m .depth) (m .inside) (peekAt xs 0) xs

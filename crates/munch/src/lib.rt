@@ -1,4 +1,4 @@
-// One step of reading a query: what the bytes that are left begin with, by the mode that those before have led to.
+// One step of reading a query: what the bytes that are left begin with, by the mode that those before have led to, in a reading.
 // Document 01's rows that refuse it are numbered in `refusals`.
 mod lead;
 mod refusals;
@@ -11,6 +11,7 @@ use quoted::Quoted;
 use scan::byte;
 use token::Keyword;
 use token::kinds;
+use utf8::Reading;
 ghost use mathlib.Core.Path.{_≡_};
 ghost use mathlib.Core.Bool.{true, false};
 ghost use Prim.Native.Nat.{_^_, _<_};
@@ -142,11 +143,11 @@ fn in_mode(depth: usize, inside: Inside) -> Mode
 }
 
 // A point outside: a digit has to follow.
-fn dot_step(s: &[u8], mode: Mode) -> Step
-    ensures { λ r. ⌜ r ≡ dotStep mode (now (s .entry)) ⌝ }
+fn dot_step(s: &[u8], reading: Reading, mode: Mode) -> Step
+    ensures { λ r. ⌜ r ≡ dotStep reading mode (now (s .entry)) ⌝ }
 {
     if byte::is_digit(byte::peek(s, 1)) {
-        return number_by(numeral::scan_number(s), mode);
+        return number_by(numeral::scan_number(s, reading), mode);
     }
     second::if_next(
         s,
@@ -201,13 +202,13 @@ fn sign_step(kind: u16, depth: usize) -> Step
 }
 
 // A step outside that a sign begins which others may go on with, or that is refused.
-fn other_step(s: &[u8], here: Mode) -> Step
+fn other_step(s: &[u8], reading: Reading, here: Mode) -> Step
     requires { ⌜ 0 < length (now s) ⌝ }
-    ensures { λ r. ⌜ r ≡ stepFor (otherTable here) 19 (peekAt (now (s .entry)) 0) (now (s .entry)) ⌝ }
+    ensures { λ r. ⌜ r ≡ stepFor (otherTable reading here) 19 (peekAt (now (s .entry)) 0) (now (s .entry)) ⌝ }
 {
     match s[0] as usize {
         signs::HASH => comment_step(s),
-        signs::DOT => dot_step(s, here),
+        signs::DOT => dot_step(s, reading, here),
         signs::RIGHT_BRACE => refused(refusals::UNMATCHED_BRACE, 0),
         signs::RIGHT_BRACKET => refused(refusals::UNMATCHED_BRACKET, 0),
         signs::EQUALS => second::equals_step(s, here),
@@ -219,8 +220,14 @@ fn other_step(s: &[u8], here: Mode) -> Step
 }
 
 // A step outside braces and brackets, by the tables of leads and words.
-pub fn outside_step(leads: &[u8; BYTES], words: &[u8], s: &[u8], depth: usize) -> Step
-    ensures { λ r. ⌜ r ≡ outsideBy (now (leads .entry)) (now (words .entry)) depth (now (s .entry)) ⌝ }
+pub fn outside_step(
+    leads: &[u8; BYTES],
+    words: &[u8],
+    s: &[u8],
+    reading: Reading,
+    depth: usize,
+) -> Step
+    ensures { λ r. ⌜ r ≡ outsideBy reading (now (leads .entry)) (now (words .entry)) depth (now (s .entry)) ⌝ }
 {
     let here = in_mode(depth, Inside::Nothing);
     if s.len() == 0 {
@@ -237,12 +244,12 @@ pub fn outside_step(leads: &[u8; BYTES], words: &[u8], s: &[u8], depth: usize) -
         return word_step(leads, words, s, here);
     }
     if lead == lead::DIGIT {
-        return number_by(numeral::scan_number(s), here);
+        return number_by(numeral::scan_number(s, reading), here);
     }
     if lead == lead::QUOTE {
         return quoted_by(quoted::accept_string(s[0], &s[1..]), here);
     }
-    other_step(s, here)
+    other_step(s, reading, here)
 }
 
 // A step in braces that a sign begins, or that is refused.
@@ -301,8 +308,8 @@ fn colon_step(depth: usize, seen: bool, fresh: bool) -> Step
 }
 
 // A step in brackets.
-pub fn bracket_step(s: &[u8], depth: usize, seen: bool, fresh: bool) -> Step
-    ensures { λ r. ⌜ r ≡ munched (mode depth (Inside.Brackets seen fresh)) (now (s .entry)) ⌝ }
+pub fn bracket_step(s: &[u8], reading: Reading, depth: usize, seen: bool, fresh: bool) -> Step
+    ensures { λ r. ⌜ r ≡ munched reading (mode depth (Inside.Brackets seen fresh)) (now (s .entry)) ⌝ }
 {
     let inside = Inside::Brackets { seen, fresh: false };
     let here = in_mode(depth, inside);
@@ -311,7 +318,7 @@ pub fn bracket_step(s: &[u8], depth: usize, seen: bool, fresh: bool) -> Step
         return Step::Space { mode: here };
     }
     if byte::is_digit(c) {
-        return number_by(numeral::scan_number(s), here);
+        return number_by(numeral::scan_number(s, reading), here);
     }
     match c {
         byte::END => refused(refusals::END_IN_BRACKETS, 0),
@@ -330,15 +337,15 @@ pub fn leads() -> [u8; BYTES]
 }
 
 // What the bytes that are left begin with.
-pub fn munch(s: &[u8], mode: Mode) -> Step
-    ensures { λ r. ⌜ r ≡ munched mode (now (s .entry)) ⌝ }
+pub fn munch(s: &[u8], reading: Reading, mode: Mode) -> Step
+    ensures { λ r. ⌜ r ≡ munched reading mode (now (s .entry)) ⌝ }
 {
     let leads = leads();
     let words = token::words();
     let inside = mode.inside;
     match inside {
-        Inside::Nothing => outside_step(&leads, &words, s, mode.depth),
+        Inside::Nothing => outside_step(&leads, &words, s, reading, mode.depth),
         Inside::Braces => brace_step(&leads, s, mode.depth),
-        Inside::Brackets { seen, fresh } => bracket_step(s, mode.depth, seen, fresh),
+        Inside::Brackets { seen, fresh } => bracket_step(s, reading, mode.depth, seen, fresh),
     }
 }

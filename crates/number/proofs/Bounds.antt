@@ -6,6 +6,8 @@ use mathlib.Core.List.{List}
 use mathlib.Core.Path.{subst}
 use lib.Ieee.{unlike}
 use Rattle.proving.proofs.Choice.{either}
+use Rattle.scan.specs.Separated.{withoutSeparators}
+use Rattle.utf8.specs.declared.Reading.{Reading}
 use Rattle.utf8.specs.declared.Admission.{Admission}
 use Rattle.utf8.specs.declared.Admission.the-variants as admission
 use Rattle.utf8.specs.Answers.{admitted}
@@ -21,7 +23,7 @@ use Rattle.number.specs.declared.Integer.the-variants.{Whole, NotInteger
 use Rattle.number.specs.Signed.{isI64}
 use Rattle.number.specs.Integer.{integerOf}
 use Rattle.number.specs.White.{plainText}
-use Rattle.number.specs.Number.{leadsZero, isMarked, integerBy, notationOf, followsMark, markedRead, parsedDecimal, numberOf, parsingBy, parsingOf}
+use Rattle.number.specs.Number.{leadsZero, isMarked, integerBy, notationOf, followsMark, markedRead, parsedDecimal, numberOf, isPlaced, numberIn, parsingBy, parsingOf}
 use Rattle.number.specs.laws.Refusals.{ParsingBound}
 use Rattle.number.specs.declared.Parsing.{Parsing}
 use Rattle.number.specs.declared.Parsing.the-variants.{Value, Refused}
@@ -50,13 +52,17 @@ number-bound : (t : List ℕ) → Bounded (numberOf t)
 unfolding numberOf
 number-bound t = either Bounded (isMarked t) (λ e. marked-bound t) (λ e. decimal-bound (decimalOf t))
 
-bound : (xs : List ℕ) → Bounded (parsingOf xs)
+reading-bound : (r : Reading) (t : List ℕ) → Bounded (numberIn r t)
+unfolding numberIn
+reading-bound r t = either Bounded (isPlaced r t) (λ e. number-bound (withoutSeparators t)) (λ e. omega arith)
+
+bound : (r : Reading) (xs : List ℕ) → Bounded (parsingOf r xs)
 unfolding parsingOf
-bound xs = go (admitted decimalLimit xs) (admitted-bound decimalLimit xs)
+bound r xs = go (admitted decimalLimit xs) (admitted-bound decimalLimit xs)
   where
-    go : (a : Admission) → within.Bounded decimalLimit a → Bounded (parsingBy a (plainText xs))
-    go (admission.Admitted n) h = number-bound (plainText xs)
-    go (admission.Refused r) h = omega (arith, h .number, h .byte, h .character)
+    go : (a : Admission) → within.Bounded decimalLimit a → Bounded (parsingBy r a (plainText xs))
+    go (admission.Admitted n) h = reading-bound r (plainText xs)
+    go (admission.Refused e) h = omega (arith, h .number, h .byte, h .character)
 
 pub parsing-bound : ParsingBound
-parsing-bound xs r e = let p = subst Bounded e (bound xs) in (p .number, p .byte, p .character)
+parsing-bound r xs e q = let p = subst Bounded q (bound r xs) in (p .number, p .byte, p .character)

@@ -30,7 +30,7 @@ module _ (c : ℕ) where
   ascii-kept h e = other-kept e ∙ ascii-bytes (lowered c) (lowered-below c 0x80 (omega arith) h)
 
   -- an ASCII character is lowered to one, and others are left as they are; so a character stays one, of as many bytes
-  lowered-ways : ((c < 0x80) × (lowered c < 0x80)) ⊎ (lowered c ≡ c)
+  pub lowered-ways : ((c < 0x80) × (lowered c < 0x80)) ⊎ (lowered c ≡ c)
   lowered-ways = go (decLt c 0x80)
     where
       go : Dec (c < 0x80) → ((c < 0x80) × (lowered c < 0x80)) ⊎ (lowered c ≡ c)
@@ -44,7 +44,7 @@ module _ (c : ℕ) where
   lowered-size = ⊎-elim (λ l. rw (ascii-bytes c (l .0), ascii-bytes (lowered c) (l .1))) (λ e. rw e) lowered-ways
 
   -- the first character, and those behind it
-  kept-join : (cs : List ℕ) → textOf (keptOf (c ∷ cs)) ≡ keptBytes c ++ textOf (keptOf cs)
+  pub kept-join : (cs : List ℕ) → textOf (keptOf (c ∷ cs)) ≡ keptBytes c ++ textOf (keptOf cs)
   unfolding keptOf
   kept-join cs = go (isWhite c)
     where

@@ -1,6 +1,8 @@
 pub mod Kept
 pub mod Marks
 pub mod Given
+pub mod Without
+pub mod Readings
 pub mod Spelling
 pub mod Bounds
 pub mod Unique

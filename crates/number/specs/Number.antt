@@ -1,4 +1,4 @@
--- What a number's text is read as: document 01, "Numbers".
+-- What a number's text is read as: document 01, "Numbers", and document 02, L2.
 use Prim.Native.Nat.{ℕ, suc}
 use Prim.Native.Char.{code}
 use mathlib.Core.Bool.{Bool, cond, _&&_, _||_, not}
@@ -6,8 +6,11 @@ use mathlib.Core.List.{List}
 use lib.Dec.{eqb}
 use lib.Ieee.{unlike, binary64, ofInt}
 use lib.ListN.{length, drop}
-use Rattle.scan.specs.Byte.{peekAt}
+use Rattle.scan.specs.declared.byte.Class.the-variants.{Digit, HexDigit}
+use Rattle.scan.specs.Byte.{peekAt, isIn}
+use Rattle.scan.specs.Separated.{allPlaced, withoutSeparators}
 use Rattle.scan.specs.Text.{has}
+use Rattle.utf8.specs.declared.Reading.{Reading}
 use Rattle.utf8.specs.declared.Refusal.{Refusal}
 use Rattle.utf8.specs.declared.Admission.{Admission}
 use Rattle.utf8.specs.declared.Admission.the-variants as admission
@@ -19,6 +22,7 @@ use Rattle.decimal.specs.declared.Decimal.{Decimal}
 use Rattle.decimal.specs.declared.Decimal.the-variants.{NotDecimal, Named, Exact, Outside}
 use Rattle.scan.specs.Sign.{pastSign, isMinus}
 use Rattle.decimal.specs.Value.{outsideExact, decimalLimit, decimalOf}
+use Rattle.numeral.specs.Numeral.{betweenDigits, behindPrefix}
 use Rattle.number.specs.declared.Parsing.{Parsing}
 use Rattle.number.specs.declared.Parsing.the-variants.{Value, Refused}
 use Rattle.number.specs.White.{plainText}
@@ -93,15 +97,32 @@ parsedDecimal (Outside negative) = Refused outsideExact
 unfoldable pub numberOf : List ℕ → Parsing
 numberOf t = cond (isMarked t) (markedRead t) (parsedDecimal (decimalOf t))
 
--- "Order: 1, 2, the reading"
-abbrev pub parsingBy : Admission → List ℕ → Parsing
-parsingBy (admission.Admitted n) t = numberOf t
-parsingBy (admission.Refused r) t = Refused r
+-- L2: "one underscore may stand between two digits of the same part, or between a hex prefix and its first digit": whether each of a text does. They
+-- are judged with hex digits behind `0x`, which stands at the front, behind a sign or none; else with decimal digits in the whole text. Octal needs no
+-- test of its own, since a text with an 8 or a 9 is no octal
+abbrev pub isHexText : List ℕ → Bool
+isHexText t = leadsZero t && isHexMark t
 
-unfoldable pub parsingOf : List ℕ → Parsing
-parsingOf xs = parsingBy (admitted decimalLimit xs) (plainText xs)
+abbrev pub behindHex : List ℕ → List ℕ
+behindHex t = drop (suc (behindZero t)) t
+
+unfoldable pub isPlaced : Reading → List ℕ → Bool
+isPlaced r t =
+    cond (isHexText t) (allPlaced (isIn HexDigit) (behindPrefix r) (behindHex t)) (allPlaced (isIn Digit) (betweenDigits r) t)
+
+-- ".. and has no effect on the value. .. Refusals: .. 60 for both in number texts"
+unfoldable pub numberIn : Reading → List ℕ → Parsing
+numberIn r t = cond (isPlaced r t) (numberOf (withoutSeparators t)) (Refused notNumber)
+
+-- "Order: 1, 2, the reading"
+abbrev pub parsingBy : Reading → Admission → List ℕ → Parsing
+parsingBy r (admission.Admitted n) t = numberIn r t
+parsingBy r (admission.Refused e) t = Refused e
+
+unfoldable pub parsingOf : Reading → List ℕ → Parsing
+parsingOf r xs = parsingBy r (admitted decimalLimit xs) (plainText xs)
 
 -- the refusal of an answer, and of one that has none the number 0, which is no refusal's
 abbrev pub notParsed : Parsing → Refusal
 notParsed (Value n) = noRefusal
-notParsed (Refused r) = r
+notParsed (Refused e) = e

@@ -1,12 +1,16 @@
 // Numbers: decimal, hexadecimal or octal, in a text of at most 256 bytes, white space aside and in any case of its letters.
+mod separators;
+
 use decimal::Decimal;
 use decimal::Notation;
 use decimal::Number;
 use scan::byte;
+use scan::separated;
 use scan::sign;
 use utf8::Admission;
 use utf8::ByteOffset;
 use utf8::Character;
+use utf8::Reading;
 use utf8::Refusal;
 use utf8::Writing;
 use utf8::encode;
@@ -29,7 +33,7 @@ ghost use Rattle.utf8.specs.Answers.{atStart};
 ghost use Rattle.number.specs.declared.Parsing.the-variants.{Refused};
 ghost use Rattle.number.specs.Signed.{signedOf, isI64};
 ghost use Rattle.number.specs.Integer.{isDigits, integerOf, toldOf};
-ghost use Rattle.number.specs.Number.{isZeroAt, hasDecimalMark, isZeroLed, isMarked, integerRead, markedRead, parsedDecimal, numberOf, parsingOf, notParsed};
+ghost use Rattle.number.specs.Number.{isZeroAt, hasDecimalMark, isZeroLed, isMarked, integerRead, markedRead, parsedDecimal, numberOf, numberIn, parsingOf, notParsed};
 ghost use Rattle.number.specs.steps.Refused.{numberRefusal};
 
 // Document 01's refusals of a number besides a decimal's: it is none, or is no signed 64-bit integer.
@@ -345,17 +349,31 @@ fn read_plain(t: &[u8]) -> Parsing
     decimal_number(t)
 }
 
-// Reads a number.
-pub fn parse_str_radix(s: &[u8]) -> Parsing
-    ensures { λ r. ⌜ r ≡ parsingOf (now (s .entry)) ⌝ }
+// The number that a text is in a reading, without white space and in lower case; where it has separators, they are dropped in place.
+fn read_kept(t: &mut [u8], reading: Reading) -> Parsing
+    ensures { λ r. ⌜ r ≡ numberIn reading (now (t .entry)) ⌝ }
 {
-    let a = utf8::admit(s, decimal::LIMIT);
+    if !scan::contains(t, separated::SEPARATOR) {
+        return read_plain(t);
+    }
+    if !separators::is_placed(t, reading) {
+        return refused(NOT_A_NUMBER);
+    }
+    let n = separators::drop_separators(t);
+    read_plain(&t[..n])
+}
+
+// Reads a number.
+pub fn parse_str_radix(text: &[u8], reading: Reading) -> Parsing
+    ensures { λ r. ⌜ r ≡ parsingOf reading (now (text .entry)) ⌝ }
+{
+    let a = utf8::admit(text, decimal::LIMIT);
     let Admission::Admitted(_) = a else {
         return Parsing::Refused(utf8::not_admitted(a));
     };
     let mut buf = [0u8; decimal::LIMIT];
-    let n = keep(s, &mut buf);
-    read_plain(&buf[..n])
+    let n = keep(text, &mut buf);
+    read_kept(&mut buf[..n], reading)
 }
 
 // Why a text is no number; where it is one, a refusal of no number.

@@ -1,5 +1,11 @@
 pub mod Turns
 pub mod Within
 pub mod Seam
+pub mod Texts
+pub mod Units
+pub mod Plain
+pub mod Given
+pub mod Places
+pub mod Readings
 pub mod Unique
 pub mod Wrong

@@ -2,23 +2,28 @@
 use Prim.Native.Nat.{ℕ, _+_, _≤_}
 use Prim.Native.Char.{code}
 use native.Mathlib.Omega.{arith}
-use mathlib.Core.Bool.{Bool, false, _||_}
+use mathlib.Core.Bool.{Bool, false, _&&_, _||_, not}
 use mathlib.Core.List.{List, [], _∷_, _++_}
 use mathlib.Core.Path.{_≡_, refl, ap, _∙_}
 use lib.Dec.{eqb}
-use lib.ListN.{length, drop}
-use lib.Seq.{drop-append-le}
+use lib.ListN.{length, take, drop}
+use lib.Seq.{take-append-le, drop-append-le}
 use Rattle.scan.specs.declared.byte.Class.{Class}
 use Rattle.scan.specs.declared.byte.Class.the-variants.{Digit, HexDigit}
 use Rattle.scan.specs.Byte.{end, peekAt, lowered, isWithin, isAlpha, isHexDigit, isIn}
-use Rattle.scan.specs.Run.{runEnd}
+use Rattle.scan.specs.declared.separated.Separators.{Separators}
+use Rattle.scan.specs.Separated.{separator, separatedEnd}
+use Rattle.scan.specs.Text.{has}
+use Rattle.scan.proofs.byte.Classes.{end-in-none}
+use Rattle.scan.proofs.separated.Runs.{separated-within, separated-append}
+use Rattle.utf8.specs.declared.Reading.{Reading}
 use Rattle.proving.proofs.Choice.{either-same}
 use Rattle.scan.proofs.Edges.{edge-within}
-use Rattle.scan.proofs.Runs.{run-within, run-append, peek-append}
+use Rattle.scan.proofs.Runs.{peek-append}
 use Rattle.scan.specs.Sign.{isSign, pastSign}
 use Rattle.numeral.specs.declared.Part.{Part}
 use Rattle.numeral.specs.declared.Part.the-variants.{Unit, UnitS, Digits}
-use Rattle.numeral.specs.Numeral.{isHex, fractionEnd, mantissaEnd, exponentEnd, numberEnd, isUnit, isFirstUnit, stopOf, turnOf, turned, partBehind, durationFrom, numeralOf}
+use Rattle.numeral.specs.Numeral.{betweenDigits, behindPrefix, isHex, fractionEnd, mantissaEnd, exponentEnd, numberEnd, isUnit, isFirstUnit, stopOf, turnOf, turned, partBehind, durationFrom, numeralOf}
 use Rattle.numeral.specs.laws.Numeral.{NumeralSeam}
 use Rattle.numeral.proofs.Within.{alpha-ascii, point-ascii, letter-ascii, past, sign-edge, hex-edge, digitsEnd, digits-edge, number-edge}
 
@@ -54,46 +59,47 @@ hex-line : NoLine HexDigit
 unfolding isIn isHexDigit isWithin
 hex-line = refl
 
-module _ (xs ys : List ℕ) where
-  abbrev lined : List ℕ
-  lined = xs ++ (code "\n" ∷ ys)
+abbrev lined : List ℕ → List ℕ → List ℕ
+lined xs ys = xs ++ (code "\n" ∷ ys)
 
-  peek-line : (p : ℕ → Bool) → AsEnd p → (at : ℕ) → at ≤ length xs → p (peekAt lined at) ≡ p (peekAt xs at)
-  peek-line p e at h = peek-append p (code "\n") e xs ys at h
-
-  run-line : (k : Class) → NoLine k → (at : ℕ) → at ≤ length xs → runEnd (isIn k) lined at ≡ runEnd (isIn k) xs at
-  run-line k f at h = run-append (isIn k) xs (code "\n") ys f at h
-
-  fraction-line : (k : Class) → NoLine k → (at : ℕ) → at ≤ length xs → fractionEnd k lined at ≡ fractionEnd k xs at
-  unfolding fractionEnd
-  fraction-line k f at h =
-      rw (peek-line (λ c. eqb c (code ".")) refl at h)
-      (either-same (eqb (peekAt xs at) (code ".")) (λ e. run-line k f (at + 1) (edge-within _ _ (past xs point-ascii at e))) (λ e. refl))
-
-  mantissa-line : (k : Class) → NoLine k → (from : ℕ) → from ≤ length xs → mantissaEnd k lined from ≡ mantissaEnd k xs from
-  mantissa-line k f from h = rw (run-line k f from h) (fraction-line k f (runEnd (isIn k) xs from) (omega (arith, run-within (isIn k) xs from)))
-
-  exponent-line : (at : ℕ) → at ≤ length xs → exponentEnd lined at ≡ exponentEnd xs at
-  unfolding exponentEnd
-  exponent-line at h =
-      rw (peek-line (λ c. eqb (lowered c) (code "e")) letter-line at h)
-      (either-same (eqb (lowered (peekAt xs at)) (code "e"))
-      (λ e. let g = past xs letter-ascii at e in
-      rw (peek-line isSign sign-line (at + 1) (edge-within _ _ g)) (run-line Digit digits-line (pastSign xs (at + 1)) (edge-within _ _ (sign-edge xs (at + 1) g))))
-      (λ e. refl))
+peek-line : (p : ℕ → Bool) → AsEnd p → (xs ys : List ℕ) (at : ℕ) → at ≤ length xs → p (peekAt (lined xs ys) at) ≡ p (peekAt xs at)
+peek-line p e xs ys at h = peek-append p (code "\n") e xs ys at h
 
 mark-line : (xs ys : List ℕ) → isHex (lined xs ys) ≡ isHex xs
 unfolding isHex
 mark-line [] ys = refl
-mark-line (x ∷ xs) ys = rw (peek-line (x ∷ xs) ys (λ c. eqb c (code "x") || eqb c (code "X")) refl 1 (omega arith))
+mark-line (x ∷ xs) ys = rw (peek-line (λ c. eqb c (code "x") || eqb c (code "X")) refl (x ∷ xs) ys 1 (omega arith))
 
-number-line : (xs ys : List ℕ) → numberEnd (lined xs ys) ≡ numberEnd xs
-unfolding numberEnd
-number-line xs ys =
-    rw (mark-line xs ys)
-    (ap (exponentEnd (lined xs ys))
-    (either-same (isHex xs) (λ e. mantissa-line xs ys HexDigit hex-line 2 (edge-within _ _ (hex-edge xs e))) (λ e. mantissa-line xs ys Digit digits-line 0 (omega arith)))
-    ∙ exponent-line xs ys (digitsEnd xs) (edge-within _ _ (digits-edge xs)))
+module _ (r : Reading) (xs ys : List ℕ) where
+  run-line : (k : Class) → NoLine k → (q : Separators) (at : ℕ) → at ≤ length xs → separatedEnd (isIn k) q (lined xs ys) at ≡ separatedEnd (isIn k) q xs at
+  run-line k f q at h = separated-append (isIn k) (end-in-none k) q xs (code "\n") ys f refl at h
+
+  fraction-line : (k : Class) → NoLine k → (at : ℕ) → at ≤ length xs → fractionEnd r k (lined xs ys) at ≡ fractionEnd r k xs at
+  unfolding fractionEnd
+  fraction-line k f at h =
+      rw (peek-line (λ c. eqb c (code ".")) refl xs ys at h)
+      (either-same (eqb (peekAt xs at) (code ".")) (λ e. run-line k f (betweenDigits r) (at + 1) (edge-within _ _ (past r xs point-ascii at e))) (λ e. refl))
+
+  mantissa-line : (k : Class) → NoLine k → (q : Separators) (from : ℕ) → from ≤ length xs → mantissaEnd r k q (lined xs ys) from ≡ mantissaEnd r k q xs from
+  mantissa-line k f q from h =
+      rw (run-line k f q from h) (fraction-line k f (separatedEnd (isIn k) q xs from) (omega (arith, separated-within (isIn k) q xs from)))
+
+  exponent-line : (at : ℕ) → at ≤ length xs → exponentEnd r (lined xs ys) at ≡ exponentEnd r xs at
+  unfolding exponentEnd
+  exponent-line at h =
+      rw (peek-line (λ c. eqb (lowered c) (code "e")) letter-line xs ys at h)
+      (either-same (eqb (lowered (peekAt xs at)) (code "e"))
+      (λ e. let g = past r xs letter-ascii at e in
+      rw (peek-line isSign sign-line xs ys (at + 1) (edge-within _ _ g)) (run-line Digit digits-line (betweenDigits r) (pastSign xs (at + 1)) (edge-within _ _ (sign-edge r xs (at + 1) g))))
+      (λ e. refl))
+
+  number-line : numberEnd r (lined xs ys) ≡ numberEnd r xs
+  unfolding numberEnd
+  number-line =
+      rw (mark-line xs ys)
+      (ap (exponentEnd r (lined xs ys))
+      (either-same (isHex xs) (λ e. mantissa-line HexDigit hex-line (behindPrefix r) 2 (edge-within _ _ (hex-edge r xs e))) (λ e. mantissa-line Digit digits-line (betweenDigits r) 0 (omega arith)))
+      ∙ exponent-line (digitsEnd r xs) (edge-within _ _ (digits-edge r xs)))
 
 -- to a duration, a newline is as the end
 line-ends : (p : Part) (n : ℕ) (ys : List ℕ) → durationFrom p n (code "\n" ∷ ys) ≡ durationFrom p n []
@@ -109,14 +115,14 @@ duration-line p n (x ∷ xs) ys = ap (turned (turnOf p x) n) (duration-line (par
 
 pub numeral-seam : NumeralSeam
 unfolding numeralOf
-numeral-seam xs ys =
-    let n = numberEnd xs in
+numeral-seam r xs ys =
+    let n = numberEnd r xs in
     let c = peekAt xs n in
-    let h = edge-within _ _ (number-edge xs) in
-    rw (number-line xs ys, peek-line xs ys (λ c. eqb c (code ".")) refl n h, peek-line xs ys isAlpha alpha-line n h, peek-line xs ys isFirstUnit unit-line n h)
+    let h = edge-within _ _ (number-edge r xs) in
+    rw (number-line r xs ys, peek-line (λ c. eqb c (code ".")) refl xs ys n h, peek-line isAlpha alpha-line xs ys n h, peek-line isFirstUnit unit-line xs ys n h, take-append-le n xs (code "\n" ∷ ys) h)
     (either-same (eqb c (code ".")) (λ e. refl)
     (λ e. either-same (isAlpha c)
-    (λ a. either-same (isFirstUnit c)
-    (λ u. rw (drop-append-le (n + 1) xs (code "\n" ∷ ys) (edge-within _ _ (past xs alpha-ascii n a))) (duration-line Unit (n + 1) (drop (n + 1) xs) ys))
+    (λ a. either-same (isFirstUnit c && not (has separator (take n xs)))
+    (λ u. rw (drop-append-le (n + 1) xs (code "\n" ∷ ys) (edge-within _ _ (past r xs alpha-ascii n a))) (duration-line Unit (n + 1) (drop (n + 1) xs) ys))
     (λ u. refl))
     (λ a. refl)))

@@ -21,13 +21,13 @@ use Rattle.numeral.specs.declared.Turn.the-variants.{On, Ends, Fails}
 use Rattle.numeral.specs.declared.Numeral.{Numeral}
 use Rattle.numeral.specs.Numeral.{isUnit, stopOf, turnOf, turned, partBehind, durationFrom}
 
-unit-ascii : AsciiAlone isUnit
+pub unit-ascii : AsciiAlone isUnit
 unfolding isUnit
 unit-ascii =
     or-ascii _ _ (one-ascii (code "s") (omega arith)) (or-ascii _ _ (one-ascii (code "m") (omega arith)) (or-ascii _ _ (one-ascii (code "h") (omega arith)) (or-ascii _ _ (one-ascii (code "d") (omega arith)) (one-ascii (code "w") (omega arith)))))
 
 -- what ends a duration or fails does not go on with it
-not-on : {A : Type 0} (b : Bool) (q : Part) → cond b Fails Ends ≡ On q → A
+pub not-on : {A : Type 0} (b : Bool) (q : Part) → cond b Fails Ends ≡ On q → A
 not-on true q e = let z : _≡_ {A = ℕ} 0 1 = cc in let f : ⊥ = omega arith in absurd f
 not-on false q e = let z : _≡_ {A = ℕ} 0 1 = cc in let f : ⊥ = omega arith in absurd f
 
@@ -54,7 +54,7 @@ end-turned Unit n rest = refl
 end-turned UnitS n rest = refl
 end-turned Digits n rest = refl
 
-turned-at : (p : Part) (n : ℕ) (xs : List ℕ) (i : ℕ)
+pub turned-at : (p : Part) (n : ℕ) (xs : List ℕ) (i : ℕ)
     → durationFrom p n (drop i xs) ≡ turned (turnOf p (peekAt xs i)) n (durationFrom (partBehind (turnOf p (peekAt xs i))) (n + 1) (drop (suc i) xs))
 turned-at p n [] zero = end-turned p n _
 turned-at p n [] (suc i) = end-turned p n _

@@ -1,2 +1,3 @@
 pub mod Numeral
+pub mod Texts
 pub mod laws

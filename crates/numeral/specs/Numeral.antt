@@ -1,15 +1,20 @@
 -- The number or duration at the front of bytes that begin with a digit, or with a point and a digit. Document 01, "Lexing rules", its rule
--- "Number"; "digits" there means none or more, but for those in a duration's repeats, which are one or more.
+-- "Number", and document 02, L2; "digits" there means none or more, but for those in a duration's repeats, which are one or more.
 use Prim.Native.Nat.{ℕ, _+_}
 use Prim.Native.Char.{code}
-use mathlib.Core.Bool.{Bool, cond, _&&_, _||_}
+use mathlib.Core.Bool.{Bool, cond, _&&_, _||_, not}
 use mathlib.Core.List.{List, [], _∷_}
 use lib.Dec.{eqb}
-use lib.ListN.{drop}
+use lib.ListN.{take, drop}
 use Rattle.scan.specs.declared.byte.Class.{Class}
 use Rattle.scan.specs.declared.byte.Class.the-variants.{Digit, HexDigit}
 use Rattle.scan.specs.Byte.{end, peekAt, lowered, isAlpha, isDigit, isIn}
-use Rattle.scan.specs.Run.{runEnd}
+use Rattle.scan.specs.declared.separated.Separators.{Separators}
+use Rattle.scan.specs.declared.separated.Separators.the-variants.{Never, Between, Before}
+use Rattle.scan.specs.Separated.{separator, separatedEnd}
+use Rattle.scan.specs.Text.{has}
+use Rattle.utf8.specs.declared.Reading.{Reading}
+use Rattle.utf8.specs.declared.Reading.the-variants.{Crate, Documented}
 use Rattle.scan.specs.Sign.{pastSign}
 use Rattle.numeral.specs.declared.Part.{Part}
 use Rattle.numeral.specs.declared.Part.the-variants.{Unit, UnitS, Digits}
@@ -18,24 +23,36 @@ use Rattle.numeral.specs.declared.Turn.the-variants.{On, Ends, Fails}
 use Rattle.numeral.specs.declared.Numeral.{Numeral}
 use Rattle.numeral.specs.declared.Numeral.the-variants.{Number, Duration, Neither}
 
+-- L2: "The crate reading still refuses all this"; "one underscore may stand between two digits of the same part, ..
+abbrev pub betweenDigits : Reading → Separators
+betweenDigits Crate = Never
+betweenDigits Documented = Between
+
+-- .. or between a hex prefix and its first digit"
+abbrev pub behindPrefix : Reading → Separators
+behindPrefix Crate = Never
+behindPrefix Documented = Before
+
 -- "optional `0x` or `0X` ..", also with no digit behind it
 unfoldable pub isHex : List ℕ → Bool
 isHex xs = eqb (peekAt xs 0) (code "0") && (eqb (peekAt xs 1) (code "x") || eqb (peekAt xs 1) (code "X"))
 
 -- ".. (then hex digits, else decimal), digits, optional `.` and digits, .."
-unfoldable pub fractionEnd : Class → List ℕ → ℕ → ℕ
-fractionEnd k xs at = cond (eqb (peekAt xs at) (code ".")) (runEnd (isIn k) xs (at + 1)) at
+unfoldable pub fractionEnd : Reading → Class → List ℕ → ℕ → ℕ
+fractionEnd r k xs at = cond (eqb (peekAt xs at) (code ".")) (separatedEnd (isIn k) (betweenDigits r) xs (at + 1)) at
 
-abbrev pub mantissaEnd : Class → List ℕ → ℕ → ℕ
-mantissaEnd k xs from = fractionEnd k xs (runEnd (isIn k) xs from)
+abbrev pub mantissaEnd : Reading → Class → Separators → List ℕ → ℕ → ℕ
+mantissaEnd r k q xs from = fractionEnd r k xs (separatedEnd (isIn k) q xs from)
 
 -- ".. optional e or E with optional sign and decimal digits."
-unfoldable pub exponentEnd : List ℕ → ℕ → ℕ
-exponentEnd xs at = cond (eqb (lowered (peekAt xs at)) (code "e")) (runEnd (isIn Digit) xs (pastSign xs (at + 1))) at
+unfoldable pub exponentEnd : Reading → List ℕ → ℕ → ℕ
+exponentEnd r xs at =
+    cond (eqb (lowered (peekAt xs at)) (code "e")) (separatedEnd (isIn Digit) (betweenDigits r) xs (pastSign xs (at + 1))) at
 
 -- of a hex number no e is left to begin an exponent, since it is a hex digit: `0x1e+5` is three lexemes
-unfoldable pub numberEnd : List ℕ → ℕ
-numberEnd xs = exponentEnd xs (cond (isHex xs) (mantissaEnd HexDigit xs 2) (mantissaEnd Digit xs 0))
+unfoldable pub numberEnd : Reading → List ℕ → ℕ
+numberEnd r xs =
+    exponentEnd r xs (cond (isHex xs) (mantissaEnd r HexDigit (behindPrefix r) xs 2) (mantissaEnd r Digit (betweenDigits r) xs 0))
 
 -- "one of `smhdw`"
 unfoldable pub isUnit : ℕ → Bool
@@ -79,11 +96,12 @@ taken (Number n) = n
 taken (Duration n) = n
 taken (Neither n) = n
 
--- "It is a NUMBER if no letter or `.` follows. Else, from there, it is a DURATION if one of `smhdwy` follows, then .."
-unfoldable pub numeralOf : List ℕ → Numeral
-numeralOf xs =
-    let n = numberEnd xs in
+-- "It is a NUMBER if no letter or `.` follows. Else, from there, it is a DURATION if one of `smhdwy` follows, then .."; L2: "A number with a
+-- separator can't begin a duration", "20 at the first underscore not so placed, or at a unit after such a number"
+unfoldable pub numeralOf : Reading → List ℕ → Numeral
+numeralOf r xs =
+    let n = numberEnd r xs in
     let c = peekAt xs n in
     cond (eqb c (code ".")) (Neither n)
-    (cond (isAlpha c) (cond (isFirstUnit c) (durationFrom Unit (n + 1) (drop (n + 1) xs)) (Neither n))
+    (cond (isAlpha c) (cond (isFirstUnit c && not (has separator (take n xs))) (durationFrom Unit (n + 1) (drop (n + 1) xs)) (Neither n))
     (Number n))

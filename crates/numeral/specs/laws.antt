@@ -1,1 +1,2 @@
 pub mod Numeral
+pub mod Texts

@@ -2,10 +2,13 @@
 // `duration`.
 use scan::byte;
 use scan::byte::Class;
+use scan::separated;
+use scan::separated::Separators;
 use scan::sign;
+use utf8::Reading;
 ghost use mathlib.Core.Path.{_≡_};
 ghost use lib.ListN.{drop};
-ghost use Rattle.numeral.specs.Numeral.{isHex, fractionEnd, exponentEnd, mantissaEnd, numberEnd, isUnit, stopOf, turnOf, durationFrom, taken, numeralOf};
+ghost use Rattle.numeral.specs.Numeral.{betweenDigits, behindPrefix, isHex, fractionEnd, exponentEnd, mantissaEnd, numberEnd, isUnit, stopOf, turnOf, durationFrom, taken, numeralOf};
 
 // What bytes begin with: a number or a duration of so many bytes, or neither, where so many were taken.
 pub enum Numeral {
@@ -39,6 +42,26 @@ pub enum Turn {
     Fails,
 }
 
+// Where separators stand in digits, as a reading has it.
+pub fn between_digits(reading: Reading) -> Separators
+    ensures { λ r. ⌜ r ≡ betweenDigits reading ⌝ }
+{
+    match reading {
+        Reading::Crate => Separators::Never,
+        Reading::Documented => Separators::Between,
+    }
+}
+
+// Where they stand in digits behind the mark of a hexadecimal number.
+pub fn behind_prefix(reading: Reading) -> Separators
+    ensures { λ r. ⌜ r ≡ behindPrefix reading ⌝ }
+{
+    match reading {
+        Reading::Crate => Separators::Never,
+        Reading::Documented => Separators::Before,
+    }
+}
+
 // Whether bytes begin with the mark of a hexadecimal number.
 fn is_hex(s: &[u8]) -> bool
     ensures { λ r. ⌜ r ≡ isHex (now (s .entry)) ⌝ }
@@ -48,42 +71,60 @@ fn is_hex(s: &[u8]) -> bool
 }
 
 // The place past a point and the digits behind it, where one stands.
-fn fraction_end(k: Class, s: &[u8], at: usize) -> usize
-    ensures { λ r. ⌜ r ≡ fractionEnd k (now (s .entry)) at ⌝ }
+fn fraction_end(s: &[u8], reading: Reading, k: Class, at: usize) -> usize
+    ensures { λ r. ⌜ r ≡ fractionEnd reading k (now (s .entry)) at ⌝ }
 {
     if byte::peek(s, at) == b'.' as usize {
-        scan::run_end(k, s, at + 1)
+        separated::separated_end(k, between_digits(reading), s, at + 1)
     } else {
         at
     }
 }
 
 // The place past an exponent, where one stands.
-fn exponent_end(s: &[u8], at: usize) -> usize
-    ensures { λ r. ⌜ r ≡ exponentEnd (now (s .entry)) at ⌝ }
+fn exponent_end(s: &[u8], reading: Reading, at: usize) -> usize
+    ensures { λ r. ⌜ r ≡ exponentEnd reading (now (s .entry)) at ⌝ }
 {
     if byte::lowered(byte::peek(s, at)) == b'e' as usize {
-        scan::run_end(Class::Digit, s, sign::past_sign(s, at + 1))
+        separated::separated_end(
+            Class::Digit,
+            between_digits(reading),
+            s,
+            sign::past_sign(s, at + 1),
+        )
     } else {
         at
     }
 }
 
-// The place past digits of a class, and past those behind a point.
-fn mantissa_end(k: Class, s: &[u8], from: usize) -> usize
-    ensures { λ r. ⌜ r ≡ mantissaEnd k (now (s .entry)) from ⌝ }
+// The place past digits of a class with such separators, and past those behind a point.
+fn mantissa_end(s: &[u8], reading: Reading, k: Class, separators: Separators, from: usize) -> usize
+    ensures { λ r. ⌜ r ≡ mantissaEnd reading k separators (now (s .entry)) from ⌝ }
 {
-    fraction_end(k, s, scan::run_end(k, s, from))
+    fraction_end(
+        s,
+        reading,
+        k,
+        separated::separated_end(k, separators, s, from),
+    )
 }
 
 // Where the number ends that bytes begin with.
-fn number_end(s: &[u8]) -> usize
-    ensures { λ r. ⌜ r ≡ numberEnd (now (s .entry)) ⌝ }
+fn number_end(s: &[u8], reading: Reading) -> usize
+    ensures { λ r. ⌜ r ≡ numberEnd reading (now (s .entry)) ⌝ }
 {
     if is_hex(s) {
-        return exponent_end(s, mantissa_end(Class::HexDigit, s, 2));
+        return exponent_end(
+            s,
+            reading,
+            mantissa_end(s, reading, Class::HexDigit, behind_prefix(reading), 2),
+        );
     }
-    exponent_end(s, mantissa_end(Class::Digit, s, 0))
+    exponent_end(
+        s,
+        reading,
+        mantissa_end(s, reading, Class::Digit, between_digits(reading), 0),
+    )
 }
 
 // A unit that any part of a duration may have.
@@ -154,10 +195,10 @@ fn duration(s: &[u8], from: usize) -> Numeral
 }
 
 // What bytes begin with that are begun by a digit, or by a point and a digit.
-pub fn scan_number(s: &[u8]) -> Numeral
-    ensures { λ r. ⌜ r ≡ numeralOf (now (s .entry)) ⌝ }
+pub fn scan_number(s: &[u8], reading: Reading) -> Numeral
+    ensures { λ r. ⌜ r ≡ numeralOf reading (now (s .entry)) ⌝ }
 {
-    let n = number_end(s);
+    let n = number_end(s, reading);
     let c = byte::peek(s, n);
     if c == b'.' as usize {
         return Numeral::Neither(n);
@@ -165,7 +206,7 @@ pub fn scan_number(s: &[u8]) -> Numeral
     if !byte::is_alpha(c) {
         return Numeral::Number(n);
     }
-    if c == b'y' as usize || is_unit(c) {
+    if (c == b'y' as usize || is_unit(c)) && !scan::contains(&s[..n], separated::SEPARATOR) {
         return duration(s, n + 1);
     }
     Numeral::Neither(n)

@@ -1,5 +1,6 @@
 // Texts of bytes: where a run of a class ends, whether two texts are one, and whether a byte stands in a text.
 pub mod byte;
+pub mod separated;
 pub mod sign;
 
 use crate::byte::Class;

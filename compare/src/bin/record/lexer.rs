@@ -1,6 +1,7 @@
 //! The records of lexing.
 
 use compare::oracle::lexer::Lexed;
+use compare::oracle::separators;
 use compare::oracle::token::words;
 use compare::oracle::{Answer, MOST_BYTES};
 use compare::texts::hex;
@@ -451,6 +452,48 @@ const LONGEST: [[&str; 3]; 3] = [
 /// The seed and the number of the generated queries.
 const GENERATED: (u64, usize) = (3629, 300);
 
+/// Separators, so placed and not, in numbers of each form, before units and in durations, alone and in queries.
+const SEPARATED: &[&str] = &[
+    "1_000",
+    "0x_1f",
+    "0x1_e",
+    "1_0e1_0",
+    ".5_0",
+    "1.5_0",
+    "1_0e",
+    "0x1.8_8",
+    "0_17",
+    "0X_f+1",
+    "1_0e+1_0",
+    "1__0",
+    "1_",
+    "1_.5",
+    "1._5",
+    "1e_5",
+    "1e+_5",
+    "0x_",
+    "0x__1",
+    "0_x1",
+    "0x1_g",
+    "1_000m",
+    "1_0em",
+    "1_0z",
+    "1_0y",
+    "5_m",
+    "1h3_0m",
+    "1m_",
+    "_1",
+    "1_\u{e9}",
+    "[1_0]",
+    "[1_0m]",
+    "[5m:1_0]",
+    "[1__0]",
+    "a[5m] > 1_000_000_000",
+    "rate(a_1[1m]) / 1_0 # 1__0",
+    "{a_1=\"1__0\"} == 0x_ff",
+    "1_0.",
+];
+
 /// The recorded lines.
 pub fn inputs() -> Vec<String> {
     let mut lines: Vec<String> = BY_HAND.iter().map(|line| line.to_string()).collect();
@@ -471,6 +514,13 @@ pub fn inputs() -> Vec<String> {
             .map(|text| line(&text)),
     );
     lines.extend(long());
+    lines.extend(SEPARATED.iter().map(|text| line(text.as_bytes())));
+    let documented = [SEPARATED, NUMBERS, &QUERIES].concat();
+    lines.extend(
+        documented
+            .iter()
+            .map(|text| format!("lexdoc {}", hex(text.as_bytes()))),
+    );
     lines
 }
 
@@ -499,9 +549,18 @@ fn long() -> Vec<String> {
     lines
 }
 
-/// The answer to `lex`: the kind, start and length of each lexeme.
+/// The answer to `lex`.
 pub fn lex(query: &[u8], room: u64) -> String {
-    let lexed = Lexed::new(query);
+    told(&Lexed::new(query), room)
+}
+
+/// The answer to `lexdoc`.
+pub fn lexdoc(query: &[u8], room: u64) -> String {
+    told(&separators::lexed(query), room)
+}
+
+/// The kind, start and length of each lexeme.
+fn told(lexed: &Lexed, room: u64) -> String {
     match lexed.answer(room) {
         Answer::Value(_) => {
             let lexemes = lexed.kinds.iter().zip(&lexed.starts).zip(&lexed.lengths);

@@ -25,10 +25,12 @@ fn answer(line: &str) -> String {
         "unquote" => Some(string::unquote(&input, room)),
         "unquotedoc" => Some(string::unquotedoc(&input, room)),
         "number" => Some(number::number(&input)),
+        "numberdoc" => Some(number::numberdoc(&input)),
         "duration" => Some(duration::duration(&input)),
         "durexact" => Some(duration::durexact(&input)),
         "durwrite" => duration::durwrite(&input, room),
         "lex" => Some(lexer::lex(&input, room)),
+        "lexdoc" => Some(lexer::lexdoc(&input, room)),
         _ => None,
     });
     answer.unwrap_or_else(|| "bad record".to_string())

@@ -1,7 +1,8 @@
 //! The records of the reading of numbers.
 
 use crate::filled;
-use compare::oracle::number::{self, Notation};
+use compare::oracle::number::{self, Notation, Number};
+use compare::oracle::{separators, Answer};
 use compare::texts::hex;
 use compare::texts::numbers::{NO_WHITE_SPACE, WHITE_SPACE};
 
@@ -168,6 +169,47 @@ const TEXTS: &[&[u8]] = &[
     b"0x\xed\xa0\x80",
 ];
 
+/// Separators, so placed and not, in texts of each notation, with white space, signs and names.
+const SEPARATED: &[&str] = &[
+    "1_0",
+    "1 _ 0",
+    "1_0e1_0",
+    "1.5_0",
+    ".5_0",
+    "-1_000.000_1",
+    "0x_5",
+    "-0x_5",
+    "0x-5_0",
+    "0X_1_f",
+    "0_17",
+    "0_8",
+    "-0_0",
+    "0-1_7",
+    "9_007_199_254_740_992",
+    "9_007_199_254_740_993",
+    "1_0e2_3",
+    "0x7fff_ffff_ffff_ffff",
+    "0x8000_0000_0000_0000",
+    "_1",
+    "1_",
+    "1__0",
+    "1_.5",
+    "1._5",
+    "1_e5",
+    "1e_5",
+    "1e+_5",
+    "0_x5",
+    "0x-_5",
+    "0x_-5",
+    "0x_",
+    "i_nf",
+    "na_n",
+    "_",
+    "1_\u{e9}",
+    "1\u{3000}_\u{3000}0",
+    "1_000m",
+];
+
 /// The recorded lines.
 pub fn inputs() -> Vec<String> {
     let mut lines: Vec<String> = BY_HAND.iter().map(|line| line.to_string()).collect();
@@ -175,6 +217,16 @@ pub fn inputs() -> Vec<String> {
     let spaces = WHITE_SPACE.iter().chain(&NO_WHITE_SPACE);
     lines.extend(spaces.map(|space| line(format!("-1{space}5").as_bytes())));
     lines.extend(long().map(|text| line(text.as_bytes())));
+    lines.extend(SEPARATED.iter().map(|text| line(text.as_bytes())));
+    let documented = TEXTS
+        .iter()
+        .copied()
+        .chain(SEPARATED.iter().map(|text| text.as_bytes()));
+    lines.extend(documented.map(|text| format!("numberdoc {}", hex(text))));
+    let digits = filled("1", "_1", "");
+    lines.extend(
+        [&digits, &format!("{digits}_1")].map(|text| format!("numberdoc {}", hex(text.as_bytes()))),
+    );
     lines
 }
 
@@ -199,9 +251,19 @@ fn long() -> [String; 9] {
     ]
 }
 
-/// The answer to `number`: the bits of a number and its notation.
+/// The answer to `number`.
 pub fn number(text: &[u8]) -> String {
-    match number::number(text) {
+    told(number::number(text))
+}
+
+/// The answer to `numberdoc`.
+pub fn numberdoc(text: &[u8]) -> String {
+    told(separators::number(text))
+}
+
+/// The bits of a number and its notation.
+fn told(number: Result<Number, Answer>) -> String {
+    match number {
         Ok(number) => format!("ok {:016x} {}", number.bits, word(number.notation)),
         Err(refused) => refused.to_string(),
     }

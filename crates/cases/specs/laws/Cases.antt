@@ -18,9 +18,9 @@ use Rattle.lex.specs.declared.Lexing.the-variants as lexing
 use Rattle.lex.specs.Lex.{entriesOf, measured, kindOf}
 
 pub data Case : Type 0 where
-  -- a query's lexemes are of these kinds
+  -- a query's lexemes are of these kinds, in the crate reading
   lexes : List ℕ → List ℕ → Case
-  -- a query is refused with a number at a byte
+  -- there a query is refused with a number at a byte
   refuses : List ℕ → ℕ → ℕ → Case
   -- in a reading a literal stands for a text
   literal : Reading → List ℕ → List ℕ → Case
@@ -63,8 +63,8 @@ abbrev pub cases : List Case
 cases = queries ++ texts
 
 abbrev pub Shown : Case → Type 0
-Shown (lexes q ks) = (measured q ≡ lexing.Count (length ks)) × (map kindOf (entriesOf q) ≡ ks)
-Shown (refuses q r p) = measured q ≡ lexing.Refused (refusedAt q r p)
+Shown (lexes q ks) = (measured Crate q ≡ lexing.Count (length ks)) × (map kindOf (entriesOf Crate q) ≡ ks)
+Shown (refuses q r p) = measured Crate q ≡ lexing.Refused (refusedAt q r p)
 Shown (literal r xs ys) = (isBadLiteral xs ≡ false) × (unquoted r xs ≡ ys)
 Shown (timed xs t) = timingOf xs ≡ t
 Shown (written d ys) = durationText d ≡ ys

@@ -14,7 +14,7 @@ use Rattle.exports.specs.laws.Codes.{looksRefused, isNoNumber, ParseTold
 use Rattle.exports.proofs.packing.Laws.{packed-told}
 
 pub parse-told : ParseTold
-parse-told xs = go (parsingOf xs)
+parse-told d xs = go (parsingOf d xs)
   where
     by : (n : Notation) → looksRefused (notationCode n) ≡ false
     by Decimal = refl
@@ -26,4 +26,4 @@ parse-told xs = go (parsingOf xs)
     go (Refused r) = packed-told r
 
 pub parse-kept : ParseKept
-parse-kept xs r e = let b = parsing-bound xs r e in omega (arith, b)
+parse-kept d xs r e = let b = parsing-bound d xs r e in omega (arith, b)

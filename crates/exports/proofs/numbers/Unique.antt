@@ -9,5 +9,5 @@ use Rattle.exports.proofs.numbers.simmerpath_parse_str_radix.Reads as p
 pub same-simmerpath-parse-str-radix : OneAnswer parse-str-radix.ps parse-str-radix.r parse-str-radix-reads.Post
 same-simmerpath-parse-str-radix κs a x y e f p q = p .0 ∙ sym (q .0)
 
-pub same-simmerpath-parse-str-radix-bits : OneContent parse-str-radix.ps parse-str-radix.r parse-str-radix-reads.Post (λ κs e. now (e .1 .0))
+pub same-simmerpath-parse-str-radix-bits : OneContent parse-str-radix.ps parse-str-radix.r parse-str-radix-reads.Post (λ κs e. now (e .1 .1 .0))
 same-simmerpath-parse-str-radix-bits κs a x y e f p q = p .1 ∙ sym (q .1)

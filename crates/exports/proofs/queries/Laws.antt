@@ -12,11 +12,11 @@ use Rattle.exports.specs.laws.Codes.{looksRefused, isNotLexed, LexerTold
 use Rattle.exports.proofs.packing.Laws.{small, packed-told}
 
 pub lexer-told : LexerTold
-lexer-told room q = go (lexed room q) (lexing-bounded room q)
+lexer-told r room q = go (lexed r room q) (lexing-bounded r room q)
   where
     go : (x : Lexing) → LexingWithin x → looksRefused (lexerCode x) ≡ isNotLexed x
     go (Count n) h = small n (omega arith)
-    go (Refused r) h = packed-told r
+    go (Refused refusal) h = packed-told refusal
 
 pub lexer-kept : LexerKept
-lexer-kept room q r e = let b = subst LexingWithin e (lexing-bounded room q) in omega (arith, b .0, b .1, b .2)
+lexer-kept r room q refusal e = let b = subst LexingWithin e (lexing-bounded r room q) in omega (arith, b .0, b .1, b .2)

@@ -28,7 +28,8 @@ use Rattle.string.specs.Tiles.{tilesPast, hasBad, pieceBytes, bytesOf}
 use Rattle.string.specs.Literal.{hasNewline, hasEscape, unquoted, faultOf, extentOf, unquotingOf, textBy}
 use Rattle.exports.specs.Packed.{packedAs}
 use Rattle.exports.specs.Written.{writtenCode}
-use Rattle.exports.specs.String.{readingOf, innerFrom, unquoteCode}
+use Rattle.exports.specs.Reading.{readingOf}
+use Rattle.exports.specs.String.{innerFrom, unquoteCode}
 use Rattle.exports.proofs.strings.simmerpath_escape_string.Kinds as simmerpath-escape-string
 use Rattle.exports.proofs.strings.simmerpath_escape_string.Reads as simmerpath-escape-string-reads
 use Rattle.exports.proofs.strings.simmerpath_unquote_string.Kinds as simmerpath-unquote-string

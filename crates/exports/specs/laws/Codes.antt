@@ -127,10 +127,10 @@ isNoNumber (parsing.Value n) = false
 isNoNumber (parsing.Refused r) = true
 
 abbrev pub ParseTold : Type 0
-ParseTold = (xs : List ℕ) → let p = parsingOf xs in looksRefused (parseCode p) ≡ isNoNumber p
+ParseTold = (d : Reading) (xs : List ℕ) → let p = parsingOf d xs in looksRefused (parseCode p) ≡ isNoNumber p
 
 abbrev pub ParseKept : Type 0
-ParseKept = (xs : List ℕ) (r : Refusal) → parsingOf xs ≡ parsing.Refused r → Packable r
+ParseKept = (d : Reading) (xs : List ℕ) (r : Refusal) → parsingOf d xs ≡ parsing.Refused r → Packable r
 
 -- of `simmerpath_parse_duration` and `simmerpath_parse_duration_exact`
 abbrev pub isNoDuration : Timing → Bool
@@ -158,7 +158,7 @@ isNotLexed (lexing.Count n) = false
 isNotLexed (lexing.Refused r) = true
 
 abbrev pub LexerTold : Type 0
-LexerTold = (room : ℕ) (q : List ℕ) → let x = lexed room q in looksRefused (lexerCode x) ≡ isNotLexed x
+LexerTold = (r : Reading) (room : ℕ) (q : List ℕ) → let x = lexed r room q in looksRefused (lexerCode x) ≡ isNotLexed x
 
 abbrev pub LexerKept : Type 0
-LexerKept = (room : ℕ) (q : List ℕ) (r : Refusal) → lexed room q ≡ lexing.Refused r → Packable r
+LexerKept = (r : Reading) (room : ℕ) (q : List ℕ) (refusal : Refusal) → lexed r room q ≡ lexing.Refused refusal → Packable refusal

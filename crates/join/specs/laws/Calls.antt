@@ -7,6 +7,7 @@ use borrow.Fn.Kinds.{Dens, resT, endedOf}
 use denote.Ref.{now}
 use denote.Triple.Clauses.{AtExit}
 use lib.ListN.{length, take}
+use Rattle.utf8.specs.declared.Reading.{Reading}
 use Rattle.utf8.specs.declared.Refusal.{Refusal}
 use Rattle.utf8.specs.Text.{charsOf}
 use Rattle.utf8.specs.Answers.{textLimit, noRoom}
@@ -16,53 +17,54 @@ use Rattle.lex.proofs.lexer.Kinds as lexer
 use Rattle.lex.proofs.lexer.Reads as lexer-reads
 use Rattle.join.specs.laws.Join.{joined, front, LastNoFill, movedRefusal}
 
--- a call of `lexer` that keeps its promise, on a query
-pub record LexCall (q : List ℕ) : Type 0 where
+-- a call of `lexer` that keeps its promise, on a query in a reading
+pub record LexCall (r : Reading) (q : List ℕ) : Type 0 where
   pub κs : Lfts 4
   pub args : Dens κs lexer.ps
   pub result : resT lexer.r κs .Denot
   pub exit : AtExit (endedOf 4 lexer.ps lexer.r) κs
   pub post : lexer-reads.Post κs args result exit
   pub of-query : now (args .0) ≡ q
+  pub in-reading : args .1 .0 ≡ r
 
 -- the room that it was lent, and what it left in the lists
-abbrev pub roomIn : {q : List ℕ} → LexCall q → ℕ
-roomIn c = shortest (length (now (c .args .1 .0))) (length (now (c .args .1 .1 .0))) (length (now (c .args .1 .1 .1 .0)))
+abbrev pub roomIn : {r : Reading} {q : List ℕ} → LexCall r q → ℕ
+roomIn c = shortest (length (now (c .args .1 .1 .0))) (length (now (c .args .1 .1 .1 .0))) (length (now (c .args .1 .1 .1 .1 .0)))
 
-abbrev pub kindsLeft : {q : List ℕ} → LexCall q → List ℕ
-kindsLeft c = now (c .exit .1 .0)
+abbrev pub kindsLeft : {r : Reading} {q : List ℕ} → LexCall r q → List ℕ
+kindsLeft c = now (c .exit .1 .1 .0)
 
-abbrev pub startsLeft : {q : List ℕ} → LexCall q → List ℕ
-startsLeft c = now (c .exit .1 .1 .0)
+abbrev pub startsLeft : {r : Reading} {q : List ℕ} → LexCall r q → List ℕ
+startsLeft c = now (c .exit .1 .1 .1 .0)
 
-abbrev pub lengthsLeft : {q : List ℕ} → LexCall q → List ℕ
-lengthsLeft c = now (c .exit .1 .1 .1 .0)
+abbrev pub lengthsLeft : {r : Reading} {q : List ℕ} → LexCall r q → List ℕ
+lengthsLeft c = now (c .exit .1 .1 .1 .1 .0)
 
 -- what it answered, and what it wrote where it was accepted
 abbrev pub CallAnswers : Type 0
-CallAnswers = (q : List ℕ) (c : LexCall q) → c .result ≡ lexed (roomIn c) q
+CallAnswers = (r : Reading) (q : List ℕ) (c : LexCall r q) → c .result ≡ lexed r (roomIn c) q
 
 abbrev pub CallWrites : Type 0
 CallWrites =
-    (q : List ℕ) (c : LexCall q) (n : ℕ) →
+    (r : Reading) (q : List ℕ) (c : LexCall r q) (n : ℕ) →
     c .result ≡ Count n →
-    (take n (kindsLeft c) ≡ map kindOf (entriesOf q))
-    × (take n (startsLeft c) ≡ map startsAt (entriesOf q))
-    × (take n (lengthsLeft c) ≡ map lengthOf (entriesOf q))
+    (take n (kindsLeft c) ≡ map kindOf (entriesOf r q))
+    × (take n (startsLeft c) ≡ map startsAt (entriesOf r q))
+    × (take n (lengthsLeft c) ≡ map lengthOf (entriesOf r q))
 
--- calls on A, on B and on their join, where A's was accepted and its last lexeme is no fill word, within the limit
-pub record JoinCalls (a b : List ℕ) (n : ℕ) : Type 0 where
-  pub first : LexCall a
-  pub second : LexCall b
-  pub both : LexCall (joined a b)
+-- calls on A, on B and on their join in one reading, where A's was accepted and its last lexeme is no fill word, within the limit
+pub record JoinCalls (r : Reading) (a b : List ℕ) (n : ℕ) : Type 0 where
+  pub first : LexCall r a
+  pub second : LexCall r b
+  pub both : LexCall r (joined a b)
   pub accepted : first .result ≡ Count n
-  pub plain : LastNoFill a (front a)
+  pub plain : LastNoFill a (front r a)
   pub limit : length (joined a b) ≤ textLimit
 
 -- B is accepted, and there is room: what the join's call wrote is A's lexemes without its end mark, and B's moved along
 abbrev pub CallsJoin : Type 0
 CallsJoin =
-    (a b : List ℕ) (n : ℕ) (j : JoinCalls a b n) (k : ℕ) →
+    (r : Reading) (a b : List ℕ) (n : ℕ) (j : JoinCalls r a b n) (k : ℕ) →
     j .second .result ≡ Count k →
     pred n + k ≤ roomIn (j .both) →
     (j .both .result ≡ Count (pred n + k))
@@ -73,7 +75,7 @@ CallsJoin =
 -- B is refused, but not for want of room: so is the join, at the place moved along
 abbrev pub CallsRefused : Type 0
 CallsRefused =
-    (a b : List ℕ) (n : ℕ) (j : JoinCalls a b n) (r : Refusal) →
-    j .second .result ≡ Refused r →
-    (r .number ≡ noRoom .number → ⊥) →
-    j .both .result ≡ Refused (movedRefusal (suc (length a)) (suc (length (charsOf a))) r)
+    (r : Reading) (a b : List ℕ) (n : ℕ) (j : JoinCalls r a b n) (refusal : Refusal) →
+    j .second .result ≡ Refused refusal →
+    (refusal .number ≡ noRoom .number → ⊥) →
+    j .both .result ≡ Refused (movedRefusal (suc (length a)) (suc (length (charsOf a))) refusal)

@@ -1,11 +1,13 @@
 -- Demand 3: "Joining two queries by a newline joins their lexemes". A is accepted, and its last lexeme is no fill word, which would look past the
--- newline; of B nothing is asked. `proofs/Join` has the proofs.
+-- newline; of B nothing is asked. Document 02, L2: it "holds where A, B and the join use one reading"; each statement is for any one.
+-- `proofs/Join` has the proofs.
 use Prim.Native.Nat.{ℕ, suc, pred, _+_, _≤_}
 use Prim.Native.Char.{code}
 use mathlib.Core.Bool.{Bool, false}
 use mathlib.Core.List.{List, [], _∷_, _++_, map}
 use mathlib.Core.Path.{_≡_}
 use lib.ListN.{length, take, drop}
+use Rattle.utf8.specs.declared.Reading.{Reading}
 use Rattle.utf8.specs.declared.Refusal.{Refusal}
 use Rattle.utf8.specs.Text.{charsOf}
 use Rattle.utf8.specs.Answers.{textLimit, place}
@@ -23,8 +25,8 @@ abbrev pub joined : List ℕ → List ℕ → List ℕ
 joined a b = a ++ code "\n" ∷ b
 
 -- the lexemes of a query without its end mark
-abbrev pub front : List ℕ → List Entry
-front q = take (pred (length (entriesOf q))) (entriesOf q)
+abbrev pub front : Reading → List ℕ → List Entry
+front r q = take (pred (length (entriesOf r q))) (entriesOf r q)
 
 -- a lexeme is the word fill, fill_left or fill_right in any case
 abbrev pub isFillKind : Keyword → Bool
@@ -41,9 +43,9 @@ LastNoFill q (e ∷ []) = isFillWord q e ≡ false
 LastNoFill q (e ∷ f ∷ es) = LastNoFill q (f ∷ es)
 
 -- "A accepted whose last lexeme before its end mark is not .."
-pub record Joins (a : List ℕ) (n : ℕ) : Type 0 where
-  pub accepted : measured a ≡ Count n
-  pub plain : LastNoFill a (front a)
+pub record Joins (r : Reading) (a : List ℕ) (n : ℕ) : Type 0 where
+  pub accepted : measured r a ≡ Count n
+  pub plain : LastNoFill a (front r a)
 
 -- moved along by so many bytes, and so many characters
 abbrev pub movedEntry : ℕ → Entry → Entry
@@ -60,14 +62,14 @@ movedBehind a n (Refused r) = Refused (movedRefusal (suc (length a)) (suc (lengt
 -- the answer, within the limit
 abbrev pub JoinAnswer : Type 0
 JoinAnswer =
-    (a b : List ℕ) (n : ℕ) → Joins a n → length (joined a b) ≤ textLimit → measured (joined a b) ≡ movedBehind a n (measured b)
+    (r : Reading) (a b : List ℕ) (n : ℕ) → Joins r a n → length (joined a b) ≤ textLimit → measured r (joined a b) ≡ movedBehind a n (measured r b)
 
 -- the lexemes; of a B that is refused none are said
 abbrev pub JoinEntries : Type 0
 JoinEntries =
-    (a b : List ℕ) (n : ℕ) → Joins a n → entriesOf (joined a b) ≡ front a ++ map (movedEntry (suc (length a))) (entriesOf b)
+    (r : Reading) (a b : List ℕ) (n : ℕ) → Joins r a n → entriesOf r (joined a b) ≡ front r a ++ map (movedEntry (suc (length a))) (entriesOf r b)
 
 -- and in so much room
 abbrev pub JoinRoomed : Type 0
 JoinRoomed =
-    (a b : List ℕ) (n room : ℕ) → Joins a n → length (joined a b) ≤ textLimit → lexed room (joined a b) ≡ roomed room (movedBehind a n (measured b))
+    (r : Reading) (a b : List ℕ) (n room : ℕ) → Joins r a n → length (joined a b) ≤ textLimit → lexed r room (joined a b) ≡ roomed room (movedBehind a n (measured r b))

@@ -13,6 +13,7 @@ use denote.Ref.{now}
 use borrow.Author.Needs.{needs}
 use Rattle.proving.proofs.Lists.{rest-of}
 use Rattle.munch.proofs.Inside as inside
+use Rattle.utf8.specs.declared.Reading.{Reading}
 use Rattle.munch.specs.declared.Inside.{Inside}
 use Rattle.munch.specs.declared.Inside.the-variants.{Nothing, Braces, Brackets}
 use Rattle.munch.specs.declared.Mode.{Mode}
@@ -28,11 +29,11 @@ use Rattle.lex.proofs.brackets.Statement.{statement}
 use Rattle.lex.proofs.brackets.Tie as tie
 
 abbrev Inv-loop : tie.InvT-loop
-Inv-loop query kinds₀ starts₀ lengths₀ depth from first at₀ i₀ seen₀ fresh₀ kinds starts lengths at i seen fresh =
-    (from ≤ at) × (i ≤ at) × Stands (state kinds₀ starts₀ lengths₀ first (outcomeAt query from (mode depth (Brackets false true)))) query kinds starts lengths i at (mode depth (Brackets seen fresh))
+Inv-loop query reading kinds₀ starts₀ lengths₀ depth from first at₀ i₀ seen₀ fresh₀ kinds starts lengths at i seen fresh =
+    (from ≤ at) × (i ≤ at) × Stands reading (state kinds₀ starts₀ lengths₀ first (outcomeAt reading query from (mode depth (Brackets false true)))) query kinds starts lengths i at (mode depth (Brackets seen fresh))
 
 abbrev μ-loop : tie.MeasureT-loop
-μ-loop query kinds₀ starts₀ lengths₀ depth from first at₀ i₀ seen₀ fresh₀ kinds starts lengths at i seen fresh = length query - at
+μ-loop query reading kinds₀ starts₀ lengths₀ depth from first at₀ i₀ seen₀ fresh₀ kinds starts lengths at i seen fresh = length query - at
 
 -- once a step is known: where the loop stood
 abbrev Place : Type 0
@@ -44,6 +45,9 @@ start c = c .before .before .before .before .before .before .before
 abbrev bytes : Place → List ℕ
 bytes c = now (start c .args .query)
 
+abbrev reading : Place → Reading
+reading c = start c .args .reading
+
 abbrev at : Place → ℕ
 at c = c .before .before .loop .at
 
@@ -54,17 +58,17 @@ abbrev here : Place → Mode
 here c = mode (start c .args .depth) (opened c)
 
 module _ (c : Place) {s : Step} (e : c .bracket-step .result ≡ s) where
-  told : munched (here c) (drop (at c) (bytes c)) ≡ s
+  told : munched (reading c) (here c) (drop (at c) (bytes c)) ≡ s
   told = rw rest-of at (sym (c .bracket-step .ensures) ∙ e)
 
   leads-to : LeadsTo (start c .args .depth) (opened c) s
-  leads-to = rw told at (step-leads (start c .args .depth) (opened c) (drop (at c) (bytes c)))
+  leads-to = rw told at (step-leads (reading c) (start c .args .depth) (opened c) (drop (at c) (bytes c)))
 
 module _ (c : Place) where
   abbrev begun : State
-  begun = let a = start c .args in state (now (a .kinds)) (now (a .starts)) (now (a .lengths)) (start c .args .first) (outcomeAt (bytes c) (start c .args .from) (mode (start c .args .depth) (Brackets false true)))
+  begun = let a = start c .args in state (now (a .kinds)) (now (a .starts)) (now (a .lengths)) (start c .args .first) (outcomeAt (reading c) (bytes c) (start c .args .from) (mode (start c .args .depth) (Brackets false true)))
 
-  stand : let l = c .before .before .loop in Stands begun (bytes c) (l .kinds) (l .starts) (l .lengths) (l .i) (at c) (here c)
+  stand : let l = c .before .before .loop in Stands (reading c) begun (bytes c) (l .kinds) (l .starts) (l .lengths) (l .i) (at c) (here c)
   stand = c .before .before .loop .inv .2
 
   alike : let l = c .before .before .loop in Alike (l .kinds) (l .starts) (l .lengths)
@@ -85,7 +89,7 @@ closed d m (inl e) t = e
 closed d m (inr (now, e)) t = let k = ap (λ (n : Mode). tagOf inside.the-type (n .inside)) e in absurd (⊎-elim (λ z. omega arith) (λ z. omega arith) t)
 
 loop-holds : tie.Need-loop-holds Inv-loop μ-loop
-loop-holds c = (omega arith, omega arith, stands-start _ _ _ (omega arith))
+loop-holds c = (omega arith, omega arith, stands-start _ _ _ _ (omega arith))
 
 sub-bracket-step : tie.Need-sub-bracket-step Inv-loop μ-loop
 sub-bracket-step c = search needs
@@ -135,7 +139,7 @@ behind : (c : tie.After-slice-known6 Inv-loop μ-loop) →
     let p = t .before .before in
     let l = p .before .before .loop in
     let w = c .before .before .before .before .before .before .put .last in
-    Stands (begun p) (bytes p) (w .0) (w .1 .0) (w .1 .1 .0) (l .i + 1) (at p + t .s .given .0 .1 .0) (t .s .given .0 .1 .1 .0)
+    Stands (reading p) (begun p) (bytes p) (w .0) (w .1 .0) (w .1 .1 .0) (l .i + 1) (at p + t .s .given .0 .1 .0) (t .s .given .0 .1 .1 .0)
 behind c =
     let t = seen c in
     let p = t .before .before in

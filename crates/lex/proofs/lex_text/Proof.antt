@@ -7,6 +7,7 @@ use mathlib.Core.Path.{_≡_, refl, sym, ap, _∙_}
 use lib.ListN.{length}
 use denote.Ref.{now}
 use borrow.Author.Needs.{needs}
+use Rattle.utf8.specs.declared.Reading.{Reading}
 use Rattle.lex.specs.declared.Run.the-variants.{To}
 use Rattle.lex.specs.declared.Lexing.the-variants as lexing
 use Rattle.lex.specs.Lex.{entriesOf, kindOf, startsAt, lengthOf}
@@ -22,17 +23,20 @@ module _ (c : tie.After-shortest) where
   abbrev start : tie.Start
   start = c .before .before .before .before .before .before .before .before .before .before .before .before .before .before .before .before .before .before .before .before .before .before
 
+  abbrev reading : Reading
+  reading = start .args .reading
+
   abbrev bytes : List ℕ
   bytes = now (start .args .query)
 
   abbrev number : ℕ
   number = c .before .before .r .given .0 .1 .0
 
-  tallied : tallyOf bytes ≡ To (c .before .before .r .given .0 .0) number
+  tallied : tallyOf reading bytes ≡ To (c .before .before .r .given .0 .0) number
   tallied = sym (c .before .before .before .before .before .before .before .before .before .before .pass .ensures .0) ∙ c .before .before .r .given .1
 
-  all : number ≡ length (entriesOf bytes)
-  all = tally-counts bytes _ number tallied
+  all : number ≡ length (entriesOf reading bytes)
+  all = tally-counts reading bytes _ number tallied
 
 pass-requires : tie.Need-pass-requires
 pass-requires c κs = search needs
@@ -85,11 +89,11 @@ copy-requires c κs =
     let p = c .before .before .before .before .before .before .before .before in
     let a = start p .args in
     let o = c .before .before .before .before .before .before .before .before .before .before .before .before .before .before .before .before .before .before .pass in
-    let h : number p ≤ length (o .last .1 .1 .1 .0) = c .before .before .before .before .before .before .if2 .taken in
+    let h : number p ≤ length (o .last .1 .1 .1 .1 .0) = c .before .before .before .before .before .before .if2 .taken in
     let l = start p .pre .1 .1 in
-    let k : length (o .last .1 .1 .1 .0) ≡ length (now (a .ks)) = o .kept .1 .1 .1 .0 in
-    let m : length (o .last .1 .1 .1 .1 .0) ≡ length (now (a .ss)) = o .kept .1 .1 .1 .1 .0 in
-    let n : length (o .last .1 .1 .1 .1 .1 .0) ≡ length (now (a .ls)) = o .kept .1 .1 .1 .1 .1 .0 in
+    let k : length (o .last .1 .1 .1 .1 .0) ≡ length (now (a .ks)) = o .kept .1 .1 .1 .1 .0 in
+    let m : length (o .last .1 .1 .1 .1 .1 .0) ≡ length (now (a .ss)) = o .kept .1 .1 .1 .1 .1 .0 in
+    let n : length (o .last .1 .1 .1 .1 .1 .1 .0) ≡ length (now (a .ls)) = o .kept .1 .1 .1 .1 .1 .1 .0 in
     let w = p .shortest .ensures in
     ((h, omega arith, omega arith), (omega arith, omega arith, omega arith))
 
@@ -123,15 +127,15 @@ returns-3 c =
     let a = start p .args in
     let w = c .before .before .before .before .before .before .copy .ensures in
     let o = c .before .before .before .before .before .before .before .before .before .before .before .before .before .before .before .before .before .before .before .before .before .before .before .before .before .pass in
-    let h : number p ≤ length (o .last .1 .1 .1 .0) = c .before .before .before .before .before .before .before .before .before .before .before .before .before .if2 .taken in
+    let h : number p ≤ length (o .last .1 .1 .1 .1 .0) = c .before .before .before .before .before .before .before .before .before .before .before .before .before .if2 .taken in
     let l = start p .pre .1 .1 in
-    let m : length (o .last .1 .1 .1 .0) ≡ length (now (a .ks)) = o .kept .1 .1 .1 .0 in (
+    let m : length (o .last .1 .1 .1 .1 .0) ≡ length (now (a .ks)) = o .kept .1 .1 .1 .1 .0 in (
       sym (fits (ap (answerIn (bytes p)) (tallied p)) (omega (arith, p .shortest .ensures, c .before .before .before .before .before .before .before .before .before .before .before .before .before .before .if1 .left))),
       (
-        copied-all kindOf (bytes p) (now (a .kinds)) (number p) (all p) (now (a .ks)) (omega arith) (o .ensures .1 .0) (w .0),
+        copied-all (reading p) kindOf (bytes p) (now (a .kinds)) (number p) (all p) (now (a .ks)) (omega arith) (o .ensures .1 .0) (w .0),
         (
-          copied-all startsAt (bytes p) (now (a .starts)) (number p) (all p) (now (a .ss)) (omega arith) (o .ensures .1 .1 .0) (w .1 .0),
-          copied-all lengthOf (bytes p) (now (a .lengths)) (number p) (all p) (now (a .ls)) (omega arith) (o .ensures .1 .1 .1) (w .1 .1),
+          copied-all (reading p) startsAt (bytes p) (now (a .starts)) (number p) (all p) (now (a .ss)) (omega arith) (o .ensures .1 .1 .0) (w .1 .0),
+          copied-all (reading p) lengthOf (bytes p) (now (a .lengths)) (number p) (all p) (now (a .ls)) (omega arith) (o .ensures .1 .1 .1) (w .1 .1),
         ),
       ),
     )

@@ -66,7 +66,7 @@ returns-2 : tie.Need-returns-2
 unfolding lexed
 returns-2 c =
     let w = c .before .before .before .before .before .before .before .before .before .lex-text .ensures in
-    let m = tally-measured (now (c .before .before .before .before .before .before .before .before .before .before .before .before .before .before .before .before .before .before .before .before .before .before .before .before .before .before .before .before .args .query)) (sym (c .before .before .before .before .before .before .before .before .before .before .before .before .before .before .before .before .before .before .before .before .before .admit .ensures) ∙ c .before .before .before .before .before .before .before .before .before .before .before .before .before .before .before .before .before .before .before .enum-told .given .1) in
+    let m = tally-measured _ (now (c .before .before .before .before .before .before .before .before .before .before .before .before .before .before .before .before .before .before .before .before .before .before .before .before .before .before .before .before .args .query)) (sym (c .before .before .before .before .before .before .before .before .before .before .before .before .before .before .before .before .before .before .before .before .before .admit .ensures) ∙ c .before .before .before .before .before .before .before .before .before .before .before .before .before .before .before .before .before .before .before .enum-told .given .1) in
     (w .0 ∙ ap (roomed _) m, w .1)
 
 slice-aggregate-lex-text-5 : tie.Need-slice-aggregate-lex-text-5
@@ -99,7 +99,7 @@ returns-3 : tie.Need-returns-3
 unfolding lexed
 returns-3 c =
     let w = c .before .before .before .before .before .before .before .before .before .lex-text2 .ensures in
-    let m = tally-measured (now (c .before .before .before .before .before .before .before .before .before .before .before .before .before .before .before .before .before .before .before .before .before .before .before .before .before .before .before .before .args .query)) (sym (c .before .before .before .before .before .before .before .before .before .before .before .before .before .before .before .before .before .before .before .before .before .admit .ensures) ∙ c .before .before .before .before .before .before .before .before .before .before .before .before .before .before .before .before .before .before .before .enum-told .given .1) in
+    let m = tally-measured _ (now (c .before .before .before .before .before .before .before .before .before .before .before .before .before .before .before .before .before .before .before .before .before .before .before .before .before .before .before .before .args .query)) (sym (c .before .before .before .before .before .before .before .before .before .before .before .before .before .before .before .before .before .before .before .before .before .admit .ensures) ∙ c .before .before .before .before .before .before .before .before .before .before .before .before .before .before .before .before .before .before .before .enum-told .given .1) in
     (w .0 ∙ ap (roomed _) m, w .1)
 
 pub lexer-spec : {M : Type 1} → statement M

@@ -55,10 +55,10 @@ pass-requires c κs =
     ((c .before .before .before .before .before .before .leads .ensures, c .before .before .before .before .before .words .ensures), (omega (arith, taken .0), (refl, refl)))
 
 -- what the pass counts is the measure
-counts : (c : tie.After-pass) (r : Run) → c .pass .result ≡ r → let q = now (c .before .before .before .before .before .before .before .before .before .before .before .before .args .query) in answerIn q r ≡ measured q
+counts : (c : tie.After-pass) (r : Run) → c .pass .result ≡ r → let a = c .before .before .before .before .before .before .before .before .before .before .before .before .args in answerIn (now (a .query)) r ≡ measured (a .reading) (now (a .query))
 counts c r e =
     let q = now (c .before .before .before .before .before .before .before .before .before .before .before .before .args .query) in
-    ap (answerIn q) (sym e ∙ c .pass .ensures .0) ∙ tally-measured q (sym (c .before .before .before .before .before .before .before .before .before .before .admit .ensures) ∙ c .before .before .before .before .before .before .before .before .enum-told .given .1)
+    ap (answerIn q) (sym e ∙ c .pass .ensures .0) ∙ tally-measured _ q (sym (c .before .before .before .before .before .before .before .before .before .before .admit .ensures) ∙ c .before .before .before .before .before .before .before .before .enum-told .given .1)
 
 enum-known-r : tie.Need-enum-known-r
 enum-known-r c = search needs

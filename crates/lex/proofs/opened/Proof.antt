@@ -39,7 +39,7 @@ brackets-requires c κs = search needs
 returns : tie.Need-returns
 returns c =
     let g = c .before .before .before .before .before .before in
-    ((omega arith, omega arith, omega arith), same-mode _ _ (so (g .args .next) (c .enum-told .given .1)))
+    ((omega arith, omega arith, omega arith), same-mode _ _ _ (so (g .args .next) (c .enum-told .given .1)))
 
 same-length : tie.Need-same-length
 same-length c = search needs
@@ -54,7 +54,7 @@ returns-2 : tie.Need-returns-2
 returns-2 c =
     let w = c .before .before .before .before .before .before .braces .ensures in
     let e = so (c .before .before .before .before .before .before .before .before .before .before .before .before .before .before .before .before .args .next) (c .before .before .before .before .before .before .before .before .before .before .enum-told2 .given .1) in
-    (w .0, leads-on (same-mode _ _ e) (w .1))
+    (w .0, leads-on (same-mode _ _ _ e) (w .1 _))
 
 same-length-4 : tie.Need-same-length-4
 same-length-4 c = search needs
@@ -70,7 +70,7 @@ returns-3 c =
     let g = c .before .before .before .before .before .before .before .before .before .before .before .before .before .before .before .before in
     let w = c .before .before .before .before .before .before .brackets .ensures in
     let e = so (g .args .next) (anew _ (g .pre .1 .1 .1 .0) (c .before .before .before .before .before .before .before .before .before .before .enum-told3 .given .1)) in
-    (w .0, leads-on (same-mode _ _ e) (w .1))
+    (w .0, leads-on (same-mode _ _ _ e) (w .1))
 
 pub opened-spec : {M : Type 1} → statement M
 opened-spec =

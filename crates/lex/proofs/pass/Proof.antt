@@ -7,6 +7,7 @@ use lib.ListN.{length, take, drop}
 use denote.Ref.{now}
 use borrow.Author.Needs.{needs}
 use Rattle.proving.proofs.Lists.{rest-of}
+use Rattle.utf8.specs.declared.Reading.{Reading}
 use Rattle.munch.specs.declared.Inside.the-variants.{Nothing}
 use Rattle.munch.specs.declared.Mode.{Mode}
 use Rattle.munch.specs.declared.Step.{Step}
@@ -27,11 +28,11 @@ use Rattle.lex.proofs.pass.Statement.{statement}
 use Rattle.lex.proofs.pass.Tie as tie
 
 abbrev Inv-loop : tie.InvT-loop
-Inv-loop leads words query kinds₀ starts₀ lengths₀ at₀ i₀ depth₀ kinds starts lengths at i depth =
-    (i ≤ at) × Stands (state kinds₀ starts₀ lengths₀ 0 (outcomeOf query)) query kinds starts lengths i at (mode depth Nothing)
+Inv-loop leads words query reading kinds₀ starts₀ lengths₀ at₀ i₀ depth₀ kinds starts lengths at i depth =
+    (i ≤ at) × Stands reading (state kinds₀ starts₀ lengths₀ 0 (outcomeOf reading query)) query kinds starts lengths i at (mode depth Nothing)
 
 abbrev μ-loop : tie.MeasureT-loop
-μ-loop leads words query kinds₀ starts₀ lengths₀ at₀ i₀ depth₀ kinds starts lengths at i depth = length query - at
+μ-loop leads words query reading kinds₀ starts₀ lengths₀ at₀ i₀ depth₀ kinds starts lengths at i depth = length query - at
 
 -- once a step is known: where the loop stood
 abbrev Place : Type 0
@@ -43,6 +44,9 @@ start c = c .before .before .before .before .before .before .before .before
 abbrev bytes : Place → List ℕ
 bytes c = now (start c .args .query)
 
+abbrev reading : Place → Reading
+reading c = start c .args .reading
+
 abbrev at : Place → ℕ
 at c = c .before .before .loop .at
 
@@ -53,28 +57,28 @@ abbrev here : Place → Mode
 here c = mode (depth c) Nothing
 
 module _ (c : Place) {s : Step} (e : c .outside-step .result ≡ s) where
-  told : munched (here c) (drop (at c) (bytes c)) ≡ s
+  told : munched (reading c) (here c) (drop (at c) (bytes c)) ≡ s
   told =
-      sym (c .outside-step .ensures ∙ lent ∙ outside-by-tables (depth c) (drop (at c) (bytes c))) ∙ e
+      sym (c .outside-step .ensures ∙ lent ∙ outside-by-tables (reading c) (depth c) (drop (at c) (bytes c))) ∙ e
     where
-      lent : outsideBy (now (start c .args .leads)) (now (start c .args .words)) (depth c) (take (length (bytes c) - at c) (drop (at c) (bytes c))) ≡ outsideBy leadTable wordTable (depth c) (drop (at c) (bytes c))
-      lent = ap (λ (t : List ℕ). outsideBy (now (start c .args .leads)) (now (start c .args .words)) (depth c) t) (rest-of (bytes c) (at c)) ∙ ap₂ (λ (l w : List ℕ). outsideBy l w (depth c) (drop (at c) (bytes c))) (start c .pre .0 .0) (start c .pre .0 .1)
+      lent : outsideBy (reading c) (now (start c .args .leads)) (now (start c .args .words)) (depth c) (take (length (bytes c) - at c) (drop (at c) (bytes c))) ≡ outsideBy (reading c) leadTable wordTable (depth c) (drop (at c) (bytes c))
+      lent = ap (λ (t : List ℕ). outsideBy (reading c) (now (start c .args .leads)) (now (start c .args .words)) (depth c) t) (rest-of (bytes c) (at c)) ∙ ap₂ (λ (l w : List ℕ). outsideBy (reading c) l w (depth c) (drop (at c) (bytes c))) (start c .pre .0 .0) (start c .pre .0 .1)
 
   leads-to : LeadsTo (depth c) Nothing s
-  leads-to = rw told at (step-leads (depth c) Nothing (drop (at c) (bytes c)))
+  leads-to = rw told at (step-leads (reading c) (depth c) Nothing (drop (at c) (bytes c)))
 
 module _ (c : Place) where
   abbrev begun : State
-  begun = let a = start c .args in state (now (a .kinds)) (now (a .starts)) (now (a .lengths)) 0 (outcomeOf (bytes c))
+  begun = let a = start c .args in state (now (a .kinds)) (now (a .starts)) (now (a .lengths)) 0 (outcomeOf (reading c) (bytes c))
 
-  stand : let l = c .before .before .loop in Stands begun (bytes c) (l .kinds) (l .starts) (l .lengths) (l .i) (at c) (here c)
+  stand : let l = c .before .before .loop in Stands (reading c) begun (bytes c) (l .kinds) (l .starts) (l .lengths) (l .i) (at c) (here c)
   stand = c .before .before .loop .inv .1
 
   alike : let l = c .before .before .loop in Alike (l .kinds) (l .starts) (l .lengths)
   alike = leads-alike (stand .leads) (start c .pre .1 .1)
 
 loop-holds : tie.Need-loop-holds Inv-loop μ-loop
-loop-holds c = (omega arith, stands-start _ _ _ (omega arith))
+loop-holds c = (omega arith, stands-start _ _ _ _ (omega arith))
 
 sub-outside-step : tie.Need-sub-outside-step Inv-loop μ-loop
 sub-outside-step c = search needs
@@ -115,7 +119,7 @@ behind : (c : tie.After-slice-known6 Inv-loop μ-loop) →
     let p = t .before .before in
     let l = p .before .before .loop in
     let w = c .before .before .before .before .before .before .put .last in
-    Stands (begun p) (bytes p) (w .0) (w .1 .0) (w .1 .1 .0) (l .i + 1) (at p + t .s .given .0 .1 .0) (t .s .given .0 .1 .1 .0)
+    Stands (reading p) (begun p) (bytes p) (w .0) (w .1 .0) (w .1 .1 .0) (l .i + 1) (at p + t .s .given .0 .1 .0) (t .s .given .0 .1 .1 .0)
 behind c =
     let t = seen c in
     let p = t .before .before in
@@ -148,15 +152,18 @@ module _ (c : tie.After-opened Inv-loop μ-loop) where
   abbrev lexed : tie.After-s Inv-loop μ-loop
   lexed = seen put
 
+  abbrev read : Reading
+  read = reading (lexed .before .before)
+
   abbrev query : List ℕ
   query = bytes (lexed .before .before)
 
   abbrev Passed : Run → Type 0
   Passed r =
       let a = start (lexed .before .before) .args in
-      let l = c .opened .last .1 .1 in
+      let l = c .opened .last .1 .1 .1 in
       Reached query (at (lexed .before .before) + lexed .s .given .0 .1 .0) r
-      × Leads (state (now (a .kinds)) (now (a .starts)) (now (a .lengths)) 0 (outcomeOf query)) (stateBehind query (l .0) (l .1 .0) (l .1 .1 .0) (lexed .s .given .0 .1 .1 .0 .depth) r)
+      × Leads (state (now (a .kinds)) (now (a .starts)) (now (a .lengths)) 0 (outcomeOf read query)) (stateBehind read query (l .0) (l .1 .0) (l .1 .1 .0) (lexed .s .given .0 .1 .1 .0 .depth) r)
 
   passed : {r : Run} → c .opened .result ≡ r → Passed r
   passed e = subst Passed e (c .opened .ensures .0, leads-on (behind put .leads) (c .opened .ensures .1))
@@ -177,7 +184,7 @@ returns : tie.Need-returns Inv-loop μ-loop
 returns c =
     let o = c .before .before .before .before .before .before .before .before in
     let e = c .enum-told .given .1 in
-    rw e (leads-refused (query o) (passed o e .1))
+    rw e (leads-refused (read o) (query o) (passed o e .1))
 
 loop-less : tie.Need-loop-less Inv-loop μ-loop
 loop-less c =
@@ -245,7 +252,7 @@ same-length-6 c = c .before .before .before .before .before .before .loop .inv .
 returns-2 : tie.Need-returns-2 Inv-loop μ-loop
 returns-2 c =
     let p = c .before .before .before .before in
-    rw (c .refused-by .ensures) (leads-refused (bytes p) (turn-refused (stand p) (told p (c .before .before .s3 .given .1))))
+    rw (c .refused-by .ensures) (leads-refused (reading p) (bytes p) (turn-refused (stand p) (told p (c .before .before .s3 .given .1))))
 
 enum-told-3 : tie.Need-enum-told-3 Inv-loop μ-loop
 enum-told-3 c = search needs
@@ -275,7 +282,7 @@ same-length-9 c = c .before .before .before .before .before .before .put2 .kept 
 returns-3 : tie.Need-returns-3 Inv-loop μ-loop
 returns-3 c =
     let p = c .before .before .before .before .before .before .before .before .before .before .before .before .before in
-    let w = leads-end (bytes p) (turn-finished (stand p) (told p (c .before .before .before .before .before .before .before .before .before .before .before .enum-told3 .given .1))) (rw (c .before .before .before .before .before .before .before .placed2 .ensures) at (c .before .before .before .before .before .before .put2 .ensures)) in
+    let w = leads-end (reading p) (bytes p) (turn-finished (stand p) (told p (c .before .before .before .before .before .before .before .before .before .before .before .enum-told3 .given .1))) (rw (c .before .before .before .before .before .before .before .placed2 .ensures) at (c .before .before .before .before .before .before .put2 .ensures)) in
     (ap (To (at p)) (omega arith) ∙ w .0, w .1)
 
 pub pass-spec : {M : Type 1} → statement M

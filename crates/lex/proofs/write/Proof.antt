@@ -50,10 +50,10 @@ returns c =
     let e = g .pre .1 .1 .0 in
     let r = g .pre .1 .1 .1 in
     let w = c .before .before .before .before .before .before .pass .ensures .1 in (
-      again-all kindOf (now (a .query)) (now (a .kinds)) (a .n) e (r .0) (w .0) refl,
+      again-all (a .reading) kindOf (now (a .query)) (now (a .kinds)) (a .n) e (r .0) (w .0) refl,
       (
-        again-all startsAt (now (a .query)) (now (a .starts)) (a .n) e (r .1) (w .1 .0) refl,
-        again-all lengthOf (now (a .query)) (now (a .lengths)) (a .n) e (r .2) (w .1 .1) refl,
+        again-all (a .reading) startsAt (now (a .query)) (now (a .starts)) (a .n) e (r .1) (w .1 .0) refl,
+        again-all (a .reading) lengthOf (now (a .query)) (now (a .lengths)) (a .n) e (r .2) (w .1 .1) refl,
       ),
     )
 

@@ -5,6 +5,7 @@ use mathlib.Core.List.{List, [], _∷_}
 use mathlib.Core.Path.{_≡_}
 use lib.ListN.{length, drop}
 use Rattle.utf8.specs.Answers.{textLimit}
+use Rattle.utf8.specs.declared.Reading.{Reading}
 use Rattle.munch.specs.declared.Mode.{Mode}
 use Rattle.munch.specs.declared.Step.{Step}
 use Rattle.munch.specs.Munch.{munched}
@@ -23,7 +24,7 @@ LexingWithin (Count n) = n ≤ textLimit + 1
 LexingWithin (Refused r) = (r .number ≤ lastRow) × (r .place .byte .0 ≤ textLimit) × (r .place .character .0 ≤ textLimit)
 
 abbrev pub LexingBounded : Type 0
-LexingBounded = (room : ℕ) (q : List ℕ) → LexingWithin (lexed room q)
+LexingBounded = (r : Reading) (room : ℕ) (q : List ℕ) → LexingWithin (lexed r room q)
 
 -- of a query of so many bytes: a lexeme, and all of a list; a kind has 16 bits
 abbrev pub Within : ℕ → Entry → Type 0
@@ -34,9 +35,10 @@ AllWithin size [] = Unit {0}
 AllWithin size (e ∷ es) = Within size e × AllWithin size es
 
 abbrev pub EntriesWithin : Type 0
-EntriesWithin = (q : List ℕ) → AllWithin (length q) (entriesOf q) × (length (entriesOf q) ≤ length q + 1)
+EntriesWithin = (r : Reading) (q : List ℕ) → AllWithin (length q) (entriesOf r q) × (length (entriesOf r q) ≤ length q + 1)
 
 -- the steps from an offset on are the step there and those from where it leaves off
 abbrev pub StepsAt : Type 0
 StepsAt =
-    (q : List ℕ) (at : ℕ) (m : Mode) (s : Step) → munched m (drop at q) ≡ s → stepsPast 0 m (drop at q) ≡ followed s (stepsPast 0 (stepMode m s) (drop (at + stepLength s) q))
+    (r : Reading) (q : List ℕ) (at : ℕ) (m : Mode) (s : Step) →
+    munched r m (drop at q) ≡ s → stepsPast r 0 m (drop at q) ≡ followed s (stepsPast r 0 (stepMode m s) (drop (at + stepLength s) q))

@@ -5,6 +5,7 @@ use mathlib.Core.List.{List, _++_, map}
 use mathlib.Core.Path.{_≡_}
 use lib.ListN.{length, take, drop}
 use lib.Seq.{sets}
+use Rattle.utf8.specs.declared.Reading.{Reading}
 use Rattle.munch.specs.declared.Inside.the-variants.{Nothing}
 use Rattle.munch.specs.declared.Mode.{Mode}
 use Rattle.munch.specs.Munch.{mode}
@@ -16,12 +17,12 @@ use Rattle.lex.specs.Lex.{entries, entriesOf, kindOf, startsAt, lengthOf
 use Rattle.lex.specs.steps.Tally.{tallied}
 
 -- a list once the lexemes of a query are written from its front on, as far as there is room
-abbrev pub filled : (Entry → ℕ) → List ℕ → List ℕ → List ℕ
-filled f q d = take (length d) (map f (entriesOf q)) ++ drop (length (entriesOf q)) d
+abbrev pub filled : Reading → (Entry → ℕ) → List ℕ → List ℕ → List ℕ
+filled r f q d = take (length d) (map f (entriesOf r q)) ++ drop (length (entriesOf r q)) d
 
 -- what comes of a query from an offset on, in a mode
-abbrev pub outcomeAt : List ℕ → ℕ → Mode → Outcome
-outcomeAt q at m = readFrom at (stepsPast 0 m (drop at q))
+abbrev pub outcomeAt : Reading → List ℕ → ℕ → Mode → Outcome
+outcomeAt r q at m = readFrom at (stepsPast r 0 m (drop at q))
 
 -- where a lexeme stands
 abbrev pub spanOf : ℕ → ℕ → Span
@@ -58,9 +59,9 @@ pub record Leads (a b : State) : Type 0 where
   pub lengths : Kept lengthOf (a .lengths) a (b .lengths) b
 
 -- where a pass is behind braces or brackets in so many parentheses; once refused, no lexeme is to come
-abbrev pub stateBehind : List ℕ → List ℕ → List ℕ → List ℕ → ℕ → Run → State
-stateBehind q ks ss ls d (run.To at n) = state ks ss ls n (outcomeAt q at (mode d Nothing))
-stateBehind q ks ss ls d (run.Refused r o) = state ks ss ls 0 (refuses r (o .0))
+abbrev pub stateBehind : Reading → List ℕ → List ℕ → List ℕ → List ℕ → ℕ → Run → State
+stateBehind r q ks ss ls d (run.To at n) = state ks ss ls n (outcomeAt r q at (mode d Nothing))
+stateBehind r q ks ss ls d (run.Refused number o) = state ks ss ls 0 (refuses number (o .0))
 
 -- a run goes on from where it began, within the query, and no lexeme is empty
 abbrev pub Reached : List ℕ → ℕ → Run → Type 0

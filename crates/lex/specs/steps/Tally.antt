@@ -1,6 +1,7 @@
 -- The count as a pass makes it, which goes up with each lexeme, and whose refusals have a byte offset alone.
 use Prim.Native.Nat.{ℕ, _+_}
 use mathlib.Core.List.{List}
+use Rattle.utf8.specs.declared.Reading.{Reading}
 use Rattle.utf8.specs.declared.Refusal.{Refusal}
 use Rattle.utf8.specs.Answers.{noRefusal, refusedAt}
 use Rattle.lex.specs.declared.Run.{Run}
@@ -19,8 +20,8 @@ tallied n (reads e r) = tallied (n + 1) r
 tallied n (ends at) = run.To at (n + 1)
 tallied n (refuses r o) = refusedBy r o
 
-abbrev pub tallyOf : List ℕ → Run
-tallyOf q = tallied 0 (outcomeOf q)
+abbrev pub tallyOf : Reading → List ℕ → Run
+tallyOf r q = tallied 0 (outcomeOf r q)
 
 -- why a text is refused by its count, and what that answers
 abbrev pub refusedIn : List ℕ → Run → Refusal

@@ -3,6 +3,7 @@ use Rattle.listing.proofs.Puts.{puts}
 use Rattle.listing.proofs.Few.{refused-few}
 use Rattle.listing.proofs.Lexemes.{lists-hold}
 use Rattle.listing.specs.Listing.{mostLexemes, zipped, printedBy, refusal}
+use Rattle.utf8.specs.declared.Reading.the-variants.{Crate}
 use Rattle.lex.specs.declared.Lexing.{Lexing}
 use Rattle.lex.specs.Lex.{entriesOf, notLexed, lexed, shortest}
 use denote.Ref.{now}
@@ -31,12 +32,12 @@ put-refusal-requires : tie.Need-put-refusal-requires
 put-refusal-requires c κs = search needs
 
 -- the three lists are as long as there may be lexemes, which is their room
-answered : (c : tie.After-lexer) {x : Lexing} → c .lexer .result ≡ x → lexed mostLexemes (now (c .before .before .before .before .before .before .before .before .before .args .query)) ≡ x
+answered : (c : tie.After-lexer) {x : Lexing} → c .lexer .result ≡ x → lexed Crate mostLexemes (now (c .before .before .before .before .before .before .before .before .before .args .query)) ≡ x
 answered c e =
     let a = c .before .before .before .before .before .before .before .before .before .args in
     let h = c .before .before .before .before .before .before .before .before .before .pre .0 in
     let same : mostLexemes ≡ shortest (length (now (a .kinds))) (length (now (a .starts))) (length (now (a .lengths))) = omega (arith, h) in
-    ap (λ room. lexed room (now (a .query))) same ∙ sym (c .lexer .ensures .0) ∙ e
+    ap (λ room. lexed Crate room (now (a .query))) same ∙ sym (c .lexer .ensures .0) ∙ e
 
 -- their first entries are the lexemes
 held : (c : tie.After-known-told)
@@ -44,7 +45,7 @@ held : (c : tie.After-known-told)
     let p = c .before .before .before .before .before .before .before .before .before .lexer in
     let n = c .before .x .given .0 .0 in
     (n ≤ shortest (length (now (a .kinds))) (length (now (a .starts))) (length (now (a .lengths))))
-    × (zipped (take n (p .last .1 .0)) (take n (p .last .1 .1 .0)) (take n (p .last .1 .1 .1 .0)) ≡ entriesOf (now (a .query)))
+    × (zipped (take n (p .last .1 .1 .0)) (take n (p .last .1 .1 .1 .0)) (take n (p .last .1 .1 .1 .1 .0)) ≡ entriesOf Crate (now (a .query)))
 held c =
     let a = c .before .before .before .before .before .before .before .before .before .before .before .before .before .before .before .before .before .before .args in
     lists-hold (now (a .query)) (now (a .kinds)) (now (a .starts)) (now (a .lengths)) (c .before .before .before .before .before .before .before .before .before .lexer .ensures) (c .before .x .given .1)
@@ -94,9 +95,9 @@ put-lexemes-requires c κs =
     let h = c .before .before .before .before .before .before .before .before .before .before .before .before .before .before .before .before .before .before .before .before .before .before .pre in
     let p = c .before .before .before .before .before .before .before .before .before .before .before .before .before .lexer in
     let n = c .before .before .before .before .before .x .given .0 .0 in
-    let kinds = length-take-le n (p .last .1 .0) (omega (arith, p .kept)) in
-    let starts = length-take-le n (p .last .1 .1 .0) (omega (arith, p .kept)) in
-    let lengths = length-take-le n (p .last .1 .1 .1 .0) (omega (arith, p .kept)) in
+    let kinds = length-take-le n (p .last .1 .1 .0) (omega (arith, p .kept)) in
+    let starts = length-take-le n (p .last .1 .1 .1 .0) (omega (arith, p .kept)) in
+    let lengths = length-take-le n (p .last .1 .1 .1 .1 .0) (omega (arith, p .kept)) in
     ((omega (arith, kinds, h), omega (arith, h)), (starts ∙ sym kinds, lengths ∙ sym kinds))
 
 same-length-5 : tie.Need-same-length-5

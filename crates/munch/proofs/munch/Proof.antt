@@ -35,11 +35,11 @@ bracket-step-requires c κs = search needs
 
 returns : tie.Need-returns
 unfolding munched
-returns c = rw (c .before .before .before .enum-told .given .1) (c .outside-step .ensures ∙ rw (c .before .before .before .before .before .before .leads .ensures, c .before .before .before .before .before .words .ensures) (outside-by-tables _ _))
+returns c = rw (c .before .before .before .enum-told .given .1) (c .outside-step .ensures ∙ rw (c .before .before .before .before .before .before .leads .ensures, c .before .before .before .before .before .words .ensures) (outside-by-tables _ _ _))
 
 returns-2 : tie.Need-returns-2
 unfolding munched
-returns-2 c = rw (c .before .before .enum-told2 .given .1) (c .brace-step .ensures ∙ rw (c .before .before .before .before .before .leads .ensures) (braces-by-table _ _))
+returns-2 c = rw (c .before .before .enum-told2 .given .1) (c .brace-step .ensures ∙ rw (c .before .before .before .before .before .leads .ensures) (braces-by-table _ _ _))
 
 returns-3 : tie.Need-returns-3
 unfolding munched

@@ -22,7 +22,7 @@ module _ (c : tie.After-shared-slice-known3) where
   there : 0 < length (now (c .before .before .before .before .before .args .s))
   there = omega arith
 
-  led : let a = c .before .before .before .before .before .args in outsideBy (now (a .leads)) (now (a .words)) (a .depth) (now (a .s)) ≡ outsideLed (now (a .leads)) (now (a .words)) (a .depth) (now (a .s)) (getD (now (a .leads)) (getD (now (a .s)) 0 0) 0)
+  led : let a = c .before .before .before .before .before .args in outsideBy (a .reading) (now (a .leads)) (now (a .words)) (a .depth) (now (a .s)) ≡ outsideLed (a .reading) (now (a .leads)) (now (a .words)) (a .depth) (now (a .s)) (getD (now (a .leads)) (getD (now (a .s)) 0 0) 0)
   unfolding outsideBy
   led =
       let s = now (c .before .before .before .before .before .args .s) in

@@ -5,6 +5,7 @@ use mathlib.Core.Bool.{Bool, true, false}
 use mathlib.Core.List.{List}
 use mathlib.Core.Logic.{_⊎_}
 use mathlib.Core.Path.{_≡_}
+use Rattle.utf8.specs.declared.Reading.{Reading}
 use Rattle.munch.specs.declared.Inside.{Inside}
 use Rattle.munch.specs.declared.Inside.the-variants.{Nothing, Braces, Brackets}
 use Rattle.munch.specs.declared.Mode.{Mode}
@@ -37,4 +38,4 @@ LeadsTo d i (Refused r o) = Unit {0}
 LeadsTo d i Finished = i ≡ Nothing
 
 abbrev pub StepLeads : Type 0
-StepLeads = (d : ℕ) (i : Inside) (xs : List ℕ) → LeadsTo d i (munched (mode d i) xs)
+StepLeads = (r : Reading) (d : ℕ) (i : Inside) (xs : List ℕ) → LeadsTo d i (munched r (mode d i) xs)

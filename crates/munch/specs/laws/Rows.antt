@@ -1,5 +1,5 @@
--- Document 01's rows 10 to 32 as conditions: on the mode that a step is made in, on the bytes that are left, and on the place of the refusal
--- among these. `RowsGiven` says that a step is refused with a number at a place exactly when its row holds; `proofs/Given` has the proof.
+-- Document 01's rows 10 to 32 as conditions: on the reading and the mode that a step is made in, on the bytes that are left, and on the place of the
+-- refusal among these. `RowsGiven` says that a step is refused with a number at a place exactly when its row holds; `proofs/Given` has the proof.
 use Prim.Native.Nat.{ℕ, suc, _≤_, _<_}
 use Prim.Native.Char.{code}
 use Prim.Native.String as text
@@ -10,15 +10,17 @@ use mathlib.Core.Logic.{_↔_, _⊎_}
 use mathlib.Core.Path.{_≡_}
 use lib.ListN.{drop}
 use Rattle.scan.specs.Byte.{end, peekAt, isSpace, isAlpha, isDigit, isQuote}
-use Rattle.numeral.specs.declared.Numeral.the-variants.{Neither}
-use Rattle.numeral.specs.Numeral.{numeralOf}
+use Rattle.utf8.specs.declared.Reading.{Reading}
+use Rattle.token.specs.Kinds.{number, duration}
+use Rattle.numeral.specs.laws.Texts.{IsNumber, IsDuration, IsNeither}
 use Rattle.quoted.specs.declared.Quoted.the-variants as quoting
 use Rattle.quoted.specs.Quoted.{unknownEscape, endInEscape, endInString, quotedOf}
 use Rattle.munch.specs.declared.Inside.the-variants.{Nothing, Braces, Brackets}
 use Rattle.munch.specs.declared.Mode.{Mode}
-use Rattle.munch.specs.declared.Step.the-variants.{Refused}
+use Rattle.munch.specs.declared.Step.the-variants.{Lexeme, Refused}
 use Rattle.munch.specs.Word.{isWordStart}
-use Rattle.munch.specs.Munch.{is, isEnd, munched}
+use Rattle.munch.specs.Munch.{mode, is, isEnd, munched}
+use Rattle.munch.specs.laws.Modes.{past}
 
 -- where: outside braces and brackets, in braces, in brackets
 abbrev pub Outside : Mode → Type 0
@@ -95,9 +97,9 @@ namedOutside c = isOneOf (isWordStart ∷ isSpace ∷ isQuote ∷ isDigit ∷ is
 abbrev pub OtherOutside : Mode → List ℕ → Type 0
 OtherOutside m xs = Outside m × (namedOutside (peekAt xs 0) ≡ false)
 
--- 20 "neither number nor duration", as `numeral` says of the bytes
-abbrev pub NeitherThere : ℕ → Mode → List ℕ → Type 0
-NeitherThere n m xs = NumberBegins m xs × (numeralOf xs ≡ Neither n)
+-- 20 "neither number nor duration", as `numeral` says of the texts that the bytes begin with
+abbrev pub NeitherThere : Reading → ℕ → Mode → List ℕ → Type 0
+NeitherThere r n m xs = NumberBegins m xs × IsNeither r xs n
 
 -- 21, 22, 23: the string is refused with the number, n bytes behind its opening sign, as `quoted` says of them
 abbrev pub StringFails : ℕ → ℕ → Mode → List ℕ → Type 0
@@ -147,38 +149,50 @@ abbrev pub EndInBrackets : Mode → List ℕ → Type 0
 EndInBrackets m xs = InBrackets m × Begins end xs
 
 -- the rows, by their numbers and places
-pub data Row (m : Mode) (xs : List ℕ) : ℕ → ℕ → Type 0 where
-  row10 : ParenOpenAtEnd m xs → Row m xs 10 0
-  row11 : RegexOutside m xs → Row m xs 11 1
-  row12 : AfterBang m xs → Row m xs 12 1
-  row13 : BangAtEnd m xs → Row m xs 13 1
-  row14 : AfterDot m xs → Row m xs 14 1
-  row15 : DotAtEnd m xs → Row m xs 15 0
-  row16 : UnmatchedParen m xs → Row m xs 16 0
-  row17 : UnmatchedBrace m xs → Row m xs 17 0
-  row18 : UnmatchedBracket m xs → Row m xs 18 0
-  row19 : OtherOutside m xs → Row m xs 19 0
-  row20 : (n : ℕ) → NeitherThere n m xs → Row m xs 20 n
-  row21 : (n : ℕ) → StringFails unknownEscape n m xs → Row m xs 21 (suc n)
-  row22 : (n : ℕ) → StringFails endInEscape n m xs → Row m xs 22 (suc n)
-  row23 : (n : ℕ) → StringFails endInString n m xs → Row m xs 23 (suc n)
-  row24 : AfterBangInBraces m xs → Row m xs 24 1
-  row25 : BraceInBraces m xs → Row m xs 25 0
-  row26 : OtherInBraces m xs → Row m xs 26 0
-  row27 : EndInBraces m xs → Row m xs 27 0
-  row28 : SecondColon m xs → Row m xs 28 0
-  row29 : ColonFirst m xs → Row m xs 29 0
-  row30 : BracketInBrackets m xs → Row m xs 30 0
-  row31 : OtherInBrackets m xs → Row m xs 31 0
-  row32 : EndInBrackets m xs → Row m xs 32 0
+pub data Row (r : Reading) (m : Mode) (xs : List ℕ) : ℕ → ℕ → Type 0 where
+  row10 : ParenOpenAtEnd m xs → Row r m xs 10 0
+  row11 : RegexOutside m xs → Row r m xs 11 1
+  row12 : AfterBang m xs → Row r m xs 12 1
+  row13 : BangAtEnd m xs → Row r m xs 13 1
+  row14 : AfterDot m xs → Row r m xs 14 1
+  row15 : DotAtEnd m xs → Row r m xs 15 0
+  row16 : UnmatchedParen m xs → Row r m xs 16 0
+  row17 : UnmatchedBrace m xs → Row r m xs 17 0
+  row18 : UnmatchedBracket m xs → Row r m xs 18 0
+  row19 : OtherOutside m xs → Row r m xs 19 0
+  row20 : (n : ℕ) → NeitherThere r n m xs → Row r m xs 20 n
+  row21 : (n : ℕ) → StringFails unknownEscape n m xs → Row r m xs 21 (suc n)
+  row22 : (n : ℕ) → StringFails endInEscape n m xs → Row r m xs 22 (suc n)
+  row23 : (n : ℕ) → StringFails endInString n m xs → Row r m xs 23 (suc n)
+  row24 : AfterBangInBraces m xs → Row r m xs 24 1
+  row25 : BraceInBraces m xs → Row r m xs 25 0
+  row26 : OtherInBraces m xs → Row r m xs 26 0
+  row27 : EndInBraces m xs → Row r m xs 27 0
+  row28 : SecondColon m xs → Row r m xs 28 0
+  row29 : ColonFirst m xs → Row r m xs 29 0
+  row30 : BracketInBrackets m xs → Row r m xs 30 0
+  row31 : OtherInBrackets m xs → Row r m xs 31 0
+  row32 : EndInBrackets m xs → Row r m xs 32 0
 
 abbrev pub RowsGiven : Type 0
-RowsGiven = (m : Mode) (xs : List ℕ) (r o : ℕ) → munched m xs ≡ Refused r o ↔ Row m xs r o
+RowsGiven = (r : Reading) (m : Mode) (xs : List ℕ) (number o : ℕ) → munched r m xs ≡ Refused number o ↔ Row r m xs number o
+
+-- where a number begins, a step is a NUMBER or a DURATION of so many bytes exactly when `numeral` says so of the texts there; what is open stays so
+abbrev pub NumbersGiven : Type 0
+NumbersGiven =
+    (r : Reading) (m m′ : Mode) (xs : List ℕ) (n : ℕ) → NumberBegins m xs →
+    (munched r m xs ≡ Lexeme number n m′ ↔ IsNumber r xs n × (m′ ≡ mode (m .depth) (past (m .inside))))
+    × (munched r m xs ≡ Lexeme duration n m′ ↔ IsDuration r xs n × (m′ ≡ mode (m .depth) (past (m .inside))))
+
+-- and where none begins, the readings are one
+abbrev pub NumbersAlone : Type 0
+NumbersAlone = (r s : Reading) (m : Mode) (xs : List ℕ) → (¬ (NumberBegins m xs)) → munched r m xs ≡ munched s m xs
 
 -- the first and the last of their numbers
 abbrev pub RowNumbers : Type 0
-RowNumbers = (m : Mode) (xs : List ℕ) (r o : ℕ) → Row m xs r o → (10 ≤ r) × (r ≤ 32)
+RowNumbers = (r : Reading) (m : Mode) (xs : List ℕ) (number o : ℕ) → Row r m xs number o → (10 ≤ number) × (number ≤ 32)
 
 -- no two of them hold together
 abbrev pub OneRow : Type 0
-OneRow = (m : Mode) (xs : List ℕ) (r o s p : ℕ) → Row m xs r o → Row m xs s p → (r ≡ s) × (o ≡ p)
+OneRow =
+    (r : Reading) (m : Mode) (xs : List ℕ) (number o other p : ℕ) → Row r m xs number o → Row r m xs other p → (number ≡ other) × (o ≡ p)

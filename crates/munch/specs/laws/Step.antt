@@ -10,6 +10,7 @@ use Rattle.scan.specs.declared.byte.Class.the-variants as class
 use Rattle.scan.specs.Byte.{end, peekAt, isIn}
 use Rattle.scan.specs.laws.Edge.{Edge, Bytes}
 use Rattle.scan.specs.Run.{runEnd}
+use Rattle.utf8.specs.declared.Reading.{Reading}
 use Rattle.token.specs.declared.Keyword.the-variants.{Kind}
 use Rattle.token.specs.Kinds.{identifier}
 use Rattle.token.specs.Words.{keywordOf}
@@ -38,7 +39,7 @@ Goes m xs (Refused r o) = Edge xs o
 Goes m xs Finished = (peekAt xs 0 ≡ end) × (m ≡ outside)
 
 abbrev pub StepGoes : Type 0
-StepGoes = (m : Mode) (xs : List ℕ) → Goes m xs (munched m xs)
+StepGoes = (r : Reading) (m : Mode) (xs : List ℕ) → Goes m xs (munched r m xs)
 
 -- the kind of a lexeme has 16 bits
 abbrev pub Fits : Step → Type 0
@@ -49,7 +50,7 @@ Fits (Refused r o) = Unit {0}
 Fits Finished = Unit {0}
 
 abbrev pub StepFits : Type 0
-StepFits = (m : Mode) (xs : List ℕ) → Fits (munched m xs)
+StepFits = (r : Reading) (m : Mode) (xs : List ℕ) → Fits (munched r m xs)
 
 -- what a newline behind the bytes does to a step on them: nothing; but a comment that runs to the end takes it in, and a fill word with
 -- nothing but white space behind it may become one that a parenthesis follows. Of a refused step nothing is said.
@@ -61,11 +62,11 @@ pub data Seam (xs : List ℕ) : Step → Step → Type 0 where
 
 abbrev pub StepSeam : Type 0
 StepSeam =
-    (m : Mode) (xs ys : List ℕ) → 0 < length xs → Seam xs (munched m xs) (munched m (xs ++ code "\n" ∷ ys))
+    (r : Reading) (m : Mode) (xs ys : List ℕ) → 0 < length xs → Seam xs (munched r m xs) (munched r m (xs ++ code "\n" ∷ ys))
 
 -- a step by the tables of leads and of document 01's words, as the code makes it, is the step
 abbrev pub OutsideByTables : Type 0
-OutsideByTables = (d : ℕ) (xs : List ℕ) → outsideBy leadTable wordTable d xs ≡ munched (mode d Nothing) xs
+OutsideByTables = (r : Reading) (d : ℕ) (xs : List ℕ) → outsideBy r leadTable wordTable d xs ≡ munched r (mode d Nothing) xs
 
 abbrev pub BracesByTable : Type 0
-BracesByTable = (d : ℕ) (xs : List ℕ) → braceBy leadTable d xs ≡ munched (mode d Braces) xs
+BracesByTable = (r : Reading) (d : ℕ) (xs : List ℕ) → braceBy leadTable d xs ≡ munched r (mode d Braces) xs

@@ -7,6 +7,7 @@ use lib.Dec.{eqb, ltb}
 use lib.ListN.{take}
 use Rattle.scan.specs.Byte.{peekAt}
 use Rattle.scan.specs.Run.{runEnd}
+use Rattle.utf8.specs.declared.Reading.{Reading}
 use Rattle.token.specs.Kinds.{identifier, metricIdentifier, leftParen, rightParen, leftBrace, rightBrace, leftBracket, comma, lte, lss, gte, gtr}
 use Rattle.token.specs.declared.Keyword.{Keyword}
 use Rattle.token.specs.declared.Keyword.the-variants.{Kind}
@@ -47,10 +48,10 @@ signStep kind d =
     (Lexeme kind 1 (mode d Nothing)))))
 
 -- the rows of the table outside that are for no class, nor for such a sign; and those in braces that are for a sign
-unfoldable pub otherTable : Mode → List Opening
-otherTable here =
+unfoldable pub otherTable : Reading → Mode → List Opening
+otherTable r here =
     row (is "#") commentStep
-    ∷ row (is ".") (dotStep here)
+    ∷ row (is ".") (dotStep r here)
     ∷ row (is "}") (refuse 17)
     ∷ row (is "]") (refuse 18)
     ∷ row (is "=") (equalsStep here)
@@ -71,15 +72,15 @@ braceSigns d =
     ∷ []
 
 -- by the lead of the first byte
-unfoldable pub outsideLed : List ℕ → List ℕ → ℕ → List ℕ → ℕ → Step
-outsideLed leads words d xs lead =
+unfoldable pub outsideLed : Reading → List ℕ → List ℕ → ℕ → List ℕ → ℕ → Step
+outsideLed r leads words d xs lead =
     let here = mode d Nothing in
     cond (eqb lead whiteLead) (Space here)
     (cond (isSignLead lead) (signStep lead d)
     (cond (startsWord lead) (wordStepBy leads words here xs)
-    (cond (eqb lead digitLead) (numberStep here xs)
+    (cond (eqb lead digitLead) (numberStep r here xs)
     (cond (eqb lead quoteLead) (quotedStep here xs)
-    (stepFor (otherTable here) 19 (peekAt xs 0) xs)))))
+    (stepFor (otherTable r here) 19 (peekAt xs 0) xs)))))
 
 unfoldable pub braceLed : List ℕ → ℕ → List ℕ → ℕ → Step
 braceLed leads d xs lead =
@@ -90,8 +91,8 @@ braceLed leads d xs lead =
     (stepFor (braceSigns d) 26 (peekAt xs 0) xs)))
 
 -- a step outside, and one in braces
-unfoldable pub outsideBy : List ℕ → List ℕ → ℕ → List ℕ → Step
-outsideBy leads words d xs = cond (isEnd (peekAt xs 0)) (endStep d) (outsideLed leads words d xs (leadIn leads (peekAt xs 0)))
+unfoldable pub outsideBy : Reading → List ℕ → List ℕ → ℕ → List ℕ → Step
+outsideBy r leads words d xs = cond (isEnd (peekAt xs 0)) (endStep d) (outsideLed r leads words d xs (leadIn leads (peekAt xs 0)))
 
 unfoldable pub braceBy : List ℕ → ℕ → List ℕ → Step
 braceBy leads d xs = cond (isEnd (peekAt xs 0)) (Refused 27 0) (braceLed leads d xs (leadIn leads (peekAt xs 0)))

@@ -7,6 +7,7 @@ use lib.ListN.{length, take, replicate}
 use lib.Seq.{sets, length-sets}
 use denote.Ref.{now}
 use Rattle.proving.proofs.Stores.{written-front}
+use Rattle.utf8.specs.declared.Reading.{Reading}
 use Rattle.utf8.specs.declared.Admission.{Admission}
 use Rattle.utf8.specs.Answers.{admitted, notAdmitted}
 use Rattle.utf8.specs.laws.Refusals.{Taken}
@@ -14,7 +15,7 @@ use Rattle.utf8.proofs.Given.{admitted-text}
 use Rattle.decimal.specs.Value.{decimalLimit}
 use Rattle.number.specs.declared.Parsing.the-variants.{Refused}
 use Rattle.number.specs.White.{plainText}
-use Rattle.number.specs.Number.{numberOf, parsingBy, parsingOf}
+use Rattle.number.specs.Number.{numberIn, parsingBy, parsingOf}
 use Rattle.number.proofs.Kept.{plain-few}
 use borrow.Author.Needs.{needs}
 use Rattle.number.proofs.parse_str_radix.Statement.{statement}
@@ -32,19 +33,19 @@ enum-told-2 c = search needs
 not-admitted-requires : tie.Need-not-admitted-requires
 not-admitted-requires c κs = search needs
 
-by-admission : (xs : List ℕ) (a : Admission) → admitted decimalLimit xs ≡ a → parsingBy a (plainText xs) ≡ parsingOf xs
+by-admission : (r : Reading) (xs : List ℕ) (a : Admission) → admitted decimalLimit xs ≡ a → parsingBy r a (plainText xs) ≡ parsingOf r xs
 unfolding parsingOf
-by-admission xs a e = ap (λ (b : Admission). parsingBy b (plainText xs)) (sym e)
+by-admission r xs a e = ap (λ (b : Admission). parsingBy r b (plainText xs)) (sym e)
 
 returns : tie.Need-returns
 returns c =
-    let x = now (c .before .before .before .before .before .args .s) in
+    let a = c .before .before .before .before .before .args in
     let e = c .before .enum-told2 .given .1 in
-    ap Refused (c .not-admitted .ensures ∙ ap notAdmitted e) ∙ by-admission x _ (sym (c .before .before .before .admit .ensures) ∙ e)
+    ap Refused (c .not-admitted .ensures ∙ ap notAdmitted e) ∙ by-admission (a .reading) (now (a .text)) _ (sym (c .before .before .before .admit .ensures) ∙ e)
 
 module _ (c : tie.After-enum-told) where
   abbrev text : List ℕ
-  text = now (c .before .before .before .before .args .s)
+  text = now (c .before .before .before .before .args .text)
 
   taken : Taken decimalLimit text
   taken = admitted-text decimalLimit text _ (sym (c .before .before .admit .ensures) ∙ c .enum-told .given .1)
@@ -75,22 +76,23 @@ module _ (c : tie.After-keep) where
   front : take (c .keep .result) buffer ≡ kept
   front = ap₂ (λ (n : ℕ) (ys : List ℕ). take n ys) counted buffer-is ∙ written-front (replicate decimalLimit 0) kept (omega (arith, fits))
 
-array-share-prefix-buf : tie.Need-array-share-prefix-buf
-array-share-prefix-buf c = omega (arith, counted c, fits c, buffer-long c)
+array-borrow-prefix-buf : tie.Need-array-borrow-prefix-buf
+array-borrow-prefix-buf c = omega (arith, counted c, fits c, buffer-long c)
 
-slice-aggregate-read-plain : tie.Need-slice-aggregate-read-plain
-slice-aggregate-read-plain c = let k = c .before in counted k ∙ ap length (sym (front k))
+slice-aggregate-read-kept : tie.Need-slice-aggregate-read-kept
+slice-aggregate-read-kept c = let k = c .before in counted k ∙ ap length (sym (front k))
 
-read-plain-requires : tie.Need-read-plain-requires
-read-plain-requires c κs = search needs
+read-kept-requires : tie.Need-read-kept-requires
+read-kept-requires c κs = search needs
 
 returns-2 : tie.Need-returns-2
 returns-2 c =
-    let k = c .before .before in
+    let k = c .before .before .before in
     let t = k .before .before in
-    c .read-plain .ensures
-    ∙ ap numberOf (front k)
-    ∙ by-admission (text t) _ (sym (t .before .before .admit .ensures) ∙ t .enum-told .given .1)
+    let a = t .before .before .before .before .args in
+    c .before .read-kept .ensures
+    ∙ ap (numberIn (a .reading)) (front k)
+    ∙ by-admission (a .reading) (text t) _ (sym (t .before .before .admit .ensures) ∙ t .enum-told .given .1)
 
 pub parse-str-radix-spec : {M : Type 1} → statement M
 parse-str-radix-spec =
@@ -102,7 +104,7 @@ parse-str-radix-spec =
     not-admitted-requires
     returns
     keep-requires
-    array-share-prefix-buf
-    slice-aggregate-read-plain
-    read-plain-requires
+    array-borrow-prefix-buf
+    slice-aggregate-read-kept
+    read-kept-requires
     returns-2)

@@ -1,5 +1,6 @@
 -- Document 01's rows 1, 2, 53, 60 and 61 as conditions on a number's text, and the statement that each answer is given exactly when its row
--- holds; `proofs/Given` has the proof. But for 1 and 2 they are said of t, the text without white space and in lower case.
+-- holds, in each reading; `proofs/Given` has the proof. Rows 1 and 2 are said of the text itself. Where separators stand is said of t, which is the
+-- text without white space and in lower case. All else is said of u, which is t without its separators.
 use Prim.Native.Nat.{ℕ, _≤_, _<_}
 use Prim.Native.Char.{code}
 use mathlib.Core.Bool.{Bool, true}
@@ -8,8 +9,12 @@ use mathlib.Core.Logic.{_↔_, _⊎_}
 use mathlib.Core.Path.{_≡_}
 use lib.Ieee.{nan, inf, unlike}
 use lib.ListN.{length}
-use Rattle.scan.specs.Byte.{peekAt, isDigitIn}
+use Rattle.scan.specs.declared.byte.Class.the-variants.{Digit, HexDigit}
+use Rattle.scan.specs.Byte.{peekAt, isDigitIn, isIn}
+use Rattle.scan.specs.Separated.{withoutSeparators}
+use Rattle.scan.specs.laws.Separated.{EachPlaced}
 use Rattle.scan.specs.Text.{Stands}
+use Rattle.utf8.specs.declared.Reading.{Reading}
 use Rattle.utf8.specs.Text.{prefixEnd}
 use Rattle.utf8.specs.declared.Refusal.{Refusal}
 use Rattle.utf8.specs.Answers.{placeAt, tooLong, notUtf8}
@@ -18,11 +23,12 @@ use Rattle.decimal.specs.declared.Number.{Number}
 use Rattle.scan.specs.Sign.{pastSign, isMinus}
 use Rattle.decimal.specs.Value.{outsideExact, radixOf, plain, decimalLimit, nearestOf}
 use Rattle.decimal.specs.laws.Decimal.{Infinite, Nan, Numeric, Spelled, InExact, OutsideExact}
+use Rattle.numeral.specs.Numeral.{betweenDigits, behindPrefix}
 use Rattle.number.specs.declared.Parsing.the-variants.{Value, Refused}
 use Rattle.number.specs.White.{plainText}
 use Rattle.number.specs.Signed.{mostOf}
 use Rattle.number.specs.Integer.{unsignedOf, magnitudeOf}
-use Rattle.number.specs.Number.{notNumber, outsideI64, behindZero, notationOf, followsMark, integerNumber, parsingOf}
+use Rattle.number.specs.Number.{notNumber, outsideI64, behindZero, notationOf, followsMark, integerNumber, behindHex, parsingOf}
 
 -- "a leading 0 after an optional sign
 abbrev pub LeadsZero : List ℕ → Type 0
@@ -82,21 +88,34 @@ DecimalIs t n =
     ⊎ ((Nan t × (n ≡ plain nan))
     ⊎ (Numeric t × InExact t × (n ≡ nearestOf t))))
 
+-- L2: "one underscore may stand between two digits of the same part, or between a hex prefix and its first digit". A hex text has `0x` at its front,
+-- behind a sign or none
+abbrev pub HexText : List ℕ → Type 0
+HexText t = LeadsZero t × (peekAt t (behindZero t) ≡ code "x")
+
+-- in a hex text each separator behind `0x` must stand so among hex digits, and in any other text each one among decimal digits; in the crate reading
+-- none may stand anywhere
+abbrev pub SeparatorsPlaced : Reading → List ℕ → Type 0
+SeparatorsPlaced r t =
+    (HexText t → EachPlaced (isIn HexDigit) (behindPrefix r) (behindHex t))
+    × ((¬ (HexText t)) → EachPlaced (isIn Digit) (betweenDigits r) t)
+
 -- "Order: 1, 2, the reading"; "60 and 52 are judged on the whole text, before 61 and 53"
 abbrev pub ParsingGiven : Type 0
 ParsingGiven =
-    (xs : List ℕ) →
-    let p = parsingOf xs in
+    (r : Reading) (xs : List ℕ) →
+    let p = parsingOf r xs in
     let t = plainText xs in
+    let u = withoutSeparators t in
     (p ≡ Refused tooLong ↔ TooLong decimalLimit xs)
     × (p ≡ Refused (notUtf8 (placeAt xs (prefixEnd xs))) ↔ (¬ (TooLong decimalLimit xs)) × NotUtf8 xs)
-    × (p ≡ Refused notNumber ↔ Taken decimalLimit xs × NotNumber t)
-    × (p ≡ Refused outsideI64 ↔ Taken decimalLimit xs × OutsideI64 t)
-    × (p ≡ Refused outsideExact ↔ Taken decimalLimit xs × (¬ (Marked t)) × OutsideExact t)
-    × ((n : Number) → p ≡ Value n ↔ Taken decimalLimit xs × (IntegerIs t n ⊎ DecimalIs t n))
+    × (p ≡ Refused notNumber ↔ Taken decimalLimit xs × ((¬ (SeparatorsPlaced r t)) ⊎ NotNumber u))
+    × (p ≡ Refused outsideI64 ↔ Taken decimalLimit xs × SeparatorsPlaced r t × OutsideI64 u)
+    × (p ≡ Refused outsideExact ↔ Taken decimalLimit xs × SeparatorsPlaced r t × (¬ (Marked u)) × OutsideExact u)
+    × ((n : Number) → p ≡ Value n ↔ Taken decimalLimit xs × SeparatorsPlaced r t × (IntegerIs u n ⊎ DecimalIs u n))
 
 -- how far refusals reach: none has a greater number, and no place lies beyond the longest text
 abbrev pub ParsingBound : Type 0
 ParsingBound =
-    (xs : List ℕ) (r : Refusal) → parsingOf xs ≡ Refused r →
-    (r .number ≤ outsideI64 .number) × (r .place .byte .0 ≤ decimalLimit) × (r .place .character .0 ≤ decimalLimit)
+    (r : Reading) (xs : List ℕ) (e : Refusal) → parsingOf r xs ≡ Refused e →
+    (e .number ≤ outsideI64 .number) × (e .place .byte .0 ≤ decimalLimit) × (e .place .character .0 ≤ decimalLimit)

@@ -1,10 +1,11 @@
 -- What the tests of texts say, as statements; `proofs/Same` and `proofs/Stands` have the proofs.
 use Prim.Native.Nat.{ℕ, _+_, _<_, _≤_}
-use mathlib.Core.Bool.{true, false, _&&_}
-use mathlib.Core.List.{List}
+use mathlib.Core.Bool.{true, false, _&&_, _||_}
+use mathlib.Core.List.{List, _++_}
 use mathlib.Core.Path.{_≡_}
 use lib.Dec.{eqb}
 use lib.ListN.{length, getD, drop}
+use Rattle.scan.specs.Byte.{peekAt}
 use Rattle.scan.specs.Text.{sameText, has, Stands}
 
 -- the test of texts is equality
@@ -27,3 +28,11 @@ SameOut = (xs ys : List ℕ) (i : ℕ) → length xs ≤ i → length ys ≤ i �
 -- the test of a byte is whether it stands in the text
 abbrev pub HasStands : Type 0
 HasStands = (c : ℕ) (ys : List ℕ) → (has c ys ≡ true → Stands c ys) × (Stands c ys → has c ys ≡ true)
+
+-- it stands in a text put together where it stands in a part,
+abbrev pub HasAppend : Type 0
+HasAppend = (c : ℕ) (u v : List ℕ) → has c (u ++ v) ≡ has c u || has c v
+
+-- and where it does not stand, it stands at no place
+abbrev pub NoneAt : Type 0
+NoneAt = (c : ℕ) (t : List ℕ) → has c t ≡ false → (i : ℕ) → i < length t → eqb (peekAt t i) c ≡ false

@@ -5,12 +5,17 @@ use mathlib.Core.List.{List}
 use mathlib.Core.Path.{_≡_, sym, ap, _∙_}
 use denote.Ref.{now}
 use borrow.Author.Needs.{needs}
+use Rattle.utf8.specs.declared.Reading.{Reading}
 use Rattle.number.specs.declared.Parsing.{Parsing}
 use Rattle.number.specs.Number.{parsingOf, notParsed}
 use Rattle.exports.specs.Packed.{packedOf}
 use Rattle.exports.specs.Number.{parseCode, parseLeft}
+use Rattle.exports.specs.Reading.{readingOf}
 use Rattle.exports.proofs.numbers.simmerpath_parse_str_radix.Statement.{statement}
 use Rattle.exports.proofs.numbers.simmerpath_parse_str_radix.Tie as tie
+
+reading-of-requires : tie.Need-reading-of-requires
+reading-of-requires c κs = search needs
 
 parse-str-radix-requires : tie.Need-parse-str-radix-requires
 parse-str-radix-requires c κs = search needs
@@ -28,16 +33,22 @@ packed-requires : tie.Need-packed-requires
 packed-requires c κs = search needs
 
 module _ (c : tie.After-parse-str-radix) where
+  abbrev start : tie.Start
+  start = c .before .before .before
+
+  abbrev reads : Reading
+  reads = readingOf (start .args .documented)
+
   abbrev xs : List ℕ
-  xs = now (c .before .before .args .text)
+  xs = now (start .args .text)
 
   abbrev old : ℕ
-  old = now (c .before .before .args .bits)
+  old = now (start .args .bits)
 
   -- the code and what is left are those of the answer in whose arm we are
-  answers : (p : Parsing) → c .parse-str-radix .result ≡ p → (parseCode p ≡ parseCode (parsingOf xs)) × (parseLeft p old ≡ parseLeft (parsingOf xs) old)
+  answers : (p : Parsing) → c .parse-str-radix .result ≡ p → (parseCode p ≡ parseCode (parsingOf reads xs)) × (parseLeft p old ≡ parseLeft (parsingOf reads xs) old)
   answers p t =
-      let e = sym t ∙ c .parse-str-radix .ensures in
+      let e = sym t ∙ c .parse-str-radix .ensures ∙ ap (λ (r : Reading). parsingOf r xs) (c .before .reading-of .ensures) in
       (ap parseCode e, ap (λ (q : Parsing). parseLeft q old) e)
 
 returns : tie.Need-returns
@@ -61,6 +72,7 @@ pub simmerpath-parse-str-radix-spec : {M : Type 1} → statement M
 simmerpath-parse-str-radix-spec =
     tie.close
     (tie.spec
+    reading-of-requires
     parse-str-radix-requires
     enum-known-p
     enum-told

@@ -6,13 +6,18 @@ use mathlib.Core.Path.{_≡_, sym, ap, _∙_}
 use denote.Ref.{now}
 use borrow.Author.Needs.{needs}
 use lib.ListN.{length}
+use Rattle.utf8.specs.declared.Reading.{Reading}
 use Rattle.lex.specs.declared.Lexing.{Lexing}
 use Rattle.lex.specs.Outcome.{Entry}
 use Rattle.lex.specs.Lex.{lexed, listed, leftAfter, kindOf, startsAt, lengthOf, shortest, notLexed}
 use Rattle.exports.specs.Packed.{packedOf}
 use Rattle.exports.specs.Lexer.{lexerCode}
+use Rattle.exports.specs.Reading.{readingOf}
 use Rattle.exports.proofs.queries.simmerpath_lexer.Statement.{statement}
 use Rattle.exports.proofs.queries.simmerpath_lexer.Tie as tie
+
+reading-of-requires : tie.Need-reading-of-requires
+reading-of-requires c κs = search needs
 
 lexer-requires : tie.Need-lexer-requires
 lexer-requires c κs = search needs
@@ -31,10 +36,13 @@ packed-requires c κs = search needs
 
 module _ (c : tie.After-lexer) where
   abbrev start : tie.Start
-  start = c .before .before .before .before .before .before .before .before
+  start = c .before .before .before .before .before .before .before .before .before
 
   abbrev q : List ℕ
   q = now (start .args .query)
+
+  abbrev reads : Reading
+  reads = readingOf (start .args .documented)
 
   abbrev ks : List ℕ
   ks = now (start .args .kinds)
@@ -50,14 +58,14 @@ module _ (c : tie.After-lexer) where
 
   -- what a list is left with
   abbrev left : (Entry → ℕ) → List ℕ → List ℕ
-  left f d = leftAfter (lexed room q) (listed f q d) d
+  left f d = leftAfter (lexed reads room q) (listed reads f q d) d
 
-  left-is : (c .lexer .last .1 .0 ≡ left kindOf ks) × ((c .lexer .last .1 .1 .0 ≡ left startsAt ss) × (c .lexer .last .1 .1 .1 .0 ≡ left lengthOf ls))
-  left-is = rw (c .lexer .ensures .0) at (c .lexer .ensures .1)
+  left-is : (c .lexer .last .1 .1 .0 ≡ left kindOf ks) × ((c .lexer .last .1 .1 .1 .0 ≡ left startsAt ss) × (c .lexer .last .1 .1 .1 .1 .0 ≡ left lengthOf ls))
+  left-is = rw (c .lexer .ensures .0, c .before .before .before .before .reading-of .ensures) at (c .lexer .ensures .1)
 
   -- the code of the answer in whose arm we are
-  code-is : (x : Lexing) → c .lexer .result ≡ x → lexerCode x ≡ lexerCode (lexed room q)
-  code-is x t = ap lexerCode (sym t ∙ c .lexer .ensures .0)
+  code-is : (x : Lexing) → c .lexer .result ≡ x → lexerCode x ≡ lexerCode (lexed reads room q)
+  code-is x t = ap lexerCode (sym t ∙ c .lexer .ensures .0 ∙ ap (λ (r : Reading). lexed r room q) (c .before .before .before .before .reading-of .ensures))
 
 same-length : tie.Need-same-length
 same-length c = search needs
@@ -92,6 +100,7 @@ pub simmerpath-lexer-spec : {M : Type 1} → statement M
 simmerpath-lexer-spec =
     tie.close
     (tie.spec
+    reading-of-requires
     lexer-requires
     enum-known-l
     enum-told

@@ -17,7 +17,8 @@ use Rattle.string.specs.Literal.{unquoted, unquotingOf, textBy}
 use Rattle.string.proofs.Unquoting as unquoting
 use Rattle.string.specs.laws.Refusals.{LiteralTells}
 use Rattle.string.proofs.Answers.{literal-answers}
-use Rattle.exports.specs.String.{readingOf, unquoteCode}
+use Rattle.exports.specs.Reading.{readingOf}
+use Rattle.exports.specs.String.{unquoteCode}
 use Rattle.exports.proofs.strings.simmerpath_unquote_string.Statement.{statement}
 use Rattle.exports.proofs.strings.simmerpath_unquote_string.Tie as tie
 

@@ -1,8 +1,8 @@
 -- The test is that of the definition.
 use Rattle.proving.proofs.Ways.{ways}
-use Rattle.exports.specs.String.{readingOf}
-use Rattle.exports.proofs.strings.reading_of.Statement.{statement}
-use Rattle.exports.proofs.strings.reading_of.Tie as tie
+use Rattle.exports.specs.Reading.{readingOf}
+use Rattle.exports.proofs.reading.reading_of.Statement.{statement}
+use Rattle.exports.proofs.reading.reading_of.Tie as tie
 
 returns : tie.Need-returns
 unfolding readingOf

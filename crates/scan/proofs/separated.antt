@@ -1,0 +1,5 @@
+pub mod Runs
+pub mod Texts
+pub mod Whole
+pub mod Unique
+pub mod Wrong
