@@ -65,10 +65,10 @@ one-quote f {a} x y z c e = go (tests-or (tests-eq c (code "\"")) (tests-or (tes
     go (inr (inl p)) = ap f p ∙ y
     go (inr (inr p)) = ap f p ∙ z
 
-pub quote-outside : (r : Reading) (d c : ℕ) → isQuote c ≡ true → stepIn r d Nothing c ≡ quotedStep (mode d Nothing)
+pub quote-outside : (r : Reading) (d c : ℕ) → isQuote c ≡ true → stepIn r d Nothing c ≡ quotedStep r (mode d Nothing)
 unfolding stepIn outsideTable isWordStart isQuote isAlpha isSpace isWithin
 quote-outside r d = one-quote (stepIn r d Nothing) refl refl refl
 
-pub quote-in-braces : (r : Reading) (d c : ℕ) → isQuote c ≡ true → stepIn r d Braces c ≡ quotedStep (mode d Braces)
+pub quote-in-braces : (r : Reading) (d c : ℕ) → isQuote c ≡ true → stepIn r d Braces c ≡ quotedStep r (mode d Braces)
 unfolding stepIn braceTable isQuote isAlpha isSpace isWithin
 quote-in-braces r d = one-quote (stepIn r d Braces) refl refl refl
