@@ -22,12 +22,14 @@ use Rattle.numeral.specs.Numeral.{numeralOf}
 use Rattle.numeral.specs.Texts.{Begun}
 use Rattle.numeral.proofs.Given.{number-given, duration-given}
 use Rattle.numeral.proofs.Places.{neither-given}
-use Rattle.token.specs.Kinds.{number, duration}
+use Rattle.token.specs.Kinds.{string, number, duration}
 use Rattle.quoted.specs.declared.Quoted.{Quoted}
 use Rattle.quoted.specs.declared.Quoted.the-variants as quoting
 use Rattle.quoted.specs.Quoted.{unknownEscape, endInEscape, endInString, isRaw, quotedOf}
 use Rattle.quoted.specs.laws.Quoted.{Numbered}
+use Rattle.quoted.specs.laws.Texts.{IsString}
 use Rattle.quoted.proofs.Strings.{string-numbered}
+use Rattle.quoted.proofs.Texts.{string-given}
 use Rattle.munch.specs.declared.Inside.{Inside}
 use Rattle.munch.specs.declared.Inside.the-variants.{Nothing, Braces, Brackets}
 use Rattle.munch.specs.declared.Mode.{Mode}
@@ -37,8 +39,8 @@ use Rattle.munch.specs.Word.{isWordStart}
 use Rattle.munch.specs.Munch.{mode, ifNext, refuse, numberBy, numberStep, dotStep, quotedBy, quotedStep, commentStep, wordStep, equalsStep, bangStep, compareStep, rightParenStep, endStep, braceWord, braceEquals, braceBang, colonStep, outsideTable, braceTable, bracketTable, stepIn, munched}
 use Rattle.munch.specs.laws.Modes.{past}
 use Rattle.munch.proofs.Openings.{by-rows, none-takes}
-use Rattle.munch.proofs.Starts.{digit-outside, digit-in-brackets, quote-outside, quote-in-braces}
-use Rattle.munch.specs.laws.Rows.{Outside, InBraces, InBrackets, Begins, Follows, namedOutside, namedInBraces, namedInBrackets, NumberBegins, StringBegins, StringFails, Row, row10, row11, row12, row13, row14, row15, row16, row17, row18, row19, row20, row21, row22, row23, row24, row25, row26, row27, row28, row29, row30, row31, row32, RowsGiven, NumbersGiven, ElsewhereAlike, RowNumbers, OneRow}
+use Rattle.munch.proofs.Starts.{one-quote, digit-outside, digit-in-brackets, quote-outside, quote-in-braces}
+use Rattle.munch.specs.laws.Rows.{Outside, InBraces, InBrackets, Begins, Follows, namedOutside, namedInBraces, namedInBrackets, NumberBegins, StringBegins, Row, row10, row11, row12, row13, row14, row15, row16, row17, row18, row19, row20, row21, row22, row23, row24, row25, row26, row27, row28, row29, row30, row31, row32, RowsGiven, NumbersGiven, ElsewhereAlike, StringsGiven, RowNumbers, OneRow}
 
 -- what a step tells: of a refusal, its row
 abbrev Told : Reading → Mode → List ℕ → Step → Type 0
@@ -75,9 +77,9 @@ module _ (r : Reading) (m : Mode) (xs : List ℕ) where
     where
       go : (q : Quoted) → quotedOf r (peekAt xs 0) (drop 1 xs) ≡ q → Numbered q → Told r m xs (quotedBy m′ q)
       go (quoting.Closed n) e h = tt
-      go (quoting.Refused number n) e (inl f) = rw f (row21 n (b, e ∙ rw f))
-      go (quoting.Refused number n) e (inr (inl f)) = rw f (row22 n (b, e ∙ rw f))
-      go (quoting.Refused number n) e (inr (inr f)) = rw f (row23 n (b, e ∙ rw f))
+      go (quoting.Refused number n) e (inl f) = rw f (row21 n (b, string-given r (peekAt xs 0) (b .1) (drop 1 xs) n .1 .0 (e ∙ rw f)))
+      go (quoting.Refused number n) e (inr (inl f)) = rw f (row22 n (b, string-given r (peekAt xs 0) (b .1) (drop 1 xs) n .2 .0 (e ∙ rw f)))
+      go (quoting.Refused number n) e (inr (inr f)) = rw f (row23 n (b, string-given r (peekAt xs 0) (b .1) (drop 1 xs) n .3 .0 (e ∙ rw f)))
 
   -- of the bytes that are left
   abbrev Telling : (List ℕ → Step) → Type 0
@@ -191,8 +193,8 @@ module _ (r : Reading) (m : Mode) (xs : List ℕ) where
   string-begun (inl o, q) = outside-by o (quote-outside r (m .depth) (peekAt xs 0) q) ∙ rw o
   string-begun (inr i, q) = braces-by i (quote-in-braces r (m .depth) (peekAt xs 0) q) ∙ rw i
 
-  string-fails : (number n : ℕ) → StringFails r number n m xs → munched r m xs ≡ Refused number (suc n)
-  string-fails number n (b, e) = string-begun b ∙ ap (quotedBy _) e
+  string-fails : (number n : ℕ) → StringBegins m xs → quotedOf r (peekAt xs 0) (drop 1 xs) ≡ quoting.Refused number n → munched r m xs ≡ Refused number (suc n)
+  string-fails number n b e = string-begun b ∙ ap (quotedBy _) e
 
   -- where no row is for the byte
   other-outside : Outside m → namedOutside (peekAt xs 0) ≡ false → munched r m xs ≡ Refused 19 0
@@ -221,9 +223,9 @@ module _ (r : Reading) (m : Mode) (xs : List ℕ) where
   gives (row18 (o, b)) = outside-at o b
   gives (row19 (o, n)) = other-outside o n
   gives (row20 n (b, e)) = number-begun b ∙ ap (numberBy _) (neither-given r xs (begun-as-number m xs b) n .1 e)
-  gives (row21 n h) = string-fails unknownEscape n h
-  gives (row22 n h) = string-fails endInEscape n h
-  gives (row23 n h) = string-fails endInString n h
+  gives (row21 n (b, h)) = string-fails unknownEscape n b (string-given r (peekAt xs 0) (b .1) (drop 1 xs) n .1 .1 h)
+  gives (row22 n (b, h)) = string-fails endInEscape n b (string-given r (peekAt xs 0) (b .1) (drop 1 xs) n .2 .1 h)
+  gives (row23 n (b, h)) = string-fails endInString n b (string-given r (peekAt xs 0) (b .1) (drop 1 xs) n .3 .1 h)
   gives (row24 (i, b, f, g, h)) =
       braces-at i b ∙ rw (ne-eqb (peekAt xs 1) (code "=") f, ne-eqb (peekAt xs 1) (code "~") g, ne-eqb (peekAt xs 1) end h)
   gives (row25 (i, b)) = braces-at i b
@@ -318,6 +320,30 @@ numbers-given r m m′ xs n b = (
     duration-back (Number k) f = choice.told kindIn f refl (λ h. absurd (omega (arith, h)))
     duration-back (Duration k) f = (ap Duration (ap sizeIn f), sym (ap (modeIn m′) f))
     duration-back (Neither k) f = choice.told kindIn f refl (λ h. absurd (omega (arith, h)))
+
+-- no string begins in brackets
+quote-in-brackets : (c : ℕ) → isQuote c ≡ true → namedInBrackets c ≡ false
+unfolding isSpace isWithin
+quote-in-brackets = one-quote namedInBrackets refl refl refl
+
+pub strings-given : StringsGiven
+strings-given r m m′ xs n q = (λ e. to (m .inside) refl e, from)
+  where
+    there : StringBegins m xs → munched r m xs ≡ Lexeme string (suc n) m′ → StringBegins m xs × IsString r (peekAt xs 0) (drop 1 xs) n × (m′ ≡ mode (m .depth) (m .inside))
+    there b e = let p = back (quotedOf r (peekAt xs 0) (drop 1 xs)) (sym (string-begun r m xs b) ∙ e) in (b, string-given r (peekAt xs 0) q (drop 1 xs) n .0 .0 (p .0), p .1)
+      where
+        back : (v : Quoted) → quotedBy (mode (m .depth) (m .inside)) v ≡ Lexeme string (suc n) m′ → (v ≡ quoting.Closed n) × (m′ ≡ mode (m .depth) (m .inside))
+        back (quoting.Closed k) f = (ap quoting.Closed (omega (arith, ap sizeIn f)), sym (ap (modeIn m′) f))
+        back (quoting.Refused number k) f = choice.told kindIn f refl (λ h. absurd (omega (arith, h)))
+
+    to : (i : Inside) → m .inside ≡ i → munched r m xs ≡ Lexeme string (suc n) m′ → StringBegins m xs × IsString r (peekAt xs 0) (drop 1 xs) n × (m′ ≡ mode (m .depth) (m .inside))
+    to Nothing i e = there (inl i, q) e
+    to Braces i e = there (inr i, q) e
+    to (Brackets seen fresh) i e =
+        choice.told kindIn e (other-in-brackets r m xs (record { seen = seen; fresh = fresh; there = i }) (quote-in-brackets (peekAt xs 0) q)) (λ h. absurd (omega (arith, h)))
+
+    from : StringBegins m xs × IsString r (peekAt xs 0) (drop 1 xs) n × (m′ ≡ mode (m .depth) (m .inside)) → munched r m xs ≡ Lexeme string (suc n) m′
+    from (b, s, e) = string-begun r m xs b ∙ ap₂ quotedBy (sym e) (string-given r (peekAt xs 0) q (drop 1 xs) n .0 .1 s)
 
 -- where no number begins, the rows that make one are not come to, nor that of a string where none begins
 none-begins : (b : Bool) → (b ≡ true → ⊥) → b ≡ false

@@ -56,7 +56,7 @@ unfolding stepIn bracketTable
 digit-in-brackets r d seen fresh c e = rw (no-space c e, e)
 
 -- what holds at each of the three quotes
-one-quote : {A : Type 0} (f : ℕ → A) {a : A} → f (code "\"") ≡ a → f (code "'") ≡ a → f (code "`") ≡ a → (c : ℕ) → isQuote c ≡ true → f c ≡ a
+pub one-quote : {A : Type 0} (f : ℕ → A) {a : A} → f (code "\"") ≡ a → f (code "'") ≡ a → f (code "`") ≡ a → (c : ℕ) → isQuote c ≡ true → f c ≡ a
 unfolding isQuote
 one-quote f {a} x y z c e = go (tests-or (tests-eq c (code "\"")) (tests-or (tests-eq c (code "'")) (tests-eq c (code "`"))) .0 e)
   where
