@@ -13,21 +13,21 @@ use Rattle.utf8.specs.declared.Reading.{Reading}
 use Rattle.quoted.specs.Quoted.{isEscape, quotedFrom, isRaw, rawFrom, quotedOf}
 use Rattle.munch.specs.steps.Lent.{quotedEnd}
 
-within : (symbol : ℕ) (escaped : Bool) (n : ℕ) (xs : List ℕ) → quotedEnd (quotedFrom symbol escaped n xs) ≤ suc (n + length xs)
+in-escaped : (symbol : ℕ) (escaped : Bool) (n : ℕ) (xs : List ℕ) → quotedEnd (quotedFrom symbol escaped n xs) ≤ suc (n + length xs)
 unfolding quotedFrom
-within symbol true n [] = omega arith
-within symbol true n (x ∷ xs) = either (λ q. quotedEnd q ≤ suc (n + suc (length xs))) (isEscape symbol x) (λ e. omega (arith, within symbol false (n + 1) xs)) (λ e. omega arith)
-within symbol false n [] = omega arith
-within symbol false n (x ∷ xs) = either (λ q. quotedEnd q ≤ suc (n + suc (length xs))) (eqb x symbol) (λ e. omega arith) (λ e. omega (arith, within symbol (eqb x backslash) (n + 1) xs))
+in-escaped symbol true n [] = omega arith
+in-escaped symbol true n (x ∷ xs) = either (λ q. quotedEnd q ≤ suc (n + suc (length xs))) (isEscape symbol x) (λ e. omega (arith, in-escaped symbol false (n + 1) xs)) (λ e. omega arith)
+in-escaped symbol false n [] = omega arith
+in-escaped symbol false n (x ∷ xs) = either (λ q. quotedEnd q ≤ suc (n + suc (length xs))) (eqb x symbol) (λ e. omega arith) (λ e. omega (arith, in-escaped symbol (eqb x backslash) (n + 1) xs))
 
-raw-within : (symbol n : ℕ) (xs : List ℕ) → quotedEnd (rawFrom symbol n xs) ≤ suc (n + length xs)
+in-raw : (symbol n : ℕ) (xs : List ℕ) → quotedEnd (rawFrom symbol n xs) ≤ suc (n + length xs)
 unfolding rawFrom
-raw-within symbol n [] = omega arith
-raw-within symbol n (x ∷ xs) = either (λ q. quotedEnd q ≤ suc (n + suc (length xs))) (eqb x symbol) (λ e. omega arith) (λ e. omega (arith, raw-within symbol (n + 1) xs))
+in-raw symbol n [] = omega arith
+in-raw symbol n (x ∷ xs) = either (λ q. quotedEnd q ≤ suc (n + suc (length xs))) (eqb x symbol) (λ e. omega arith) (λ e. omega (arith, in-raw symbol (n + 1) xs))
 
-string-within : (r : Reading) (symbol : ℕ) (xs : List ℕ) → quotedEnd (quotedOf r symbol xs) ≤ suc (length xs)
-string-within r symbol xs =
-    either (λ q. quotedEnd q ≤ suc (length xs)) (isRaw r symbol) (λ e. omega (arith, raw-within symbol 0 xs)) (λ e. omega (arith, within symbol false 0 xs))
+in-string : (r : Reading) (symbol : ℕ) (xs : List ℕ) → quotedEnd (quotedOf r symbol xs) ≤ suc (length xs)
+in-string r symbol xs =
+    either (λ q. quotedEnd q ≤ suc (length xs)) (isRaw r symbol) (λ e. omega (arith, in-raw symbol 0 xs)) (λ e. omega (arith, in-escaped symbol false 0 xs))
 
 -- the string that the first byte opens, as the code has its bytes
 module _ (r : Reading) (s : List ℕ) (h : 0 < length s) where
@@ -35,4 +35,4 @@ module _ (r : Reading) (s : List ℕ) (h : 0 < length s) where
   string-there = ap₂ (quotedOf r) (getD-any s 0 0 end h) (rest-of s 1)
 
   pub string-ends : quotedEnd (quotedOf r (getD s 0 0) (take (length s - 1) (drop 1 s))) ≤ length s
-  string-ends = rw (rest-of s 1) (omega (arith, string-within r (getD s 0 0) (drop 1 s), length-drop 1 s))
+  string-ends = rw (rest-of s 1) (omega (arith, in-string r (getD s 0 0) (drop 1 s), length-drop 1 s))

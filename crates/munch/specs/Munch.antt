@@ -1,6 +1,6 @@
--- One step of reading a query: what the bytes that are left begin with, in a mode and in a reading, by which numbers and backquoted strings
--- alone differ. Document 01, "Lexing rules", and document 02, L2 and L5; 01's refusals 10 to 32, of which "11, 12 and 14 to 18 are given only outside braces and brackets, 13 also in
--- braces". The three tables say what each first byte does.
+-- One step of reading a query: what the bytes that are left begin with, in a mode and in a reading, by which numbers and backquoted strings alone
+-- differ. Document 01, "Lexing rules", and document 02, L2 and L5; 01's refusals 10 to 32, of which "11, 12 and 14 to 18 are given only outside braces
+-- and brackets, 13 also in braces". The three tables say what each first byte does.
 -- A refusal's place is its offset in the bytes that are left: "it" is 0, or 1 behind a `!`; "end" is where they end, which is 1 behind a `!`.
 use Prim.Native.Nat.{ℕ, suc, _-_}
 use Prim.Native.Char.{Char, code}
