@@ -3,7 +3,8 @@
 use crate::fault::Fault;
 use crate::ffi;
 use crate::message::Message;
-use crate::refusal::{self, BAD_LITERAL, NEITHER_NUMBER_NOR_DURATION};
+use crate::reading::Reading;
+use crate::refusal::{self, BAD_LITERAL, END_IN_STRING, NEITHER_NUMBER_NOR_DURATION};
 use core::fmt;
 
 /// An answer with this bit is a refusal.
@@ -35,6 +36,8 @@ pub struct Error {
     character: u16,
     found: Option<char>,
     fault: Option<Fault>,
+    /// That of the call, where the sentence rests on it.
+    reading: Reading,
 }
 
 /// The result of a call that answered this on a text.
@@ -51,6 +54,16 @@ pub(crate) fn result(answer: u64, text: &[u8]) -> Result<u64, Error> {
         character: answer as u16,
         found: found.flatten(),
         fault: None,
+        reading: Reading::Crate,
+    })
+}
+
+/// The result of a call that answered this on a query, in a reading. The sentences of these two refusals show the query from where a
+/// lexeme begins, which is not the same in both.
+pub(crate) fn query_result(answer: u64, query: &[u8], reading: Reading) -> Result<u64, Error> {
+    result(answer, query).map_err(|error| match error.number {
+        NEITHER_NUMBER_NOR_DURATION | END_IN_STRING => Error { reading, ..error },
+        _ => error,
     })
 }
 
@@ -98,6 +111,11 @@ impl Error {
     /// last byte of a longer character, and where there is no UTF-8.
     pub fn found(&self) -> Option<char> {
         self.found
+    }
+
+    /// The reading that a query was refused in, where the sentence rests on it.
+    pub(crate) fn reading(&self) -> Reading {
+        self.reading
     }
 
     /// The sentence as promql-parser has it, for the text that was refused: with no place, and with as much of the text as it

@@ -260,6 +260,35 @@ const NO_STRINGS: [&str; 13] = [
     "\"\\\"",
 ];
 
+/// Strings between backquotes with backslashes, and what is nearly one.
+const BACKQUOTED: [&str; 22] = [
+    "`\\d`",
+    "`\\d+\\.\\w*`",
+    "`\\\\`",
+    "`\\\\\\`",
+    "`\\``",
+    "`\\```",
+    "`a\\` `\\b`",
+    "`\\n\\x\\8\\q`",
+    "`\\\n`",
+    "`\\\u{e9}\\\u{10ffff}`",
+    "`\\\"` \"",
+    "`\"\\'#`",
+    "`\\",
+    "`\u{e9}\\\\",
+    "`\\d",
+    "\"`\\\\`\"",
+    "'`\\'`\\d`'",
+    "\"\\`\"",
+    "'`\\q`'",
+    "# `\\\n`\\d`",
+    "#`\\``\r",
+    "\\`",
+];
+
+/// What tells these strings apart from others.
+const BACKQUOTED_PIECES: [&str; 9] = ["`", "\\", "\"", "'", "#", "\n", "d", "x", "\u{e9}"];
+
 /// Comments, with each end.
 const COMMENTS: [&str; 8] = [
     "#\n",
@@ -612,6 +641,18 @@ const LONGEST_SEPARATED: [[&str; 3]; 9] = [
     ["[5m:", "1_", "1]"],
 ];
 
+/// The same, of strings between backquotes.
+const LONGEST_BACKQUOTED: [[&str; 3]; 8] = [
+    ["`", "\\", "`"],
+    ["`", "\\d", "`"],
+    ["`", "\\", "``"],
+    ["`", "\\\u{20ac}", ""],
+    ["{a=~`", "\\q", "`}"],
+    ["", "`\\`", ""],
+    ["", "`\\d` ", "`\\"],
+    ["\"", "`\\\\", "\"`\\`"],
+];
+
 /// Every text of at most two bytes, and of at most four telling characters; every row of the pieces of each rule; any two
 /// pieces; the words, and every character, with much around them; deep parentheses; escapes; texts that are not UTF-8; queries
 /// cut short at each byte, and with a byte changed; texts around the limit.
@@ -672,6 +713,84 @@ pub fn fixed_separated() -> impl Iterator<Item = Vec<u8>> {
 pub fn random_separated<'a>(seed: u64, words: &'a [&str]) -> impl Iterator<Item = Vec<u8>> + 'a {
     let mut places = Random::new(!seed);
     random(seed, words).map(move |text| separated(&mut places, &text))
+}
+
+/// Queries with backslashes between backquotes: every row of six pieces at most that has both, and of five in braces and behind a
+/// longer character; every byte behind a backslash, alone and before the closing backquote, in a string with something around it; such
+/// a string and another piece, together and apart; the queries with backquotes for other signs, and with a string put in at each place;
+/// texts around the limit.
+pub fn fixed_backquoted() -> impl Iterator<Item = Vec<u8>> {
+    let arounds = [(["", ""], 6), (["{", "}"], 5), (["'\u{e9}' - (", "`)"], 5)];
+    let rows = arounds.into_iter().flat_map(|([front, back], most)| {
+        let rows = sequences(&BACKQUOTED_PIECES, most).map(|pieces| pieces.concat());
+        rows.filter(|row| row.contains('`') && row.contains('\\'))
+            .map(move |row| [front, &row, back].concat())
+    });
+    let bytes = (0..=u8::MAX).flat_map(|byte| {
+        let strings = [
+            vec![b'`', b'\\', byte, b'`'],
+            vec![b'`', b'a', b'\\', byte, b'\\', b'`'],
+            vec![b'`', b'\\', byte],
+        ];
+        strings.into_iter().flat_map(|string| {
+            AROUND.map(|[front, back]| [front.as_bytes(), &string, back.as_bytes()].concat())
+        })
+    });
+    let pieces = || PIECES.into_iter().flatten().chain(&BACKQUOTED);
+    let pairs = BACKQUOTED.into_iter().flat_map(move |string| {
+        pieces().flat_map(move |piece| {
+            ["", " ", ","].into_iter().flat_map(move |between| {
+                let pairs = [[string, between, piece], [piece, between, string]];
+                pairs.map(|pair| pair.concat())
+            })
+        })
+    });
+    let pairs = pairs.flat_map(|pair| AROUND.map(|[front, back]| [front, &pair, back].concat()));
+    let samples = QUERIES.into_iter().flat_map(|query| {
+        let signed = query.replace(&['"', '\''][..], "`").into_bytes();
+        let put_in = ["`", "\\", "`\\d`", "`\\``", "#`\\\n"];
+        [query.as_bytes(), &signed].map(|query| near(query, &put_in))
+    });
+    let long = LONGEST_BACKQUOTED.into_iter().flat_map(|parts| {
+        (MOST_BYTES - 1..=MOST_BYTES + 1).map(move |length| of_length(parts, length).into_bytes())
+    });
+    rows.chain(pairs)
+        .map(String::into_bytes)
+        .chain(bytes)
+        .chain(samples.flatten())
+        .chain(long)
+}
+
+/// Random texts without end: those of `random`, where half of the signs of strings are backquotes, with backslashes put in.
+pub fn random_backquoted<'a>(seed: u64, words: &'a [&str]) -> impl Iterator<Item = Vec<u8>> + 'a {
+    let mut places = Random::new(!seed);
+    random(seed, words).map(move |text| backquoted(&mut places, &text))
+}
+
+/// The text with backquotes for some signs of strings, and with backslashes at random places: many next to backquotes, few elsewhere.
+fn backquoted(random: &mut Random, text: &[u8]) -> Vec<u8> {
+    let all = random.below(2) == 0;
+    let mut backquoted = Vec::new();
+    for &byte in text {
+        let is_other = matches!(byte, b'"' | b'\'');
+        let byte = match byte {
+            _ if is_other && (all || random.below(2) == 0) => b'`',
+            _ => byte,
+        };
+        let rarity = match byte {
+            b'`' => 4,
+            0..=0x7f => 32,
+            _ => usize::MAX,
+        };
+        if random.below(rarity) == 0 {
+            backquoted.push(b'\\');
+        }
+        backquoted.push(byte);
+        if byte == b'`' && random.below(8) == 0 {
+            backquoted.push(b'\\');
+        }
+    }
+    backquoted
 }
 
 /// Every text of at most four telling characters.
