@@ -58,8 +58,8 @@ pub(crate) fn result(answer: u64, text: &[u8]) -> Result<u64, Error> {
     })
 }
 
-/// The result of a call that answered this on a query, in a reading. The sentences of these two refusals show the query from where a
-/// lexeme begins, which is not the same in both.
+/// The result of a call that answered this on a query, in a reading. The sentences of two refusals show the query from where the
+/// refused lexeme begins, which is found by the rules of the reading.
 pub(crate) fn query_result(answer: u64, query: &[u8], reading: Reading) -> Result<u64, Error> {
     result(answer, query).map_err(|error| match error.number {
         NEITHER_NUMBER_NOR_DURATION | END_IN_STRING => Error { reading, ..error },

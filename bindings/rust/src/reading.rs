@@ -19,13 +19,13 @@
 #[derive(Clone, Copy, Debug, Default, PartialEq, Eq, Hash)]
 pub enum Reading {
     /// As promql-parser reads it. In a literal `\x` and octal escapes give a code point, so that its text is UTF-8. No number has
-    /// a `_`. In a query a backslash begins an escape in every string, between backquotes too.
+    /// a `_`. In a query escapes are looked for in every string, between backquotes too.
     #[default]
     Crate,
     /// As Prometheus documents it. In a literal these escapes give a byte, so that its text need not be UTF-8. In a number one `_`
     /// may stand between two digits of the same part, and between `0x` and the first digit; it has no effect on the value, and a
-    /// number that has one begins no duration. In a query a string between backquotes has no escapes: it ends at the next backquote,
-    /// and a backslash is a character as any other.
+    /// number that has one begins no duration. In a query a string between backquotes has no escapes: it ends at the next
+    /// backquote, and a backslash in it is a character as any other.
     Documented,
 }
 

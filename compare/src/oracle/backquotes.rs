@@ -1,10 +1,13 @@
-//! Strings between backquotes in the documented reading: a second reading of document 02's sentence (L5). The Rust looks for escapes
-//! in every string, so a query is made plain for it: each backslash between backquotes becomes an `x`, which leaves the length and all
-//! places as they were, and between backquotes nothing that the Rust could take for an escape. All else is the Rust's.
+//! Strings between backquotes in the documented reading: a second reading of document 02's sentence (L5). The Rust looks for
+//! escapes in every string, so a query is made plain for it: each backslash between backquotes becomes an `x`, which leaves the
+//! length and all places as they were, and nothing between backquotes that the Rust could take for an escape. All else is the
+//! Rust's.
 //!
-//! Where these strings are is told by a scan of comments and strings alone. It knows no brackets, in which there are neither: there
-//! the Rust refuses a `#` and every sign of a string, so that what the scan makes of the rest is of no account. The Rust has a say
-//! in it: its strings between backquotes in the plain query must be the ones that were found, up to where it refuses.
+//! Where these strings are is told by a scan for comments and strings alone. Wherever else a `#` or a sign of a string stands, as
+//! in brackets and behind a `!`, the Rust refuses the query there, so that what the scan makes of the rest is of no account. That
+//! the scan is right is asked of the Rust: its strings between backquotes in the plain query must be those found, up to the
+//! refusal, and one that it refuses too. Then the plain query differs from the query inside such strings alone, and these have no
+//! escapes and end at the next backquote.
 
 use super::lexer::Lexed;
 use std::ops::Range;
@@ -30,14 +33,15 @@ impl Plain {
         }
     }
 
-    /// Whether the Rust has found the same strings, up to where it refuses the query.
+    /// Whether the Rust has found the same strings, up to where it refuses the query, and what it refuses is no other.
     pub fn are_those_of(&self, lexed: &Lexed) -> bool {
         let rest = lexed.rest().unwrap_or(self.query.len());
         let found = self.found.iter().filter(|string| string.start < rest);
         let spans = lexed.starts.iter().zip(&lexed.lengths);
         let lexemes = spans.map(|(&start, &length)| start as usize..(start + length) as usize);
         let known = lexemes.filter(|lexeme| self.query[lexeme.clone()].starts_with('`'));
-        found.cloned().eq(known)
+        let is_refused_found = self.found.iter().any(|string| string.start == rest);
+        found.cloned().eq(known) && is_refused_found == self.query[rest..].starts_with('`')
     }
 }
 
@@ -68,7 +72,7 @@ fn up_to(bytes: &[u8], ends: &[u8]) -> usize {
     found.map_or(bytes.len(), |at| at + 1)
 }
 
-/// The same for a sign that no backslash stands before which is not itself escaped.
+/// The same for a sign that is not escaped.
 fn up_to_sign(bytes: &[u8], sign: u8) -> usize {
     let mut length = 0;
     loop {

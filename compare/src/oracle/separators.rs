@@ -3,7 +3,8 @@
 //!
 //! - A number text whose separators are all so placed is the number that the Rust has for the text without them.
 //! - A query is lexed by the Rust, with as many `1` in the place of each number that has separators, behind its first digit or point.
-//!   It stops there before, and so says where that number begins. What stands between backquotes is made plain before (`backquotes`).
+//!   It stops there before, and so says where that number begins. Backslashes between backquotes were replaced before, by
+//!   `backquotes`.
 //!
 //! What has no separator must be by these expressions what it is by the Rust.
 

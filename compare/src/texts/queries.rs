@@ -685,28 +685,15 @@ pub fn fixed_separated() -> impl Iterator<Item = Vec<u8>> {
         rows.filter(|row| row.contains('_'))
             .map(move |row| [front, &row, back].concat())
     });
-    let pieces = || PIECES.into_iter().flatten().chain(&SEPARATED);
-    let pairs = SEPARATED.into_iter().flat_map(move |number| {
-        pieces().flat_map(move |piece| {
-            ["", " ", "+"].into_iter().flat_map(move |between| {
-                let pairs = [[number, between, piece], [piece, between, number]];
-                pairs.map(|pair| pair.concat())
-            })
-        })
-    });
-    let pairs = pairs.flat_map(|pair| AROUND.map(|[front, back]| [front, &pair, back].concat()));
     let samples = QUERIES.into_iter().flat_map(|query| {
         let grouped = grouped(query).into_bytes();
         let put_in = ["_", "1_0", "0x_f", "1_0m", " 1__0"];
         [query.as_bytes(), &grouped].map(|query| near(query, &put_in))
     });
-    let long = LONGEST_SEPARATED.into_iter().flat_map(|parts| {
-        (MOST_BYTES - 1..=MOST_BYTES + 1).map(move |length| of_length(parts, length).into_bytes())
-    });
-    rows.chain(pairs)
+    rows.chain(beside_pieces(&SEPARATED, "+"))
         .map(String::into_bytes)
         .chain(samples.flatten())
-        .chain(long)
+        .chain(around_limit(&LONGEST_SEPARATED))
 }
 
 /// Random texts without end, with separators in what has digits.
@@ -715,10 +702,10 @@ pub fn random_separated<'a>(seed: u64, words: &'a [&str]) -> impl Iterator<Item 
     random(seed, words).map(move |text| separated(&mut places, &text))
 }
 
-/// Queries with backslashes between backquotes: every row of six pieces at most that has both, and of five in braces and behind a
-/// longer character; every byte behind a backslash, alone and before the closing backquote, in a string with something around it; such
-/// a string and another piece, together and apart; the queries with backquotes for other signs, and with a string put in at each place;
-/// texts around the limit.
+/// Queries with backslashes between backquotes: every row of at most six pieces that has both, and of at most five in braces and
+/// behind a longer character; every byte behind a backslash, before the closing backquote, before one more backslash and that, and
+/// at the end; such a string and another piece, together and apart; the queries as they are and with backquotes for all other
+/// signs, with something put in at each place; texts around the limit.
 pub fn fixed_backquoted() -> impl Iterator<Item = Vec<u8>> {
     let arounds = [(["", ""], 6), (["{", "}"], 5), (["'\u{e9}' - (", "`)"], 5)];
     let rows = arounds.into_iter().flat_map(|([front, back], most)| {
@@ -736,47 +723,33 @@ pub fn fixed_backquoted() -> impl Iterator<Item = Vec<u8>> {
             AROUND.map(|[front, back]| [front.as_bytes(), &string, back.as_bytes()].concat())
         })
     });
-    let pieces = || PIECES.into_iter().flatten().chain(&BACKQUOTED);
-    let pairs = BACKQUOTED.into_iter().flat_map(move |string| {
-        pieces().flat_map(move |piece| {
-            ["", " ", ","].into_iter().flat_map(move |between| {
-                let pairs = [[string, between, piece], [piece, between, string]];
-                pairs.map(|pair| pair.concat())
-            })
-        })
-    });
-    let pairs = pairs.flat_map(|pair| AROUND.map(|[front, back]| [front, &pair, back].concat()));
     let samples = QUERIES.into_iter().flat_map(|query| {
         let signed = query.replace(&['"', '\''][..], "`").into_bytes();
         let put_in = ["`", "\\", "`\\d`", "`\\``", "#`\\\n"];
         [query.as_bytes(), &signed].map(|query| near(query, &put_in))
     });
-    let long = LONGEST_BACKQUOTED.into_iter().flat_map(|parts| {
-        (MOST_BYTES - 1..=MOST_BYTES + 1).map(move |length| of_length(parts, length).into_bytes())
-    });
-    rows.chain(pairs)
+    rows.chain(beside_pieces(&BACKQUOTED, ","))
         .map(String::into_bytes)
         .chain(bytes)
         .chain(samples.flatten())
-        .chain(long)
+        .chain(around_limit(&LONGEST_BACKQUOTED))
 }
 
-/// Random texts without end: those of `random`, where half of the signs of strings are backquotes, with backslashes put in.
+/// Random texts without end, with backquotes for other signs, and backslashes put in.
 pub fn random_backquoted<'a>(seed: u64, words: &'a [&str]) -> impl Iterator<Item = Vec<u8>> + 'a {
     let mut places = Random::new(!seed);
     random(seed, words).map(move |text| backquoted(&mut places, &text))
 }
 
-/// The text with backquotes for some signs of strings, and with backslashes at random places: many next to backquotes, few elsewhere.
+/// The text with backquotes for some of the other signs, or all, and with backslashes at random places: many next to backquotes,
+/// few elsewhere.
 fn backquoted(random: &mut Random, text: &[u8]) -> Vec<u8> {
     let all = random.below(2) == 0;
     let mut backquoted = Vec::new();
     for &byte in text {
         let is_other = matches!(byte, b'"' | b'\'');
-        let byte = match byte {
-            _ if is_other && (all || random.below(2) == 0) => b'`',
-            _ => byte,
-        };
+        let is_changed = is_other && (all || random.below(2) == 0);
+        let byte = if is_changed { b'`' } else { byte };
         let rarity = match byte {
             b'`' => 4,
             0..=0x7f => 32,
@@ -818,6 +791,23 @@ fn pairs() -> impl Iterator<Item = String> {
             .flat_map(move |between| pieces().map(move |last| [first, between, last].concat()))
     });
     glued.flat_map(|text| AROUND.map(|[front, back]| [front, &text, back].concat()))
+}
+
+/// Each of these and any piece, or another of them, together and apart, with each thing around them.
+fn beside_pieces(
+    texts: &'static [&'static str],
+    sign: &'static str,
+) -> impl Iterator<Item = String> {
+    let pieces = move || PIECES.into_iter().flatten().chain(texts);
+    let pairs = texts.iter().flat_map(move |text| {
+        pieces().flat_map(move |piece| {
+            ["", " ", sign].into_iter().flat_map(move |between| {
+                let pairs = [[text, between, piece], [piece, between, text]];
+                pairs.map(|pair| pair.concat())
+            })
+        })
+    });
+    pairs.flat_map(|pair| AROUND.map(|[front, back]| [front, &pair, back].concat()))
 }
 
 /// The words of the table in each case, with something around and behind them.
@@ -898,6 +888,13 @@ fn long() -> impl Iterator<Item = Vec<u8>> {
         let whole = lengths.map(move |length| of_length(parts, length).into_bytes());
         let longest = of_length(parts, MOST_BYTES).into_bytes();
         whole.chain([replaced(&longest, MOST_BYTES - 1..MOST_BYTES, b"\xff")])
+    })
+}
+
+/// Of each a text as long as the limit, one a byte shorter and one a byte longer.
+fn around_limit(filled: &'static [[&'static str; 3]]) -> impl Iterator<Item = Vec<u8>> {
+    filled.iter().flat_map(|&parts| {
+        (MOST_BYTES - 1..=MOST_BYTES + 1).map(move |length| of_length(parts, length).into_bytes())
     })
 }
 
