@@ -36,8 +36,7 @@ pub struct Error {
     character: u16,
     found: Option<char>,
     fault: Option<Fault>,
-    /// That of the call, where the sentence rests on it.
-    reading: Reading,
+    reading: Option<Reading>,
 }
 
 /// The result of a call that answered this on a text.
@@ -54,7 +53,7 @@ pub(crate) fn result(answer: u64, text: &[u8]) -> Result<u64, Error> {
         character: answer as u16,
         found: found.flatten(),
         fault: None,
-        reading: Reading::Crate,
+        reading: None,
     })
 }
 
@@ -62,7 +61,10 @@ pub(crate) fn result(answer: u64, text: &[u8]) -> Result<u64, Error> {
 /// refused lexeme begins, which is found by the rules of the reading.
 pub(crate) fn query_result(answer: u64, query: &[u8], reading: Reading) -> Result<u64, Error> {
     result(answer, query).map_err(|error| match error.number {
-        NEITHER_NUMBER_NOR_DURATION | END_IN_STRING => Error { reading, ..error },
+        NEITHER_NUMBER_NOR_DURATION | END_IN_STRING => Error {
+            reading: Some(reading),
+            ..error
+        },
         _ => error,
     })
 }
@@ -113,9 +115,9 @@ impl Error {
         self.found
     }
 
-    /// The reading that a query was refused in, where the sentence rests on it.
+    /// The reading that a query was refused in, where promql-parser's sentence rests on it.
     pub(crate) fn reading(&self) -> Reading {
-        self.reading
+        self.reading.unwrap_or_default()
     }
 
     /// The sentence as promql-parser has it, for the text that was refused: with no place, and with as much of the text as it
