@@ -156,6 +156,9 @@ enum simmerpath_class {
  * In a query and in the text of a number, one _ may stand between two digits of the same part of a number: before the point,
  * behind it, or in the exponent; and one between 0x and the first digit. It has no effect on the value, and a number that has one
  * begins no duration. In the crate reading no number has a _.
+ *
+ * In a query a string between backquotes has no escapes: it ends at the next backquote, and a backslash in it is a character as any
+ * other. In the crate reading escapes are looked for in every string of a query.
  */
 enum simmerpath_reading {
     SIMMERPATH_READING_CRATE = 0,
@@ -175,7 +178,7 @@ enum simmerpath_refusal {
     SIMMERPATH_REFUSED_NOT_UTF8 = 2,                     /* not UTF-8: where the longest well-formed prefix ends */
     SIMMERPATH_REFUSED_NO_ROOM = 3,                      /* what is to be written needs more room */
 
-    /* Of a query: at the character named, or at the end. */
+    /* Of a query: at the character named, or at the end. A backslash is meant in a string that has escapes in the reading. */
     SIMMERPATH_REFUSED_UNCLOSED_PAREN = 10,              /* the end, with a ( open */
     SIMMERPATH_REFUSED_REGEX_OUTSIDE = 11,               /* =~ outside braces: the ~ */
     SIMMERPATH_REFUSED_AFTER_BANG = 12,                  /* another character than = after a ! outside braces */
