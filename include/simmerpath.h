@@ -178,7 +178,7 @@ enum simmerpath_refusal {
     SIMMERPATH_REFUSED_NOT_UTF8 = 2,                     /* not UTF-8: where the longest well-formed prefix ends */
     SIMMERPATH_REFUSED_NO_ROOM = 3,                      /* what is to be written needs more room */
 
-    /* Of a query: at the character named, or at the end. A backslash is meant in a string that has escapes in the reading. */
+    /* Of a query: at the character named, or at the end. */
     SIMMERPATH_REFUSED_UNCLOSED_PAREN = 10,              /* the end, with a ( open */
     SIMMERPATH_REFUSED_REGEX_OUTSIDE = 11,               /* =~ outside braces: the ~ */
     SIMMERPATH_REFUSED_AFTER_BANG = 12,                  /* another character than = after a ! outside braces */
@@ -190,8 +190,8 @@ enum simmerpath_refusal {
     SIMMERPATH_REFUSED_UNMATCHED_BRACKET = 18,           /* a ] that closes nothing */
     SIMMERPATH_REFUSED_OTHER = 19,                       /* a character that begins nothing outside braces and brackets */
     SIMMERPATH_REFUSED_NEITHER_NUMBER_NOR_DURATION = 20, /* the first character not taken, a _ or a unit too, or the end */
-    SIMMERPATH_REFUSED_UNKNOWN_ESCAPE = 21,              /* an unknown escape in a string: the character after the backslash */
-    SIMMERPATH_REFUSED_END_IN_ESCAPE = 22,               /* the end, after a backslash in a string */
+    SIMMERPATH_REFUSED_UNKNOWN_ESCAPE = 21,              /* an unknown escape in a string with escapes: the character after the \ */
+    SIMMERPATH_REFUSED_END_IN_ESCAPE = 22,               /* the end, after a \ in a string with escapes */
     SIMMERPATH_REFUSED_END_IN_STRING = 23,               /* the end, in a string */
     SIMMERPATH_REFUSED_AFTER_BANG_IN_BRACES = 24,        /* another character than = or ~ after a ! in braces */
     SIMMERPATH_REFUSED_BRACE_IN_BRACES = 25,             /* a { in braces */
