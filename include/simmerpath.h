@@ -156,6 +156,9 @@ enum simmerpath_class {
  * In a query and in the text of a number, one _ may stand between two digits of the same part of a number: before the point,
  * behind it, or in the exponent; and one between 0x and the first digit. It has no effect on the value, and a number that has one
  * begins no duration. In the crate reading no number has a _.
+ *
+ * In a query a string between backquotes has no escapes: it ends at the next backquote, and a backslash in it is a character as any
+ * other. In the crate reading escapes are looked for in every string of a query.
  */
 enum simmerpath_reading {
     SIMMERPATH_READING_CRATE = 0,
@@ -187,8 +190,8 @@ enum simmerpath_refusal {
     SIMMERPATH_REFUSED_UNMATCHED_BRACKET = 18,           /* a ] that closes nothing */
     SIMMERPATH_REFUSED_OTHER = 19,                       /* a character that begins nothing outside braces and brackets */
     SIMMERPATH_REFUSED_NEITHER_NUMBER_NOR_DURATION = 20, /* the first character not taken, a _ or a unit too, or the end */
-    SIMMERPATH_REFUSED_UNKNOWN_ESCAPE = 21,              /* an unknown escape in a string: the character after the backslash */
-    SIMMERPATH_REFUSED_END_IN_ESCAPE = 22,               /* the end, after a backslash in a string */
+    SIMMERPATH_REFUSED_UNKNOWN_ESCAPE = 21,              /* an unknown escape in a string with escapes: the character after the \ */
+    SIMMERPATH_REFUSED_END_IN_ESCAPE = 22,               /* the end, after a \ in a string with escapes */
     SIMMERPATH_REFUSED_END_IN_STRING = 23,               /* the end, in a string */
     SIMMERPATH_REFUSED_AFTER_BANG_IN_BRACES = 24,        /* another character than = or ~ after a ! in braces */
     SIMMERPATH_REFUSED_BRACE_IN_BRACES = 25,             /* a { in braces */

@@ -6,9 +6,10 @@ use compare::oracle::lexer::Lexed;
 use compare::oracle::{separators, token};
 use compare::texts::queries;
 
-/// One random query is compared for so many of the count, and one with separators.
+/// One random query is compared for so many of the count; one with separators, and one with backslashes between backquotes.
 const SHARE: usize = 2;
 const SEPARATED_SHARE: usize = 25;
+const BACKQUOTED_SHARE: usize = 25;
 
 /// The bytes around a query, by turns. A function that reads past the end finds there what goes on with a word, a number, a
 /// sign or a character cut short; what a point, `!`, `fill` or `or` needs behind it; what closes a string, a comment, braces,
@@ -39,6 +40,20 @@ const ON_SEPARATED: [Function<[u8]>; 2] = [
     },
 ];
 
+/// The same with backslashes between backquotes.
+const ON_BACKQUOTED: [Function<[u8]>; 2] = [
+    Function {
+        name: "lexer, with backquotes",
+        difference: lexer,
+        known: nowhere,
+    },
+    Function {
+        name: "lexer, with backquotes, documented",
+        difference: documented,
+        known: separators::differ_in_lexing,
+    },
+];
+
 /// The function on another query in the documented reading.
 const ON_OTHERS: [Function<[u8]>; 1] = [Function {
     name: "lexer, documented",
@@ -47,16 +62,21 @@ const ON_OTHERS: [Function<[u8]>; 1] = [Function {
 }];
 
 /// Compares the function on all fixed queries, and on a share of `count` random ones; in the documented reading on those with
-/// separators, and on some of the others.
+/// separators and those with backquotes, and on some of the others.
 pub fn run(seed: u64, count: usize) -> u64 {
     let words = token::words();
     let random = |share| queries::random(seed, &words).take(count / share);
     let separated = queries::random_separated(seed, &words).take(count / SEPARATED_SHARE);
+    let backquoted = queries::random_backquoted(seed, &words).take(count / BACKQUOTED_SHARE);
     let others = queries::fixed(&words)
         .step_by(SEPARATED_SHARE)
         .chain(random(SEPARATED_SHARE));
     compare(&ON_QUERIES, queries::fixed(&words).chain(random(SHARE)))
         + compare(&ON_SEPARATED, queries::fixed_separated().chain(separated))
+        + compare(
+            &ON_BACKQUOTED,
+            queries::fixed_backquoted().chain(backquoted),
+        )
         + compare(&ON_OTHERS, others)
 }
 

@@ -32,8 +32,8 @@ const ON_QUERIES: [Function<[u8]>; 2] = [
     function("simmerpath::lex_into", lex_into),
 ];
 
-/// The same in the documented reading, on a query with separators.
-const ON_SEPARATED_QUERIES: [Function<[u8]>; 2] = [
+/// The same in the documented reading, on a query with separators or backquotes.
+const ON_DOCUMENTED_QUERIES: [Function<[u8]>; 2] = [
     function("simmerpath::lexer_in, documented", lexer_in),
     function("simmerpath::lex_into, documented", lex_into_documented),
 ];
@@ -90,6 +90,9 @@ pub fn run(seed: u64, count: usize) -> u64 {
     let random = queries::random_separated(seed, &known).take(count);
     let fixed = queries::fixed_separated().step_by(STEP);
     let separated_queries = fixed.chain(random);
+    let random = queries::random_backquoted(seed, &known).take(count);
+    let fixed = queries::fixed_backquoted().step_by(STEP);
+    let documented_queries = separated_queries.chain(fixed).chain(random);
     let random = literals::random(seed).take(count);
     let literals = literals::fixed().step_by(STEP).chain(random);
     let random = escapes::random(seed).take(count);
@@ -105,7 +108,7 @@ pub fn run(seed: u64, count: usize) -> u64 {
     let random = words::random(seed, &known).take(count);
     let words = words::fixed(&known).step_by(STEP).chain(random);
     compare(&ON_QUERIES, queries)
-        + compare(&ON_SEPARATED_QUERIES, separated_queries)
+        + compare(&ON_DOCUMENTED_QUERIES, documented_queries)
         + compare(&ON_LITERALS, literals)
         + compare(&ON_TEXTS, texts)
         + compare(&ON_NUMBERS, numbers)

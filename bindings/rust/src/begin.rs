@@ -1,12 +1,14 @@
 //! Where the lexeme begins that a query was refused in. The C function answers where it stopped, and promql-parser's sentences
 //! show the lexeme from its first byte on. Nothing but those sentences rests on what stands here.
 
-/// The byte where the lexeme begins that reaches byte `at`, in a query that is accepted up to that lexeme.
-pub(crate) fn begin(query: &[u8], at: usize) -> usize {
+use crate::reading::Reading;
+
+/// The byte where the lexeme begins that reaches byte `at`, in a query that a reading accepts up to that lexeme.
+pub(crate) fn begin(query: &[u8], at: usize, reading: Reading) -> usize {
     let mut start = 0;
     let mut in_brackets = false;
     while let Some(&first) = query.get(start) {
-        let end = start + length(first, &query[start..], in_brackets);
+        let end = start + length(first, &query[start..], in_brackets, reading);
         if end >= at {
             break;
         }
@@ -17,9 +19,10 @@ pub(crate) fn begin(query: &[u8], at: usize) -> usize {
 }
 
 /// The length of what a text begins with, whose first byte is given: a comment, a string, a number or duration, a word, or a byte.
-fn length(first: u8, text: &[u8], in_brackets: bool) -> usize {
+fn length(first: u8, text: &[u8], in_brackets: bool, reading: Reading) -> usize {
     match first {
         b'#' => comment(text),
+        b'`' if reading == Reading::Documented => raw_string(first, text),
         b'"' | b'\'' | b'`' => string(first, text),
         b'0'..=b'9' | b'.' => numeral(text),
         b':' if in_brackets => 1,
@@ -59,6 +62,13 @@ fn string(sign: u8, text: &[u8]) -> usize {
         goes_on
     };
     let end = 1 + text.iter().skip(1).copied().take_while(inside).count();
+    past(text, end, &[sign])
+}
+
+/// The same of a string without escapes.
+fn raw_string(sign: u8, text: &[u8]) -> usize {
+    let inside = |&&byte: &&u8| byte != sign;
+    let end = 1 + text.iter().skip(1).take_while(inside).count();
     past(text, end, &[sign])
 }
 

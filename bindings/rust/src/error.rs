@@ -3,7 +3,8 @@
 use crate::fault::Fault;
 use crate::ffi;
 use crate::message::Message;
-use crate::refusal::{self, BAD_LITERAL, NEITHER_NUMBER_NOR_DURATION};
+use crate::reading::Reading;
+use crate::refusal::{self, BAD_LITERAL, END_IN_STRING, NEITHER_NUMBER_NOR_DURATION};
 use core::fmt;
 
 /// An answer with this bit is a refusal.
@@ -35,6 +36,7 @@ pub struct Error {
     character: u16,
     found: Option<char>,
     fault: Option<Fault>,
+    reading: Option<Reading>,
 }
 
 /// The result of a call that answered this on a text.
@@ -51,6 +53,19 @@ pub(crate) fn result(answer: u64, text: &[u8]) -> Result<u64, Error> {
         character: answer as u16,
         found: found.flatten(),
         fault: None,
+        reading: None,
+    })
+}
+
+/// The result of a call that answered this on a query, in a reading. The sentences of two refusals show the query from where the
+/// refused lexeme begins, which is found by the rules of the reading.
+pub(crate) fn query_result(answer: u64, query: &[u8], reading: Reading) -> Result<u64, Error> {
+    result(answer, query).map_err(|error| match error.number {
+        NEITHER_NUMBER_NOR_DURATION | END_IN_STRING => Error {
+            reading: Some(reading),
+            ..error
+        },
+        _ => error,
     })
 }
 
@@ -98,6 +113,11 @@ impl Error {
     /// last byte of a longer character, and where there is no UTF-8.
     pub fn found(&self) -> Option<char> {
         self.found
+    }
+
+    /// The reading that a query was refused in, where promql-parser's sentence rests on it.
+    pub(crate) fn reading(&self) -> Reading {
+        self.reading.unwrap_or_default()
     }
 
     /// The sentence as promql-parser has it, for the text that was refused: with no place, and with as much of the text as it

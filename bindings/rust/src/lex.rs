@@ -1,6 +1,6 @@
 //! The lexemes of a query: as a vector, or in lists that are lent.
 
-use crate::error::{result, Error};
+use crate::error::{query_result, Error};
 use crate::ffi;
 use crate::reading::Reading;
 use crate::token::TokenId;
@@ -145,7 +145,7 @@ where
 {
     let query = query.as_ref();
     let answer = ffi::lexer(query, reading.documented(), kinds, starts, lengths);
-    let count = result(answer, query)? as usize;
+    let count = query_result(answer, query, reading)? as usize;
     let spans = starts[..count].iter().zip(&lengths[..count]);
     Ok(Lexemes {
         lists: kinds[..count].iter().zip(spans),

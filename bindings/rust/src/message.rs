@@ -23,7 +23,7 @@ impl<'t> Message<'t> {
     fn lexeme(&self) -> &'t str {
         let at = self.error.byte();
         let end = at + self.error.found().map_or(0, char::len_utf8);
-        let start = begin(self.text.as_bytes(), at);
+        let start = begin(self.text.as_bytes(), at, self.error.reading());
         self.text.get(start..end).unwrap_or_default()
     }
 

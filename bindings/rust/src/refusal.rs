@@ -43,9 +43,9 @@ refusals! {
     /// Neither a number nor a duration. The place is the first character that cannot belong to it, or the end: a `_` where none may
     /// stand, too, and a unit behind a number with a `_`.
     NEITHER_NUMBER_NOR_DURATION = 20, "bad number or duration syntax";
-    /// A backslash before a character that is no escape. The place is that character.
+    /// In a string that has escapes, a backslash before a character that is none. The place is that character.
     UNKNOWN_ESCAPE = 21, "unknown escape sequence '{}'";
-    /// The query ends after a backslash in a string.
+    /// The query ends after a backslash in a string that has escapes.
     END_IN_ESCAPE = 22, "escape sequence not terminated";
     /// The query ends in a string.
     END_IN_STRING = 23, "unterminated quoted string";

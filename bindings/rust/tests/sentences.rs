@@ -128,6 +128,26 @@ fn of_queries_with_separators() {
 }
 
 #[test]
+fn of_queries_with_backquotes() {
+    let neither = |lexeme: &str| format!("bad number or duration syntax: {lexeme}");
+    let unterminated = |sign: &str| format!("unterminated quoted string {sign}");
+    let refused = [
+        (r#"`\`""#, Reading::Crate, unterminated("`")),
+        (r#"`\`""#, Reading::Documented, unterminated("\"")),
+        (r"`\``", Reading::Documented, unterminated("`")),
+        (r"'\'`' `\\", Reading::Documented, unterminated("`")),
+        (r"`\` 5x`", Reading::Documented, neither("5x")),
+        (r"`\d`+`\`+1__0", Reading::Documented, neither("1_")),
+        ("`\\`#`[5\n:5.5.5", Reading::Crate, neither("5.5.")),
+        ("`\\`#`[5\n:5.5.5", Reading::Documented, neither(".5.")),
+    ];
+    for (query, reading, message) in refused {
+        let error = lexer_in(query, reading).unwrap_err();
+        assert_eq!(said(query, error).0, message, "{query}");
+    }
+}
+
+#[test]
 fn with_the_place() {
     let sentence = |query| said(query, lexer(query).unwrap_err()).1;
     assert_eq!(

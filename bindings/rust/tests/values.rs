@@ -1,5 +1,5 @@
-//! The values that document 01 gives, its misreadings to catch, the places, the exact durations and the digit separators of
-//! document 02, and the worked examples of promql-parser.
+//! The values that document 01 gives, its misreadings to catch, the places, the exact durations, the digit separators and the
+//! backquotes of document 02, and the worked examples of promql-parser.
 #![cfg(feature = "alloc")]
 
 use simmerpath::token::*;
@@ -96,6 +96,37 @@ fn separators_in_both_readings() {
     for reading in [Reading::Crate, Reading::Documented] {
         assert_eq!(single("_1", reading), Ok((T_IDENTIFIER, 2)));
         assert_eq!(single("1em", reading), Ok((T_DURATION, 3)));
+    }
+}
+
+/// The kind and the length of a query's first lexeme, and how many lexemes it has; or the number and the byte of its refusal.
+fn first(query: &str, reading: Reading) -> Result<(TokenId, usize, usize), (u16, usize)> {
+    let lexemes = lexer_in(query, reading).map_err(|error| (error.number(), error.byte()))?;
+    Ok((lexemes[0].kind, lexemes[0].length, lexemes.len()))
+}
+
+#[test]
+fn backquotes_in_both_readings() {
+    let string = |length| Ok((T_STRING, length, 2));
+    let cases = [
+        (r"`\d`", Err((21, 2)), string(4)),
+        (r"`\``", string(4), Err((23, 4))),
+        (r"`\`", Err((23, 3)), string(3)),
+        (r"`\", Err((22, 2)), Err((23, 2))),
+        (r"`\\`", string(4), string(4)),
+        (r"`\```", Err((23, 5)), Ok((T_STRING, 3, 3))),
+        (r"`\`5x`", string(6), Err((20, 4))),
+        (r"{`\d`}", Err((21, 3)), Ok((T_LEFT_BRACE, 1, 4))),
+    ];
+    for (query, in_crate, documented) in cases {
+        assert_eq!(first(query, Reading::Crate), in_crate, "{query}");
+        assert_eq!(first(query, Reading::Documented), documented, "{query}");
+    }
+    for reading in [Reading::Crate, Reading::Documented] {
+        assert_eq!(first(r#""\d""#, reading), Err((21, 2)));
+        assert_eq!(first(r"'\", reading), Err((22, 2)));
+        assert_eq!(first(r"'\''", reading), string(4));
+        assert_eq!(first("`a", reading), Err((23, 2)));
     }
 }
 

@@ -112,6 +112,11 @@ impl Lexed {
         }
     }
 
+    /// Where the text begins that no lexeme has; none where the query is accepted.
+    pub(super) fn rest(&self) -> Option<usize> {
+        self.refused.map(|_| self.rest)
+    }
+
     /// The same lexemes, and behind them, from byte `start` of a query, what is neither and goes wrong at another place.
     pub(super) fn with_bad_numeral(
         self,

@@ -3,10 +3,12 @@
 //!
 //! - A number text whose separators are all so placed is the number that the Rust has for the text without them.
 //! - A query is lexed by the Rust, with as many `1` in the place of each number that has separators, behind its first digit or point.
-//!   It stops there before, and so says where that number begins.
+//!   It stops there before, and so says where that number begins. Backslashes between backquotes were replaced before, by
+//!   `backquotes`.
 //!
 //! What has no separator must be by these expressions what it is by the Rust.
 
+use super::backquotes::Plain;
 use super::lexer::Lexed;
 use super::number::{self, bare, Number, NOT_A_NUMBER};
 use super::utf8::{admitted, admitted_within, Text};
@@ -85,9 +87,11 @@ pub fn lexed(bytes: &[u8]) -> Lexed {
         Ok(query) => query,
         Err(_) => return Lexed::new(bytes),
     };
-    let mut plain = query.to_string();
+    let strings = Plain::of(query);
+    let mut plain = strings.query.clone();
     loop {
         let lexed = Lexed::of(&plain);
+        assert!(strings.are_those_of(&lexed), "{query:?}");
         let (start, at) = match lexed.bad_numeral() {
             None => return agreed(query, lexed),
             Some(found) => found,
@@ -108,10 +112,12 @@ pub fn lexed(bytes: &[u8]) -> Lexed {
     }
 }
 
-/// Whether the readings of a query differ, which they can only in what the Rust refuses.
+/// Whether the readings of a query differ, which they can only where the Rust refuses a number, or where there is a backslash and a
+/// backquote.
 pub fn differ_in_lexing(bytes: &[u8]) -> bool {
     let known = Lexed::new(bytes);
-    known.bad_numeral().is_some() && lexed(bytes) != known
+    let may = b"\\`".iter().all(|byte| bytes.contains(byte)) || known.bad_numeral().is_some();
+    may && lexed(bytes) != known
 }
 
 /// The same, once every number and duration among the lexemes is what the expressions say.

@@ -260,6 +260,35 @@ const NO_STRINGS: [&str; 13] = [
     "\"\\\"",
 ];
 
+/// Strings between backquotes with backslashes, and what is nearly one.
+const BACKQUOTED: [&str; 22] = [
+    "`\\d`",
+    "`\\d+\\.\\w*`",
+    "`\\\\`",
+    "`\\\\\\`",
+    "`\\``",
+    "`\\```",
+    "`a\\` `\\b`",
+    "`\\n\\x\\8\\q`",
+    "`\\\n`",
+    "`\\\u{e9}\\\u{10ffff}`",
+    "`\\\"` \"",
+    "`\"\\'#`",
+    "`\\",
+    "`\u{e9}\\\\",
+    "`\\d",
+    "\"`\\\\`\"",
+    "'`\\'`\\d`'",
+    "\"\\`\"",
+    "'`\\q`'",
+    "# `\\\n`\\d`",
+    "#`\\``\r",
+    "\\`",
+];
+
+/// What tells these strings apart from others.
+const BACKQUOTED_PIECES: [&str; 9] = ["`", "\\", "\"", "'", "#", "\n", "d", "x", "\u{e9}"];
+
 /// Comments, with each end.
 const COMMENTS: [&str; 8] = [
     "#\n",
@@ -612,6 +641,18 @@ const LONGEST_SEPARATED: [[&str; 3]; 9] = [
     ["[5m:", "1_", "1]"],
 ];
 
+/// The same, of strings between backquotes.
+const LONGEST_BACKQUOTED: [[&str; 3]; 8] = [
+    ["`", "\\", "`"],
+    ["`", "\\d", "`"],
+    ["`", "\\", "``"],
+    ["`", "\\\u{20ac}", ""],
+    ["{a=~`", "\\q", "`}"],
+    ["", "`\\`", ""],
+    ["", "`\\d` ", "`\\"],
+    ["\"", "`\\\\", "\"`\\`"],
+];
+
 /// Every text of at most two bytes, and of at most four telling characters; every row of the pieces of each rule; any two
 /// pieces; the words, and every character, with much around them; deep parentheses; escapes; texts that are not UTF-8; queries
 /// cut short at each byte, and with a byte changed; texts around the limit.
@@ -644,34 +685,85 @@ pub fn fixed_separated() -> impl Iterator<Item = Vec<u8>> {
         rows.filter(|row| row.contains('_'))
             .map(move |row| [front, &row, back].concat())
     });
-    let pieces = || PIECES.into_iter().flatten().chain(&SEPARATED);
-    let pairs = SEPARATED.into_iter().flat_map(move |number| {
-        pieces().flat_map(move |piece| {
-            ["", " ", "+"].into_iter().flat_map(move |between| {
-                let pairs = [[number, between, piece], [piece, between, number]];
-                pairs.map(|pair| pair.concat())
-            })
-        })
-    });
-    let pairs = pairs.flat_map(|pair| AROUND.map(|[front, back]| [front, &pair, back].concat()));
     let samples = QUERIES.into_iter().flat_map(|query| {
         let grouped = grouped(query).into_bytes();
         let put_in = ["_", "1_0", "0x_f", "1_0m", " 1__0"];
         [query.as_bytes(), &grouped].map(|query| near(query, &put_in))
     });
-    let long = LONGEST_SEPARATED.into_iter().flat_map(|parts| {
-        (MOST_BYTES - 1..=MOST_BYTES + 1).map(move |length| of_length(parts, length).into_bytes())
-    });
-    rows.chain(pairs)
+    rows.chain(beside_pieces(&SEPARATED, "+"))
         .map(String::into_bytes)
         .chain(samples.flatten())
-        .chain(long)
+        .chain(around_limit(&LONGEST_SEPARATED))
 }
 
 /// Random texts without end, with separators in what has digits.
 pub fn random_separated<'a>(seed: u64, words: &'a [&str]) -> impl Iterator<Item = Vec<u8>> + 'a {
     let mut places = Random::new(!seed);
     random(seed, words).map(move |text| separated(&mut places, &text))
+}
+
+/// Queries with backslashes between backquotes: every row of at most six pieces that has both, and of at most five in braces and
+/// behind a longer character; every byte behind a backslash, before the closing backquote, before one more backslash and that, and
+/// at the end; such a string and another piece, together and apart; the queries as they are and with backquotes for all other
+/// signs, with something put in at each place; texts around the limit.
+pub fn fixed_backquoted() -> impl Iterator<Item = Vec<u8>> {
+    let arounds = [(["", ""], 6), (["{", "}"], 5), (["'\u{e9}' - (", "`)"], 5)];
+    let rows = arounds.into_iter().flat_map(|([front, back], most)| {
+        let rows = sequences(&BACKQUOTED_PIECES, most).map(|pieces| pieces.concat());
+        rows.filter(|row| row.contains('`') && row.contains('\\'))
+            .map(move |row| [front, &row, back].concat())
+    });
+    let bytes = (0..=u8::MAX).flat_map(|byte| {
+        let strings = [
+            vec![b'`', b'\\', byte, b'`'],
+            vec![b'`', b'a', b'\\', byte, b'\\', b'`'],
+            vec![b'`', b'\\', byte],
+        ];
+        strings.into_iter().flat_map(|string| {
+            AROUND.map(|[front, back]| [front.as_bytes(), &string, back.as_bytes()].concat())
+        })
+    });
+    let samples = QUERIES.into_iter().flat_map(|query| {
+        let signed = query.replace(&['"', '\''][..], "`").into_bytes();
+        let put_in = ["`", "\\", "`\\d`", "`\\``", "#`\\\n"];
+        [query.as_bytes(), &signed].map(|query| near(query, &put_in))
+    });
+    rows.chain(beside_pieces(&BACKQUOTED, ","))
+        .map(String::into_bytes)
+        .chain(bytes)
+        .chain(samples.flatten())
+        .chain(around_limit(&LONGEST_BACKQUOTED))
+}
+
+/// Random texts without end, with backquotes for other signs, and backslashes put in.
+pub fn random_backquoted<'a>(seed: u64, words: &'a [&str]) -> impl Iterator<Item = Vec<u8>> + 'a {
+    let mut places = Random::new(!seed);
+    random(seed, words).map(move |text| backquoted(&mut places, &text))
+}
+
+/// The text with backquotes for some of the other signs, or all, and with backslashes at random places: many next to backquotes,
+/// few elsewhere.
+fn backquoted(random: &mut Random, text: &[u8]) -> Vec<u8> {
+    let all = random.below(2) == 0;
+    let mut backquoted = Vec::new();
+    for &byte in text {
+        let is_other = matches!(byte, b'"' | b'\'');
+        let is_changed = is_other && (all || random.below(2) == 0);
+        let byte = if is_changed { b'`' } else { byte };
+        let rarity = match byte {
+            b'`' => 4,
+            0..=0x7f => 32,
+            _ => usize::MAX,
+        };
+        if random.below(rarity) == 0 {
+            backquoted.push(b'\\');
+        }
+        backquoted.push(byte);
+        if byte == b'`' && random.below(8) == 0 {
+            backquoted.push(b'\\');
+        }
+    }
+    backquoted
 }
 
 /// Every text of at most four telling characters.
@@ -699,6 +791,23 @@ fn pairs() -> impl Iterator<Item = String> {
             .flat_map(move |between| pieces().map(move |last| [first, between, last].concat()))
     });
     glued.flat_map(|text| AROUND.map(|[front, back]| [front, &text, back].concat()))
+}
+
+/// Each of these and any piece, or another of them, together and apart, with each thing around them.
+fn beside_pieces(
+    texts: &'static [&'static str],
+    sign: &'static str,
+) -> impl Iterator<Item = String> {
+    let pieces = move || PIECES.into_iter().flatten().chain(texts);
+    let pairs = texts.iter().flat_map(move |text| {
+        pieces().flat_map(move |piece| {
+            ["", " ", sign].into_iter().flat_map(move |between| {
+                let pairs = [[text, between, piece], [piece, between, text]];
+                pairs.map(|pair| pair.concat())
+            })
+        })
+    });
+    pairs.flat_map(|pair| AROUND.map(|[front, back]| [front, &pair, back].concat()))
 }
 
 /// The words of the table in each case, with something around and behind them.
@@ -779,6 +888,13 @@ fn long() -> impl Iterator<Item = Vec<u8>> {
         let whole = lengths.map(move |length| of_length(parts, length).into_bytes());
         let longest = of_length(parts, MOST_BYTES).into_bytes();
         whole.chain([replaced(&longest, MOST_BYTES - 1..MOST_BYTES, b"\xff")])
+    })
+}
+
+/// Of each a text as long as the limit, one a byte shorter and one a byte longer.
+fn around_limit(filled: &'static [[&'static str; 3]]) -> impl Iterator<Item = Vec<u8>> {
+    filled.iter().flat_map(|&parts| {
+        (MOST_BYTES - 1..=MOST_BYTES + 1).map(move |length| of_length(parts, length).into_bytes())
     })
 }
 

@@ -19,11 +19,12 @@ use Rattle.utf8.specs.Table.{fits, sizeIn, charLength}
 use Rattle.utf8.specs.Code.{codeOf}
 use Rattle.utf8.specs.Text.{charsPast, sizeOf, begunIn, charNumber}
 use Rattle.utf8.specs.Answers.{place, noRoom, validityOf, admitted, atStart, notUtf8}
-use Rattle.token.specs.Kinds.{identifier, number, leftBracket, rightBracket, comma}
+use Rattle.token.specs.Kinds.{identifier, string, number, leftBrace, rightBrace, leftBracket, rightBracket, comma}
 use Rattle.token.specs.Words.{words, kindIn, keywordOf}
 use Rattle.numeral.specs.Numeral.{isHex, fractionEnd, exponentEnd, numberEnd, isUnit, numeralOf}
+use Rattle.quoted.specs.Quoted.{isEscape, quotedFrom, isRaw, rawFrom}
 use Rattle.munch.specs.Word.{isWordStart, ruleBy, kindBy}
-use Rattle.munch.specs.Munch.{numberStep, wordStep, bangStep, endStep, outsideTable, bracketTable, stepIn, munched}
+use Rattle.munch.specs.Munch.{numberStep, quotedStep, wordStep, bangStep, endStep, outsideTable, braceTable, bracketTable, stepIn, munched}
 use Rattle.lex.specs.declared.Lexing.{Lexing}
 use Rattle.lex.specs.declared.Lexing.the-variants.{Count, Refused}
 use Rattle.lex.specs.Outcome.{stepsPast, readFrom}
@@ -38,7 +39,7 @@ use Rattle.lex.proofs.not_lexed.Reads as not-lexed-reads
 
 -- what computes at a query
 lexing : Unit {0}
-unfolding lexed measured answerBy stepsPast readFrom munched stepIn outsideTable bracketTable isWordStart isQuote numberStep numeralOf numberEnd exponentEnd fractionEnd isHex isUnit separatedLength wordStep bangStep endStep ruleBy kindBy keywordOf words kindIn admitted validityOf charsPast sizeOf charNumber begunIn charLength sizeIn fits codeOf isWithin isIn isSpace isAlpha isAlphaNumeric isWord lowered runLength sameText has
+unfolding lexed measured answerBy stepsPast readFrom munched stepIn outsideTable braceTable bracketTable isWordStart isQuote quotedStep isEscape quotedFrom isRaw rawFrom numberStep numeralOf numberEnd exponentEnd fractionEnd isHex isUnit separatedLength wordStep bangStep endStep ruleBy kindBy keywordOf words kindIn admitted validityOf charsPast sizeOf charNumber begunIn charLength sizeIn fits codeOf isWithin isIn isSpace isAlpha isAlphaNumeric isWord lowered runLength sameText has
 lexing = tt
 
 -- a refusal by its number, at a byte and a character
@@ -76,6 +77,14 @@ pub number-with-a-separator-begins-no-duration : measure-gives Documented (ascii
 unfolding lexing
 number-with-a-separator-begins-no-duration = measure-at _ _
 
+pub backslash-between-backquotes-is-refused-in-the-crate-reading : measure-gives Crate (ascii "`\\d`") (refused 21 2 2)
+unfolding lexing
+backslash-between-backquotes-is-refused-in-the-crate-reading = measure-at _ _
+
+pub backslash-between-backquotes-is-itself-in-the-documented-reading : measure-gives Documented (ascii "{`\\d`}") (Count 4)
+unfolding lexing
+backslash-between-backquotes-is-itself-in-the-documented-reading = measure-at _ _
+
 -- the query, its reading, and the three lists that are lent
 abbrev Given : List ℕ → Reading → List ℕ → List ℕ → List ℕ → (κs : Lfts 4) → Dens κs lexer.ps → Type 0
 Given q r ks ss ls κs a = (now (a .0) ≡ q) × (a .1 .0 ≡ r) × (now (a .1 .1 .0) ≡ ks) × (now (a .1 .1 .1 .0) ≡ ss) × (now (a .1 .1 .1 .1 .0) ≡ ls)
@@ -109,6 +118,14 @@ pub lexer-refuses-a-unit-behind-a-separator : lexer-gives Documented (ascii "1_0
 unfolding lexing
 lexer-refuses-a-unit-behind-a-separator = lexer-at _ _ _ _ _
 
+pub lexer-refuses-a-backslash-between-backquotes-in-the-crate-reading : lexer-gives Crate (ascii "`\\d`") nines nines nines (refused 21 2 2)
+unfolding lexing
+lexer-refuses-a-backslash-between-backquotes-in-the-crate-reading = lexer-at _ _ _ _ _
+
+pub lexer-takes-a-backslash-between-backquotes-in-the-documented-reading : lexer-gives Documented (ascii "`\\d`") nines nines nines (Count 2)
+unfolding lexing
+lexer-takes-a-backslash-between-backquotes-in-the-documented-reading = lexer-at _ _ _ _ _
+
 abbrev lexer-leaves-kinds : Reading → List ℕ → List ℕ → List ℕ → List ℕ → List ℕ → Type 0
 lexer-leaves-kinds r q ks ss ls v = Leaves lexer.ps lexer.r lexer-reads.Post (Given q r ks ss ls) (λ κs e. now (e .1 .1 .0)) v
 
@@ -139,6 +156,14 @@ pub and-so-in-brackets : lexer-leaves-kinds Documented (ascii "[1_0]") (9 ∷ ni
 unfolding lexing
 and-so-in-brackets = lexer-left-kinds _ _ _ _ _
 
+pub text-between-backquotes-is-a-string : lexer-leaves-kinds Documented (ascii "`\\d`") nines nines nines (string ∷ 0 ∷ 9 ∷ [])
+unfolding lexing
+text-between-backquotes-is-a-string = lexer-left-kinds _ _ _ _ _
+
+pub and-so-in-braces : lexer-leaves-kinds Documented (ascii "{`\\d`}") (9 ∷ nines) (9 ∷ nines) (9 ∷ nines) (leftBrace ∷ string ∷ rightBrace ∷ 0 ∷ [])
+unfolding lexing
+and-so-in-braces = lexer-left-kinds _ _ _ _ _
+
 abbrev lexer-leaves-starts : Reading → List ℕ → List ℕ → List ℕ → List ℕ → List ℕ → Type 0
 lexer-leaves-starts r q ks ss ls v = Leaves lexer.ps lexer.r lexer-reads.Post (Given q r ks ss ls) (λ κs e. now (e .1 .1 .1 .0)) v
 
@@ -166,6 +191,10 @@ end-has-no-length = lexer-left-lengths _ _ _ _ _
 pub separator-is-of-the-number : lexer-leaves-lengths Documented (ascii "1_0") nines nines nines (3 ∷ 0 ∷ 9 ∷ [])
 unfolding lexing
 separator-is-of-the-number = lexer-left-lengths _ _ _ _ _
+
+pub backslash-is-of-the-string : lexer-leaves-lengths Documented (ascii "`\\d`") nines nines nines (4 ∷ 0 ∷ 9 ∷ [])
+unfolding lexing
+backslash-is-of-the-string = lexer-left-lengths _ _ _ _ _
 
 pub refused-query-leaves-the-lengths : lexer-leaves-lengths Crate (ascii "a!") nines nines nines nines
 unfolding lexing

@@ -74,10 +74,10 @@ fn refused_by(number: usize, at: usize) -> Run
 }
 
 // Reads on in braces from a place, through the brace that closes them, and writes the lexemes that have room, the first of them at place `first`.
-// Nothing in braces differs by the reading.
 fn braces(
     leads: &[u8; munch::BYTES],
     query: &[u8],
+    reading: Reading,
     kinds: &mut [u16],
     starts: &mut [u32],
     lengths: &mut [u32],
@@ -88,12 +88,12 @@ fn braces(
     requires { ⌜ now leads ≡ leadTable ⌝ ∗ ⌜ length (now query) ≤ textLimit ⌝ ∗ ⌜ Alike (now kinds) (now starts) (now lengths) ⌝ }
     requires { ⌜ (from ≤ length (now query)) × (first ≤ from) ⌝ }
     ensures { λ r. ⌜ Reached (now (query .entry)) from r ⌝ }
-    ensures { λ r. ⌜ ((reading : Reading) → Leads (state (now (kinds .entry)) (now (starts .entry)) (now (lengths .entry)) first (outcomeAt reading (now (query .entry)) from (mode depth Braces))) (stateBehind reading (now (query .entry)) (now (kinds .exit)) (now (starts .exit)) (now (lengths .exit)) depth r)) ⌝ }
+    ensures { λ r. ⌜ Leads (state (now (kinds .entry)) (now (starts .entry)) (now (lengths .entry)) first (outcomeAt reading (now (query .entry)) from (mode depth Braces))) (stateBehind reading (now (query .entry)) (now (kinds .exit)) (now (starts .exit)) (now (lengths .exit)) depth r) ⌝ }
 {
     let mut at = from;
     let mut i = first;
     loop {
-        let s = munch::brace_step(leads, &query[at..], depth);
+        let s = munch::brace_step(leads, &query[at..], reading, depth);
         match s {
             Step::Lexeme { kind, length, mode } => {
                 put(kinds, starts, lengths, i, kind, placed(at, length));
@@ -178,7 +178,19 @@ fn opened(
     let inside = next.inside;
     match inside {
         Inside::Nothing => Run::To { at, count },
-        Inside::Braces => braces(leads, query, kinds, starts, lengths, depth, at, count),
+        Inside::Braces => {
+            braces(
+                leads,
+                query,
+                reading,
+                kinds,
+                starts,
+                lengths,
+                depth,
+                at,
+                count,
+            )
+        }
         Inside::Brackets { seen: _, fresh: _ } => {
             brackets(query, reading, kinds, starts, lengths, depth, at, count)
         }

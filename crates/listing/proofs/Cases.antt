@@ -12,7 +12,7 @@ use Rattle.scan.specs.Sign.{isSign}
 use Rattle.writing.specs.Decimal.{digitFor, digitsWithin, decimalText}
 use Rattle.token.specs.Words.{words, kindIn, keywordOf}
 use Rattle.numeral.specs.Numeral.{isHex, fractionEnd, exponentEnd, numberEnd, isUnit, stopOf, turnOf, durationFrom, numeralOf}
-use Rattle.quoted.specs.Quoted.{quotedFrom}
+use Rattle.quoted.specs.Quoted.{quotedFrom, isRaw}
 use Rattle.munch.specs.Word.{isWordStart, isFill, ruleBy, kindBy}
 use Rattle.munch.specs.Munch.{numberStep, quotedStep, wordStep, endStep, outsideTable, bracketTable, stepIn, munched}
 use Rattle.lex.specs.Outcome.{stepsPast, readFrom}
@@ -21,5 +21,5 @@ use Rattle.listing.specs.Listing.{refusal, lexemesText, printedBy, print
 use Rattle.listing.specs.laws.Cases.{AllPrinted}
 
 pub all-printed : AllPrinted
-unfolding printed printedBy lexemesText refusal lexed measured answerBy stepsPast readFrom munched stepIn outsideTable bracketTable isWordStart isQuote wordStep numberStep quotedStep endStep ruleBy kindBy isFill keywordOf words kindIn numeralOf numberEnd exponentEnd fractionEnd isHex isUnit durationFrom turnOf stopOf quotedFrom isSign admitted validityOf charsPast sizeOf charNumber begunIn charLength sizeIn fits codeOf isWithin isIn isSpace isAlpha isAlphaNumeric isWord isLine lowered runLength separatedLength sameText has decimalText digitsWithin digitFor
+unfolding printed printedBy lexemesText refusal lexed measured answerBy stepsPast readFrom munched stepIn outsideTable bracketTable isWordStart isQuote wordStep numberStep quotedStep endStep ruleBy kindBy isFill keywordOf words kindIn numeralOf numberEnd exponentEnd fractionEnd isHex isUnit durationFrom turnOf stopOf quotedFrom isRaw isSign admitted validityOf charsPast sizeOf charNumber begunIn charLength sizeIn fits codeOf isWithin isIn isSpace isAlpha isAlphaNumeric isWord isLine lowered runLength separatedLength sameText has decimalText digitsWithin digitFor
 all-printed = (refl, refl)

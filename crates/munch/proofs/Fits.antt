@@ -40,13 +40,13 @@ module _ (m : Mode) (xs : List ℕ) where
       go (Duration n) = omega arith
       go (Neither n) = tt
 
-  string-fits : Fits (quotedStep m xs)
+  string-fits : (r : Reading) → Fits (quotedStep r m xs)
   unfolding quotedStep
-  string-fits = go (quotedOf (peekAt xs 0) (drop 1 xs))
+  string-fits r = go (quotedOf r (peekAt xs 0) (drop 1 xs))
     where
-      go : (r : Quoted) → Fits (quotedBy m r)
+      go : (q : Quoted) → Fits (quotedBy m q)
       go (quoting.Closed n) = omega arith
-      go (quoting.Refused r n) = tt
+      go (quoting.Refused number n) = tt
 
   -- one step or another
   next-fits : (c : ℕ) (s t : Step) → Fits s → Fits t → Fits (ifNext xs c s t)
@@ -108,7 +108,7 @@ module _ (r : Reading) (d : ℕ) (xs : List ℕ) where
       by-rows Small (peekAt xs 0) (outsideTable r d) 19
       (λ h. word-step-fits here)
       (λ h. tt)
-      (λ h. string-fits here xs)
+      (λ h. string-fits here xs r)
       (λ h. number-fits here xs r)
       (λ h. end-fits)
       (λ h. tt)
@@ -137,10 +137,10 @@ module _ (r : Reading) (d : ℕ) (xs : List ℕ) where
   unfolding stepIn braceTable commentStep
   brace-fits =
       let here = mode d Braces in
-      by-rows Small (peekAt xs 0) (braceTable d) 26
+      by-rows Small (peekAt xs 0) (braceTable r d) 26
       (λ h. brace-word-step-fits here)
       (λ h. tt)
-      (λ h. string-fits here xs)
+      (λ h. string-fits here xs r)
       (λ h. tt)
       (λ h. tt)
       (λ h. tt)

@@ -11,22 +11,25 @@ use mathlib.Core.Path.{_≡_, refl, sym, ap, ap₂, subst, _∙_}
 use lib.Dec.{eqb}
 use lib.ListN.{drop}
 use borrow.Author.Tests.{eqb-true, eqb-false, ne-eqb}
-use Rattle.scan.specs.Byte.{end, peekAt, isWithin, isSpace, isAlpha, isDigit, isQuote}
+use Rattle.scan.specs.Byte.{end, peekAt, isWithin, isSpace, isAlpha, isDigit, isQuote, backquote}
 use Rattle.proving.proofs.Choice.{either}
 use Rattle.proving.proofs.Choice as choice
 use Rattle.utf8.specs.declared.Reading.{Reading}
+use Rattle.utf8.specs.declared.Reading.the-variants.{Crate, Documented}
 use Rattle.numeral.specs.declared.Numeral.{Numeral}
 use Rattle.numeral.specs.declared.Numeral.the-variants.{Number, Duration, Neither}
 use Rattle.numeral.specs.Numeral.{numeralOf}
 use Rattle.numeral.specs.Texts.{Begun}
 use Rattle.numeral.proofs.Given.{number-given, duration-given}
 use Rattle.numeral.proofs.Places.{neither-given}
-use Rattle.token.specs.Kinds.{number, duration}
+use Rattle.token.specs.Kinds.{string, number, duration}
 use Rattle.quoted.specs.declared.Quoted.{Quoted}
 use Rattle.quoted.specs.declared.Quoted.the-variants as quoting
-use Rattle.quoted.specs.Quoted.{unknownEscape, endInEscape, endInString, quotedOf}
+use Rattle.quoted.specs.Quoted.{unknownEscape, endInEscape, endInString, isRaw, quotedOf}
 use Rattle.quoted.specs.laws.Quoted.{Numbered}
+use Rattle.quoted.specs.laws.Texts.{IsString}
 use Rattle.quoted.proofs.Strings.{string-numbered}
+use Rattle.quoted.proofs.Texts.{string-given}
 use Rattle.munch.specs.declared.Inside.{Inside}
 use Rattle.munch.specs.declared.Inside.the-variants.{Nothing, Braces, Brackets}
 use Rattle.munch.specs.declared.Mode.{Mode}
@@ -36,8 +39,8 @@ use Rattle.munch.specs.Word.{isWordStart}
 use Rattle.munch.specs.Munch.{mode, ifNext, refuse, numberBy, numberStep, dotStep, quotedBy, quotedStep, commentStep, wordStep, equalsStep, bangStep, compareStep, rightParenStep, endStep, braceWord, braceEquals, braceBang, colonStep, outsideTable, braceTable, bracketTable, stepIn, munched}
 use Rattle.munch.specs.laws.Modes.{past}
 use Rattle.munch.proofs.Openings.{by-rows, none-takes}
-use Rattle.munch.proofs.Starts.{digit-outside, digit-in-brackets, quote-outside, quote-in-braces}
-use Rattle.munch.specs.laws.Rows.{Outside, InBraces, InBrackets, Begins, Follows, namedOutside, namedInBraces, namedInBrackets, NumberBegins, StringBegins, StringFails, Row, row10, row11, row12, row13, row14, row15, row16, row17, row18, row19, row20, row21, row22, row23, row24, row25, row26, row27, row28, row29, row30, row31, row32, RowsGiven, NumbersGiven, NumbersAlone, RowNumbers, OneRow}
+use Rattle.munch.proofs.Starts.{one-quote, digit-outside, digit-in-brackets, quote-outside, quote-in-braces}
+use Rattle.munch.specs.laws.Rows.{Outside, InBraces, InBrackets, Begins, Follows, namedOutside, namedInBraces, namedInBrackets, NumberBegins, StringBegins, Row, row10, row11, row12, row13, row14, row15, row16, row17, row18, row19, row20, row21, row22, row23, row24, row25, row26, row27, row28, row29, row30, row31, row32, RowsGiven, NumbersGiven, ElsewhereAlike, StringsGiven, RowNumbers, OneRow}
 
 -- what a step tells: of a refusal, its row
 abbrev Told : Reading → Mode → List ℕ → Step → Type 0
@@ -68,15 +71,15 @@ module _ (r : Reading) (m : Mode) (xs : List ℕ) where
       go (Neither n) e = row20 n (b, neither-given r xs (begun-as-number m xs b) n .0 e)
 
   -- a string is closed, or refused with one of three numbers
-  string-told : StringBegins m xs → (m′ : Mode) → Told r m xs (quotedStep m′ xs)
+  string-told : StringBegins m xs → (m′ : Mode) → Told r m xs (quotedStep r m′ xs)
   unfolding quotedStep
-  string-told b m′ = go (quotedOf (peekAt xs 0) (drop 1 xs)) refl (string-numbered (peekAt xs 0) (drop 1 xs))
+  string-told b m′ = go (quotedOf r (peekAt xs 0) (drop 1 xs)) refl (string-numbered r (peekAt xs 0) (drop 1 xs))
     where
-      go : (q : Quoted) → quotedOf (peekAt xs 0) (drop 1 xs) ≡ q → Numbered q → Told r m xs (quotedBy m′ q)
+      go : (q : Quoted) → quotedOf r (peekAt xs 0) (drop 1 xs) ≡ q → Numbered q → Told r m xs (quotedBy m′ q)
       go (quoting.Closed n) e h = tt
-      go (quoting.Refused number n) e (inl f) = rw f (row21 n (b, e ∙ rw f))
-      go (quoting.Refused number n) e (inr (inl f)) = rw f (row22 n (b, e ∙ rw f))
-      go (quoting.Refused number n) e (inr (inr f)) = rw f (row23 n (b, e ∙ rw f))
+      go (quoting.Refused number n) e (inl f) = rw f (row21 n (b, string-given r (peekAt xs 0) (b .1) (drop 1 xs) n .1 .0 (e ∙ rw f)))
+      go (quoting.Refused number n) e (inr (inl f)) = rw f (row22 n (b, string-given r (peekAt xs 0) (b .1) (drop 1 xs) n .2 .0 (e ∙ rw f)))
+      go (quoting.Refused number n) e (inr (inr f)) = rw f (row23 n (b, string-given r (peekAt xs 0) (b .1) (drop 1 xs) n .3 .0 (e ∙ rw f)))
 
   -- of the bytes that are left
   abbrev Telling : (List ℕ → Step) → Type 0
@@ -120,7 +123,7 @@ module _ (r : Reading) (m : Mode) (xs : List ℕ) where
   braces-told : InBraces m → Told r m xs (stepIn r (m .depth) Braces (peekAt xs 0) xs)
   unfolding stepIn braceTable braceWord commentStep braceEquals braceBang
   braces-told i =
-      by-rows Telling (peekAt xs 0) (braceTable (m .depth)) 26
+      by-rows Telling (peekAt xs 0) (braceTable r (m .depth)) 26
       (λ h. tt)
       (λ h. tt)
       (λ h. string-told (inr i, h) _)
@@ -178,17 +181,20 @@ module _ (r : Reading) (m : Mode) (xs : List ℕ) where
   brackets-at : (i : InBrackets m) {y : ℕ} → Begins y xs → munched r m xs ≡ stepIn r (m .depth) (Brackets (i .seen) (i .fresh)) y xs
   brackets-at i b = brackets-by i (ap (stepIn r (m .depth) (Brackets (i .seen) (i .fresh))) b)
 
-  -- where a number begins, or a string has its fault
+  -- where a number begins, or a string, and where this has its fault
   number-begun : NumberBegins m xs → munched r m xs ≡ numberBy (mode (m .depth) (past (m .inside))) (numeralOf r xs)
   unfolding stepIn outsideTable dotStep numberStep isWordStart isQuote isAlpha isSpace isWithin
   number-begun (inl (inl o, d)) = outside-by o (digit-outside r (m .depth) (peekAt xs 0) d) ∙ rw o
   number-begun (inl (inr i, d)) = brackets-by i (digit-in-brackets r (m .depth) (i .seen) (i .fresh) (peekAt xs 0) d) ∙ rw (i .there)
   number-begun (inr (o, b, d)) = outside-at o b ∙ rw (d, o)
 
-  string-fails : (number n : ℕ) → StringFails number n m xs → munched r m xs ≡ Refused number (suc n)
+  string-begun : StringBegins m xs → munched r m xs ≡ quotedBy (mode (m .depth) (m .inside)) (quotedOf r (peekAt xs 0) (drop 1 xs))
   unfolding quotedStep
-  string-fails number n ((inl o, q), e) = outside-by o (quote-outside r (m .depth) (peekAt xs 0) q) ∙ rw e
-  string-fails number n ((inr i, q), e) = braces-by i (quote-in-braces r (m .depth) (peekAt xs 0) q) ∙ rw e
+  string-begun (inl o, q) = outside-by o (quote-outside r (m .depth) (peekAt xs 0) q) ∙ rw o
+  string-begun (inr i, q) = braces-by i (quote-in-braces r (m .depth) (peekAt xs 0) q) ∙ rw i
+
+  string-fails : (number n : ℕ) → StringBegins m xs → quotedOf r (peekAt xs 0) (drop 1 xs) ≡ quoting.Refused number n → munched r m xs ≡ Refused number (suc n)
+  string-fails number n b e = string-begun b ∙ ap (quotedBy _) e
 
   -- where no row is for the byte
   other-outside : Outside m → namedOutside (peekAt xs 0) ≡ false → munched r m xs ≡ Refused 19 0
@@ -197,7 +203,7 @@ module _ (r : Reading) (m : Mode) (xs : List ℕ) where
 
   other-in-braces : InBraces m → namedInBraces (peekAt xs 0) ≡ false → munched r m xs ≡ Refused 26 0
   unfolding stepIn braceTable
-  other-in-braces i n = braces-by i {step = refuse 26} (none-takes (braceTable (m .depth)) 26 (peekAt xs 0) n)
+  other-in-braces i n = braces-by i {step = refuse 26} (none-takes (braceTable r (m .depth)) 26 (peekAt xs 0) n)
 
   other-in-brackets : InBrackets m → namedInBrackets (peekAt xs 0) ≡ false → munched r m xs ≡ Refused 31 0
   unfolding stepIn bracketTable
@@ -217,9 +223,9 @@ module _ (r : Reading) (m : Mode) (xs : List ℕ) where
   gives (row18 (o, b)) = outside-at o b
   gives (row19 (o, n)) = other-outside o n
   gives (row20 n (b, e)) = number-begun b ∙ ap (numberBy _) (neither-given r xs (begun-as-number m xs b) n .1 e)
-  gives (row21 n h) = string-fails unknownEscape n h
-  gives (row22 n h) = string-fails endInEscape n h
-  gives (row23 n h) = string-fails endInString n h
+  gives (row21 n (b, h)) = string-fails unknownEscape n b (string-given r (peekAt xs 0) (b .1) (drop 1 xs) n .1 .1 h)
+  gives (row22 n (b, h)) = string-fails endInEscape n b (string-given r (peekAt xs 0) (b .1) (drop 1 xs) n .2 .1 h)
+  gives (row23 n (b, h)) = string-fails endInString n b (string-given r (peekAt xs 0) (b .1) (drop 1 xs) n .3 .1 h)
   gives (row24 (i, b, f, g, h)) =
       braces-at i b ∙ rw (ne-eqb (peekAt xs 1) (code "=") f, ne-eqb (peekAt xs 1) (code "~") g, ne-eqb (peekAt xs 1) end h)
   gives (row25 (i, b)) = braces-at i b
@@ -315,7 +321,31 @@ numbers-given r m m′ xs n b = (
     duration-back (Duration k) f = (ap Duration (ap sizeIn f), sym (ap (modeIn m′) f))
     duration-back (Neither k) f = choice.told kindIn f refl (λ h. absurd (omega (arith, h)))
 
--- where no number begins, the rows that make one are not come to
+-- no string begins in brackets
+quote-in-brackets : (c : ℕ) → isQuote c ≡ true → namedInBrackets c ≡ false
+unfolding isSpace isWithin
+quote-in-brackets = one-quote namedInBrackets refl refl refl
+
+pub strings-given : StringsGiven
+strings-given r m m′ xs n q = (λ e. to (m .inside) refl e, from)
+  where
+    there : StringBegins m xs → munched r m xs ≡ Lexeme string (suc n) m′ → StringBegins m xs × IsString r (peekAt xs 0) (drop 1 xs) n × (m′ ≡ mode (m .depth) (m .inside))
+    there b e = let p = back (quotedOf r (peekAt xs 0) (drop 1 xs)) (sym (string-begun r m xs b) ∙ e) in (b, string-given r (peekAt xs 0) q (drop 1 xs) n .0 .0 (p .0), p .1)
+      where
+        back : (v : Quoted) → quotedBy (mode (m .depth) (m .inside)) v ≡ Lexeme string (suc n) m′ → (v ≡ quoting.Closed n) × (m′ ≡ mode (m .depth) (m .inside))
+        back (quoting.Closed k) f = (ap quoting.Closed (omega (arith, ap sizeIn f)), sym (ap (modeIn m′) f))
+        back (quoting.Refused number k) f = choice.told kindIn f refl (λ h. absurd (omega (arith, h)))
+
+    to : (i : Inside) → m .inside ≡ i → munched r m xs ≡ Lexeme string (suc n) m′ → StringBegins m xs × IsString r (peekAt xs 0) (drop 1 xs) n × (m′ ≡ mode (m .depth) (m .inside))
+    to Nothing i e = there (inl i, q) e
+    to Braces i e = there (inr i, q) e
+    to (Brackets seen fresh) i e =
+        choice.told kindIn e (other-in-brackets r m xs (record { seen = seen; fresh = fresh; there = i }) (quote-in-brackets (peekAt xs 0) q)) (λ h. absurd (omega (arith, h)))
+
+    from : StringBegins m xs × IsString r (peekAt xs 0) (drop 1 xs) n × (m′ ≡ mode (m .depth) (m .inside)) → munched r m xs ≡ Lexeme string (suc n) m′
+    from (b, s, e) = string-begun r m xs b ∙ ap₂ quotedBy (sym e) (string-given r (peekAt xs 0) q (drop 1 xs) n .0 .1 s)
+
+-- where no number begins, the rows that make one are not come to, nor that of a string where none begins
 none-begins : (b : Bool) → (b ≡ true → ⊥) → b ≡ false
 none-begins true h = absurd (h refl)
 none-begins false h = refl
@@ -325,32 +355,45 @@ unfolding stepIn outsideTable dotStep isWordStart isQuote isAlpha isSpace isWith
 dot-alone r s d xs h = rw h refl
 
 outside-alone :
-    (r s : Reading) (d : ℕ) (xs : List ℕ) (c : ℕ) → isDigit c ≡ false → (b : Bool) → eqb c (code ".") ≡ b → (b ≡ true → isDigit (peekAt xs 1) ≡ false) →
+    (r s : Reading) (d : ℕ) (xs : List ℕ) (c : ℕ) → isQuote c ≡ false → isDigit c ≡ false → (b : Bool) → eqb c (code ".") ≡ b → (b ≡ true → isDigit (peekAt xs 1) ≡ false) →
     stepIn r d Nothing c xs ≡ stepIn s d Nothing c xs
 unfolding stepIn outsideTable
-outside-alone r s d xs c h true e g =
+outside-alone r s d xs c q h true e g =
     let p = eqb-true c (code ".") e in
     ap (λ y. stepIn r d Nothing y xs) p ∙ dot-alone r s d xs (g refl) ∙ sym (ap (λ y. stepIn s d Nothing y xs) p)
-outside-alone r s d xs c h false e g = rw (h, e) refl
+outside-alone r s d xs c q h false e g = rw (q, h, e) refl
 
 brackets-alone : (r s : Reading) (d : ℕ) (seen fresh : Bool) (xs : List ℕ) (c : ℕ) → isDigit c ≡ false → stepIn r d (Brackets seen fresh) c xs ≡ stepIn s d (Brackets seen fresh) c xs
 unfolding stepIn bracketTable
 brackets-alone r s d seen fresh xs c h = rw h refl
 
-braces-alone : (r s : Reading) (d : ℕ) (xs : List ℕ) (c : ℕ) → stepIn r d Braces c xs ≡ stepIn s d Braces c xs
-unfolding stepIn
-braces-alone r s d xs c = refl
+braces-alone : (r s : Reading) (d : ℕ) (xs : List ℕ) (c : ℕ) → isQuote c ≡ false → stepIn r d Braces c xs ≡ stepIn s d Braces c xs
+unfolding stepIn braceTable
+braces-alone r s d xs c q = rw q refl
 
-pub numbers-alone : NumbersAlone
+-- a string that another sign than a backquote opens has escapes
+has-escapes : (r : Reading) (symbol : ℕ) → eqb symbol backquote ≡ false → isRaw r symbol ≡ false
+unfolding isRaw
+has-escapes Crate symbol h = refl
+has-escapes Documented symbol h = h
+
+pub elsewhere-alike : ElsewhereAlike
 unfolding munched
-numbers-alone r s m xs h = go (m .inside) refl
+elsewhere-alike r s m xs h k = go (m .inside) refl (isQuote (peekAt xs 0)) refl
   where
     no-digit : (Outside m ⊎ InBrackets m) → isDigit (peekAt xs 0) ≡ false
     no-digit w = none-begins (isDigit (peekAt xs 0)) (λ d. h (inl (w, d)))
 
-    go : (i : Inside) → m .inside ≡ i → stepIn r (m .depth) (m .inside) (peekAt xs 0) xs ≡ stepIn s (m .depth) (m .inside) (peekAt xs 0) xs
-    go Nothing e =
-        rw e (outside-alone r s (m .depth) xs (peekAt xs 0) (no-digit (inl e)) (eqb (peekAt xs 0) (code ".")) refl (λ p. none-begins (isDigit (peekAt xs 1)) (λ d. h (inr (e, eqb-true (peekAt xs 0) (code ".") p, d)))))
-    go Braces e = rw e (braces-alone r s (m .depth) xs (peekAt xs 0))
-    go (Brackets seen fresh) e =
+    string-alike : StringBegins m xs → munched r m xs ≡ munched s m xs
+    string-alike b =
+        let n = none-begins (eqb (peekAt xs 0) backquote) (λ e. k (b, eqb-true (peekAt xs 0) backquote e)) in
+        string-begun r m xs b ∙ rw (has-escapes r (peekAt xs 0) n, has-escapes s (peekAt xs 0) n) refl ∙ sym (string-begun s m xs b)
+
+    go : (i : Inside) → m .inside ≡ i → (b : Bool) → isQuote (peekAt xs 0) ≡ b → munched r m xs ≡ munched s m xs
+    go Nothing e true q = string-alike (inl e, q)
+    go Nothing e false q =
+        rw e (outside-alone r s (m .depth) xs (peekAt xs 0) q (no-digit (inl e)) (eqb (peekAt xs 0) (code ".")) refl (λ p. none-begins (isDigit (peekAt xs 1)) (λ d. h (inr (e, eqb-true (peekAt xs 0) (code ".") p, d)))))
+    go Braces e true q = string-alike (inr e, q)
+    go Braces e false q = rw e (braces-alone r s (m .depth) xs (peekAt xs 0) q)
+    go (Brackets seen fresh) e b q =
         rw e (brackets-alone r s (m .depth) seen fresh xs (peekAt xs 0) (no-digit (inr (record { seen = seen; fresh = fresh; there = e }))))

@@ -99,13 +99,13 @@ module _ (m : Mode) (xs : List ℕ) where
       (λ f. either (Goes m xs) (eqb (peekAt xs 1) end) (λ g. first) (λ g. behind 0 (omega arith)))
 
   module _ (h : peekAt xs 0 < 0x80) where
-    string-goes : Goes m xs (quotedStep m xs)
+    string-goes : (r : Reading) → Goes m xs (quotedStep r m xs)
     unfolding quotedStep
-    string-goes = go (quotedOf (peekAt xs 0) (drop 1 xs)) (string-within (peekAt xs 0) (drop 1 xs) h)
+    string-goes r = go (quotedOf r (peekAt xs 0) (drop 1 xs)) (string-within r (peekAt xs 0) (drop 1 xs) h)
       where
-        go : (r : Quoted) → Lies (drop 1 xs) r → Goes m xs (quotedBy m r)
+        go : (q : Quoted) → Lies (drop 1 xs) q → Goes m xs (quotedBy m q)
         go (quoting.Closed n) l = past-edge xs (suc n) (omega arith) (edge-next xs h (l .1))
-        go (quoting.Refused r n) l = edge-next xs h l
+        go (quoting.Refused number n) l = edge-next xs h l
 
     -- two bytes, the second of them ASCII, or another step
     two-goes : (c k : ℕ) (s : Step) → c < 0x80 → Goes m xs s → Goes m xs (ifNext xs c (Lexeme k 2 m) s)
@@ -170,7 +170,7 @@ module _ (r : Reading) (d : ℕ) (xs : List ℕ) where
       by-rows (Going Nothing) (peekAt xs 0) (outsideTable r d) 19
       (λ h. past-run xs (start-ascii (peekAt xs 0) h) Word (class-ascii Word refl))
       (λ h. past-one xs (space-ascii (peekAt xs 0) h))
-      (λ h. string-goes here xs (quote-ascii (peekAt xs 0) h))
+      (λ h. string-goes here xs (quote-ascii (peekAt xs 0) h) r)
       (λ h. number-goes here xs r here (rw h))
       (λ h. end-goes (eqb-true (peekAt xs 0) end h))
       (λ h. past-comment xs (ascii-sign (code "#") (omega arith) h))
@@ -199,10 +199,10 @@ module _ (r : Reading) (d : ℕ) (xs : List ℕ) where
   unfolding stepIn braceTable braceWord commentStep
   brace-goes =
       let here = mode d Braces in
-      by-rows (Going Braces) (peekAt xs 0) (braceTable d) 26
+      by-rows (Going Braces) (peekAt xs 0) (braceTable r d) 26
       (λ h. past-run xs (alpha-ascii (peekAt xs 0) h) AlphaNumeric (class-ascii AlphaNumeric refl))
       (λ h. past-one xs (space-ascii (peekAt xs 0) h))
-      (λ h. string-goes here xs (quote-ascii (peekAt xs 0) h))
+      (λ h. string-goes here xs (quote-ascii (peekAt xs 0) h) r)
       (λ h. first)
       (λ h. past-comment xs (ascii-sign (code "#") (omega arith) h))
       (λ h. first)

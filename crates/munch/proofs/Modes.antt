@@ -36,13 +36,13 @@ module _ (d : ℕ) (i : Inside) (m : Mode) (xs : List ℕ) (b : Behind d i m) wh
       go (Duration n) = b
       go (Neither n) = tt
 
-  string-leads : LeadsTo d i (quotedStep m xs)
+  string-leads : (r : Reading) → LeadsTo d i (quotedStep r m xs)
   unfolding quotedStep
-  string-leads = go (quotedOf (peekAt xs 0) (drop 1 xs))
+  string-leads r = go (quotedOf r (peekAt xs 0) (drop 1 xs))
     where
-      go : (r : Quoted) → LeadsTo d i (quotedBy m r)
+      go : (q : Quoted) → LeadsTo d i (quotedBy m q)
       go (quoting.Closed n) = b
-      go (quoting.Refused r n) = tt
+      go (quoting.Refused number n) = tt
 
 -- one step or another
 next-leads : (d : ℕ) (i : Inside) (xs : List ℕ) (c : ℕ) (s t : Step) → LeadsTo d i s → LeadsTo d i t → LeadsTo d i (ifNext xs c s t)
@@ -57,7 +57,7 @@ module _ (r : Reading) (d : ℕ) (xs : List ℕ) where
       by-rows (λ step. LeadsTo d Nothing (step xs)) (peekAt xs 0) (outsideTable r d) 19
       (λ h. tt)
       (λ h. refl)
-      (λ h. string-leads d Nothing here xs tt)
+      (λ h. string-leads d Nothing here xs tt r)
       (λ h. number-leads d Nothing here xs tt r)
       (λ h. either (LeadsTo d Nothing) (eqb d 0) (λ e. refl) (λ e. tt))
       (λ h. tt)
@@ -87,10 +87,10 @@ module _ (r : Reading) (d : ℕ) (xs : List ℕ) where
   brace-leads =
       let stays : Behind d Braces (mode d Braces) = inr refl in
       let next = next-leads d Braces xs in
-      by-rows (λ step. LeadsTo d Braces (step xs)) (peekAt xs 0) (braceTable d) 26
+      by-rows (λ step. LeadsTo d Braces (step xs)) (peekAt xs 0) (braceTable r d) 26
       (λ h. stays)
       (λ h. refl)
-      (λ h. string-leads d Braces (mode d Braces) xs stays)
+      (λ h. string-leads d Braces (mode d Braces) xs stays r)
       (λ h. tt)
       (λ h. tt)
       (λ h. tt)

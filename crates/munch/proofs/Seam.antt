@@ -142,13 +142,13 @@ module _ (x : ℕ) (xs ys : List ℕ) where
     unfolding dotStep
     dot-seam r = next-seam isDigit digit-line (number-seam r) (refusals-seam (eqb (peekAt (x ∷ xs) 1) end) 15 0 14 1 _)
 
-    quoted-seam : Seamed (quotedStep m (x ∷ xs)) (quotedStep m on)
+    quoted-seam : (r : Reading) → Seamed (quotedStep r m (x ∷ xs)) (quotedStep r m on)
     unfolding quotedStep
-    quoted-seam = go (quotedOf x xs) refl
+    quoted-seam r = go (quotedOf r x xs) refl
       where
-        go : (r : Quoted) → quotedOf x xs ≡ r → Seamed (quotedBy m r) (quotedBy m (quotedOf x (lined xs ys)))
-        go (quoting.Closed n) e = rw (string-seam x xs (code "\n" ∷ ys) n e) (same _)
-        go (quoting.Refused r n) e = refused r (suc n) _
+        go : (q : Quoted) → quotedOf r x xs ≡ q → Seamed (quotedBy m q) (quotedBy m (quotedOf r x (lined xs ys)))
+        go (quoting.Closed n) e = rw (string-seam r x xs (code "\n" ∷ ys) n e) (same _)
+        go (quoting.Refused number n) e = refused number (suc n) _
 
     equals-seam : Seamed (equalsStep m (x ∷ xs)) (equalsStep m on)
     unfolding equalsStep
@@ -184,7 +184,7 @@ module _ (x : ℕ) (xs ys : List ℕ) where
         by-rows Seaming x (outsideTable r d) 19
         (λ h. word-seam here)
         (λ h. same _)
-        (λ h. quoted-seam here)
+        (λ h. quoted-seam here r)
         (λ h. number-seam here r)
         (λ h. same _)
         (λ h. comment-seamed)
@@ -213,10 +213,10 @@ module _ (x : ℕ) (xs ys : List ℕ) where
     unfolding stepIn braceTable
     brace-seam =
         let here = mode d Braces in
-        by-rows Seaming x (braceTable d) 26
+        by-rows Seaming x (braceTable r d) 26
         (λ h. brace-word-seam here)
         (λ h. same _)
-        (λ h. quoted-seam here)
+        (λ h. quoted-seam here r)
         (λ h. same _)
         (λ h. comment-seamed)
         (λ h. same _)

@@ -56,7 +56,7 @@ unfolding stepIn bracketTable
 digit-in-brackets r d seen fresh c e = rw (no-space c e, e)
 
 -- what holds at each of the three quotes
-one-quote : {A : Type 0} (f : ℕ → A) {a : A} → f (code "\"") ≡ a → f (code "'") ≡ a → f (code "`") ≡ a → (c : ℕ) → isQuote c ≡ true → f c ≡ a
+pub one-quote : {A : Type 0} (f : ℕ → A) {a : A} → f (code "\"") ≡ a → f (code "'") ≡ a → f (code "`") ≡ a → (c : ℕ) → isQuote c ≡ true → f c ≡ a
 unfolding isQuote
 one-quote f {a} x y z c e = go (tests-or (tests-eq c (code "\"")) (tests-or (tests-eq c (code "'")) (tests-eq c (code "`"))) .0 e)
   where
@@ -65,10 +65,10 @@ one-quote f {a} x y z c e = go (tests-or (tests-eq c (code "\"")) (tests-or (tes
     go (inr (inl p)) = ap f p ∙ y
     go (inr (inr p)) = ap f p ∙ z
 
-pub quote-outside : (r : Reading) (d c : ℕ) → isQuote c ≡ true → stepIn r d Nothing c ≡ quotedStep (mode d Nothing)
+pub quote-outside : (r : Reading) (d c : ℕ) → isQuote c ≡ true → stepIn r d Nothing c ≡ quotedStep r (mode d Nothing)
 unfolding stepIn outsideTable isWordStart isQuote isAlpha isSpace isWithin
 quote-outside r d = one-quote (stepIn r d Nothing) refl refl refl
 
-pub quote-in-braces : (r : Reading) (d c : ℕ) → isQuote c ≡ true → stepIn r d Braces c ≡ quotedStep (mode d Braces)
+pub quote-in-braces : (r : Reading) (d c : ℕ) → isQuote c ≡ true → stepIn r d Braces c ≡ quotedStep r (mode d Braces)
 unfolding stepIn braceTable isQuote isAlpha isSpace isWithin
 quote-in-braces r d = one-quote (stepIn r d Braces) refl refl refl

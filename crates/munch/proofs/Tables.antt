@@ -33,7 +33,7 @@ module _ (r : Reading) (d : ℕ) (xs : List ℕ) where
   abbrev led : ℕ → Step
   led = outsideLed r leadTable wordTable d xs
 
-  class-leads : (led letterLead ≡ wordStepBy leadTable wordTable here xs) × (led colonLead ≡ wordStepBy leadTable wordTable here xs) × (led digitLead ≡ numberStep r here xs) × (led whiteLead ≡ Space here) × (led quoteLead ≡ quotedStep here xs) × (led otherLead ≡ stepFor (otherTable r here) 19 (peekAt xs 0) xs) × (led 0 ≡ led otherLead)
+  class-leads : (led letterLead ≡ wordStepBy leadTable wordTable here xs) × (led colonLead ≡ wordStepBy leadTable wordTable here xs) × (led digitLead ≡ numberStep r here xs) × (led whiteLead ≡ Space here) × (led quoteLead ≡ quotedStep r here xs) × (led otherLead ≡ stepFor (otherTable r here) 19 (peekAt xs 0) xs) × (led 0 ≡ led otherLead)
   unfolding outsideLed isSignLead startsWord isWithin
   class-leads = (refl, refl, refl, refl, refl, refl, refl)
 
@@ -97,7 +97,7 @@ outside-by-tables r d xs =
 no-letter : (c : ℕ) → isSpace c ≡ true → isAlpha c ≡ false
 no-letter c w = sym (letter-tells c) ∙ ap (λ (l : ℕ). eqb l letterLead) (eqb-true (leadIn leadTable c) whiteLead (white-tells c ∙ w))
 
-in-braces : (r : Reading) (d : ℕ) (xs : List ℕ) (c : ℕ) → peekAt xs 0 ≡ c → isEnd c ≡ false → braceLed leadTable d xs (leadIn leadTable c) ≡ stepIn r d Braces c xs
+in-braces : (r : Reading) (d : ℕ) (xs : List ℕ) (c : ℕ) → peekAt xs 0 ≡ c → isEnd c ≡ false → braceLed r leadTable d xs (leadIn leadTable c) ≡ stepIn r d Braces c xs
 unfolding braceLed stepIn braceTable braceSigns
 in-braces r d xs c e n =
     let P : Step → Type 0 = λ s. s ≡ stepIn r d Braces c xs in

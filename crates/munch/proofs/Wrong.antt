@@ -23,7 +23,7 @@ use Rattle.token.specs.Words.{_names_, words, kindIn, keywordOf}
 use Rattle.token.specs.steps.Padded.{padded}
 use Rattle.token.specs.steps.WordRows.{wordRow, tableSize, rowOfWord, slotOf, isRow, foundAt, keywordIn}
 use Rattle.numeral.specs.Numeral.{isHex, fractionEnd, exponentEnd, numberEnd, isUnit, numeralOf}
-use Rattle.quoted.specs.Quoted.{quotedFrom, commentEnd}
+use Rattle.quoted.specs.Quoted.{isEscape, quotedFrom, isRaw, rawFrom, commentEnd}
 use Rattle.munch.specs.Word.{isWordStart, isFill, ruleBy, isOr, braceRule, kindBy}
 use Rattle.munch.specs.declared.Inside.the-variants.{Nothing, Braces, Brackets}
 use Rattle.munch.specs.declared.Mode.{Mode}
@@ -45,7 +45,7 @@ use Rattle.munch.proofs.munch.Reads as munch-reads
 
 -- what computes at the bytes that are left
 munching : Unit {0}
-unfolding munched outsideBy outsideLed braceBy braceLed leadTable leadsFrom leadOf signLead isSignLead startsWord braceWordBy braceSigns stepIn outsideTable braceTable bracketTable quotedStep commentStep wordStep wordStepBy braceWord numberStep bangStep rightParenStep endStep dotStep colonStep isWordStart isQuote isFill ruleBy isOr braceRule kindBy keywordIn foundAt isRow slotOf padded keywordOf words kindIn quotedFrom commentEnd numeralOf numberEnd exponentEnd fractionEnd isHex isUnit separatedLength charsPast sizeOf charLength sizeIn fits codeOf isWithin isIn isSpace isAlpha isAlphaNumeric isWord isLine lowered runLength sameText has
+unfolding munched outsideBy outsideLed braceBy braceLed leadTable leadsFrom leadOf signLead isSignLead startsWord braceWordBy braceSigns stepIn outsideTable braceTable bracketTable quotedStep commentStep wordStep wordStepBy braceWord numberStep bangStep rightParenStep endStep dotStep colonStep isWordStart isQuote isFill ruleBy isOr braceRule kindBy keywordIn foundAt isRow slotOf padded keywordOf words kindIn isEscape quotedFrom isRaw rawFrom commentEnd numeralOf numberEnd exponentEnd fractionEnd isHex isUnit separatedLength charsPast sizeOf charLength sizeIn fits codeOf isWithin isIn isSpace isAlpha isAlphaNumeric isWord isLine lowered runLength sameText has
 munching = tt
 
 abbrev outside-step-gives : Reading → List ℕ → List ℕ → List ℕ → ℕ → Step → Type 0
@@ -83,24 +83,48 @@ pub number-with-a-separator-begins-no-duration : outside-step-gives Documented l
 unfolding munching
 number-with-a-separator-begins-no-duration = outside-step-at _ _ _ _ _
 
-abbrev brace-step-gives : List ℕ → List ℕ → ℕ → Step → Type 0
-brace-step-gives leads xs d v =
-    Answers brace-step.ps brace-step.r brace-step-reads.Post (λ κs a. (now (a .0) ≡ leads) × (now (a .1 .0) ≡ xs) × (a .1 .1 .0 ≡ d)) (λ κs. v)
-
-brace-step-at : (leads xs : List ℕ) (d : ℕ) → brace-step-gives leads xs d (braceBy leads d xs)
-brace-step-at leads xs d κs a x e p h = cc (p, h .0, h .1, h .2)
-
-pub word-in-braces-ends-before-a-colon : brace-step-gives leadTable (ascii "a1:") 0 (Lexeme identifier 2 (mode 0 Braces))
+pub backslash-begins-an-escape-outside-in-the-crate-reading : outside-step-gives Crate leadTable [] (ascii "`\\d`") 0 (Refused 21 2)
 unfolding munching
-word-in-braces-ends-before-a-colon = brace-step-at _ _ _
+backslash-begins-an-escape-outside-in-the-crate-reading = outside-step-at _ _ _ _ _
 
-pub digit-begins-nothing-in-braces : brace-step-gives leadTable (ascii "0") 0 (Refused 26 0)
+pub backslash-is-itself-outside-in-the-documented-reading : outside-step-gives Documented leadTable [] (ascii "`\\d`") 0 (Lexeme string 4 outside)
 unfolding munching
-digit-begins-nothing-in-braces = brace-step-at _ _ _
+backslash-is-itself-outside-in-the-documented-reading = outside-step-at _ _ _ _ _
 
-pub end-in-braces-is-told-apart : brace-step-gives leadTable [] 0 (Refused 27 0)
+pub backquote-behind-a-backslash-closes-outside : outside-step-gives Documented leadTable [] (ascii "`\\``") 0 (Lexeme string 3 outside)
 unfolding munching
-end-in-braces-is-told-apart = brace-step-at _ _ _
+backquote-behind-a-backslash-closes-outside = outside-step-at _ _ _ _ _
+
+abbrev brace-step-gives : Reading → List ℕ → List ℕ → ℕ → Step → Type 0
+brace-step-gives r leads xs d v =
+    Answers brace-step.ps brace-step.r brace-step-reads.Post (λ κs a. (now (a .0) ≡ leads) × (now (a .1 .0) ≡ xs) × (a .1 .1 .0 ≡ r) × (a .1 .1 .1 .0 ≡ d)) (λ κs. v)
+
+brace-step-at : (r : Reading) (leads xs : List ℕ) (d : ℕ) → brace-step-gives r leads xs d (braceBy r leads d xs)
+brace-step-at r leads xs d κs a x e p h = cc (p, h .0, h .1, h .2, h .3)
+
+pub word-in-braces-ends-before-a-colon : brace-step-gives Crate leadTable (ascii "a1:") 0 (Lexeme identifier 2 (mode 0 Braces))
+unfolding munching
+word-in-braces-ends-before-a-colon = brace-step-at _ _ _ _
+
+pub digit-begins-nothing-in-braces : brace-step-gives Crate leadTable (ascii "0") 0 (Refused 26 0)
+unfolding munching
+digit-begins-nothing-in-braces = brace-step-at _ _ _ _
+
+pub end-in-braces-is-told-apart : brace-step-gives Crate leadTable [] 0 (Refused 27 0)
+unfolding munching
+end-in-braces-is-told-apart = brace-step-at _ _ _ _
+
+pub backslash-begins-an-escape-in-braces-in-the-crate-reading : brace-step-gives Crate leadTable (ascii "`\\d`") 0 (Refused 21 2)
+unfolding munching
+backslash-begins-an-escape-in-braces-in-the-crate-reading = brace-step-at _ _ _ _
+
+pub backslash-is-itself-in-braces-in-the-documented-reading : brace-step-gives Documented leadTable (ascii "`\\d`") 0 (Lexeme string 4 (mode 0 Braces))
+unfolding munching
+backslash-is-itself-in-braces-in-the-documented-reading = brace-step-at _ _ _ _
+
+pub backquote-behind-a-backslash-closes-in-braces : brace-step-gives Documented leadTable (ascii "`\\``") 0 (Lexeme string 3 (mode 0 Braces))
+unfolding munching
+backquote-behind-a-backslash-closes-in-braces = brace-step-at _ _ _ _
 
 abbrev bracket-step-gives : Reading → List ℕ → ℕ → Bool → Bool → Step → Type 0
 bracket-step-gives r xs d seen fresh v =
@@ -252,3 +276,23 @@ separator-behind-a-point-is-no-digit = munch-at _ _ _
 pub documented-reading-takes-separators-in-brackets : munch-gives Documented (ascii "1_0") (mode 0 (Brackets false false)) (Lexeme number 3 (mode 0 (Brackets false false)))
 unfolding munching
 documented-reading-takes-separators-in-brackets = munch-at _ _ _
+
+pub documented-reading-has-no-escapes-between-backquotes : munch-gives Documented (ascii "`\\d`") outside (Lexeme string 4 outside)
+unfolding munching
+documented-reading-has-no-escapes-between-backquotes = munch-at _ _ _
+
+pub documented-reading-has-no-escapes-between-backquotes-in-braces : munch-gives Documented (ascii "`\\d`") (mode 0 Braces) (Lexeme string 4 (mode 0 Braces))
+unfolding munching
+documented-reading-has-no-escapes-between-backquotes-in-braces = munch-at _ _ _
+
+pub unknown-escape-between-backquotes-is-refused-in-the-crate-reading : munch-gives Crate (ascii "`\\d`") outside (Refused 21 2)
+unfolding munching
+unknown-escape-between-backquotes-is-refused-in-the-crate-reading = munch-at _ _ _
+
+pub unknown-escape-between-backquotes-is-refused-in-braces-in-the-crate-reading : munch-gives Crate (ascii "`\\d`") (mode 0 Braces) (Refused 21 2)
+unfolding munching
+unknown-escape-between-backquotes-is-refused-in-braces-in-the-crate-reading = munch-at _ _ _
+
+pub other-strings-keep-their-escapes : munch-gives Documented (ascii "'\\d'") outside (Refused 21 2)
+unfolding munching
+other-strings-keep-their-escapes = munch-at _ _ _

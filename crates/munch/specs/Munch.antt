@@ -1,6 +1,6 @@
--- One step of reading a query: what the bytes that are left begin with, in a mode and in a reading, by which numbers alone differ. Document 01,
--- "Lexing rules", and document 02, L2; 01's refusals 10 to 32, of which "11, 12 and 14 to 18 are given only outside braces and brackets, 13 also in
--- braces". The three tables say what each first byte does.
+-- One step of reading a query: what the bytes that are left begin with, in a mode and in a reading, by which numbers and backquoted strings alone
+-- differ. Document 01, "Lexing rules", and document 02, L2 and L5; 01's refusals 10 to 32, of which "11, 12 and 14 to 18 are given only outside braces
+-- and brackets, 13 also in braces". The three tables say what each first byte does.
 -- A refusal's place is its offset in the bytes that are left: "it" is 0, or 1 behind a `!`; "end" is where they end, which is 1 behind a `!`.
 use Prim.Native.Nat.{ℕ, suc, _-_}
 use Prim.Native.Char.{Char, code}
@@ -79,8 +79,8 @@ abbrev pub quotedBy : Mode → Quoted → Step
 quotedBy m (quoting.Closed n) = Lexeme string (suc n) m
 quotedBy m (quoting.Refused refusal n) = Refused refusal (suc n)
 
-unfoldable pub quotedStep : Mode → List ℕ → Step
-quotedStep m xs = quotedBy m (quotedOf (peekAt xs 0) (drop 1 xs))
+unfoldable pub quotedStep : Reading → Mode → List ℕ → Step
+quotedStep r m xs = quotedBy m (quotedOf r (peekAt xs 0) (drop 1 xs))
 
 unfoldable pub commentStep : List ℕ → Step
 commentStep xs = Comment (suc (commentEnd (drop 1 xs)))
@@ -152,7 +152,7 @@ outsideTable r d =
     let here = mode d Nothing in
     row isWordStart (wordStep here)
     ∷ row isSpace (white here)
-    ∷ row isQuote (quotedStep here)
+    ∷ row isQuote (quotedStep r here)
     ∷ row isDigit (numberStep r here)
     ∷ row isEnd (always (endStep d))
     ∷ row (is "#") commentStep
@@ -178,12 +178,12 @@ outsideTable r d =
     ∷ []
 
 -- in braces, which "also hold white space, comments, strings, `, = =~ != !~`, nothing else"; 25 "`{` in braces"; 27 "end in braces"
-unfoldable pub braceTable : ℕ → List Opening
-braceTable d =
+unfoldable pub braceTable : Reading → ℕ → List Opening
+braceTable r d =
     let here = mode d Braces in
     row isAlpha (braceWord here)
     ∷ row isSpace (white here)
-    ∷ row isQuote (quotedStep here)
+    ∷ row isQuote (quotedStep r here)
     ∷ row isEnd (refuse 27)
     ∷ row (is "#") commentStep
     ∷ row (is "{") (refuse 25)
@@ -210,7 +210,7 @@ bracketTable r d seen fresh =
 -- 19, 26, 31 "other character outside, in braces, in brackets"
 unfoldable pub stepIn : Reading → ℕ → Inside → ℕ → List ℕ → Step
 stepIn r d Nothing = stepFor (outsideTable r d) 19
-stepIn r d Braces = stepFor (braceTable d) 26
+stepIn r d Braces = stepFor (braceTable r d) 26
 stepIn r d (Brackets seen fresh) = stepFor (bracketTable r d seen fresh) 31
 
 -- the step, by the first of the bytes that are left, or their end

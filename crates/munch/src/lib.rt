@@ -247,7 +247,7 @@ pub fn outside_step(
         return number_by(numeral::scan_number(s, reading), here);
     }
     if lead == lead::QUOTE {
-        return quoted_by(quoted::accept_string(s[0], &s[1..]), here);
+        return quoted_by(quoted::accept_string(s[0], &s[1..], reading), here);
     }
     other_step(s, reading, here)
 }
@@ -270,8 +270,8 @@ fn brace_sign(s: &[u8], depth: usize) -> Step
 }
 
 // A step in braces, by the table of leads.
-pub fn brace_step(leads: &[u8; BYTES], s: &[u8], depth: usize) -> Step
-    ensures { λ r. ⌜ r ≡ braceBy (now (leads .entry)) depth (now (s .entry)) ⌝ }
+pub fn brace_step(leads: &[u8; BYTES], s: &[u8], reading: Reading, depth: usize) -> Step
+    ensures { λ r. ⌜ r ≡ braceBy reading (now (leads .entry)) depth (now (s .entry)) ⌝ }
 {
     let here = in_mode(depth, Inside::Braces);
     if s.len() == 0 {
@@ -285,7 +285,7 @@ pub fn brace_step(leads: &[u8; BYTES], s: &[u8], depth: usize) -> Step
         return brace_word(leads, s, here);
     }
     if lead == lead::QUOTE {
-        return quoted_by(quoted::accept_string(s[0], &s[1..]), here);
+        return quoted_by(quoted::accept_string(s[0], &s[1..], reading), here);
     }
     brace_sign(s, depth)
 }
@@ -345,7 +345,7 @@ pub fn munch(s: &[u8], reading: Reading, mode: Mode) -> Step
     let inside = mode.inside;
     match inside {
         Inside::Nothing => outside_step(&leads, &words, s, reading, mode.depth),
-        Inside::Braces => brace_step(&leads, s, mode.depth),
+        Inside::Braces => brace_step(&leads, s, reading, mode.depth),
         Inside::Brackets { seen, fresh } => bracket_step(s, reading, mode.depth, seen, fresh),
     }
 }

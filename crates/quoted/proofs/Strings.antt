@@ -15,9 +15,9 @@ use Rattle.proving.proofs.Choice.{either}
 use Rattle.scan.proofs.Edges.{one-ascii}
 use Rattle.quoted.specs.declared.Quoted.{Quoted}
 use Rattle.quoted.specs.declared.Quoted.the-variants.{Closed}
-use Rattle.quoted.specs.Quoted.{isEscape, quotedFrom}
+use Rattle.quoted.specs.Quoted.{isEscape, quotedFrom, isRaw, rawFrom}
 use Rattle.quoted.specs.laws.Quoted.{Lies, StringWithin, Numbered, StringNumbered, StringSeam}
-use Rattle.quoted.proofs.Turns.{past-end, escaped-turn, plain-turn}
+use Rattle.quoted.proofs.Turns.{past-end, escaped-turn, plain-turn, raw-end, raw-turn}
 
 -- behind an ASCII byte is an edge
 past : (xs : List ℕ) (n y : ℕ) → y < 0x80 → eqb (peekAt xs n) y ≡ true → Edge xs (n + 1)
@@ -36,8 +36,16 @@ module _ (symbol : ℕ) (xs : List ℕ) (a : symbol < 0x80) where
       (either (Lies xs) (eqb (peekAt xs n) symbol) (λ f. (omega arith, past xs n symbol a f))
       (λ f. lies k (n + 1) (eqb (peekAt xs n) backslash) (omega arith) (past xs n backslash (omega arith))))
 
+  -- and so of a string without escapes, which ends behind its sign or at the end
+  raw-lies : (k n : ℕ) → n + k ≡ length xs → Lies xs (rawFrom symbol n (drop n xs))
+  raw-lies zero n e = rw (raw-end symbol n xs (omega arith)) (subst (Edge xs) (omega arith) last)
+  raw-lies (suc k) n e =
+      rw (raw-turn symbol n xs end (omega arith))
+      (either (Lies xs) (eqb (peekAt xs n) symbol) (λ f. (omega arith, past xs n symbol a f)) (λ f. raw-lies k (n + 1) (omega arith)))
+
 pub string-within : StringWithin
-string-within symbol xs a = lies symbol xs a (length xs) 0 false (omega arith) (λ e. first)
+string-within r symbol xs a =
+    either (Lies xs) (isRaw r symbol) (λ e. raw-lies symbol xs a (length xs) 0 (omega arith)) (λ e. lies symbol xs a (length xs) 0 false (omega arith) (λ f. first))
 
 -- each end of the definition is closed, or refused with one of the three numbers
 numbered : (symbol : ℕ) (escaped : Bool) (n : ℕ) (xs : List ℕ) → Numbered (quotedFrom symbol escaped n xs)
@@ -47,8 +55,13 @@ numbered symbol true n (x ∷ xs) = either Numbered (isEscape symbol x) (λ e. n
 numbered symbol false n [] = inr (inr refl)
 numbered symbol false n (x ∷ xs) = either Numbered (eqb x symbol) (λ e. tt) (λ e. numbered symbol (eqb x backslash) (n + 1) xs)
 
+raw-numbered : (symbol n : ℕ) (xs : List ℕ) → Numbered (rawFrom symbol n xs)
+unfolding rawFrom
+raw-numbered symbol n [] = inr (inr refl)
+raw-numbered symbol n (x ∷ xs) = either Numbered (eqb x symbol) (λ e. tt) (λ e. raw-numbered symbol (n + 1) xs)
+
 pub string-numbered : StringNumbered
-string-numbered symbol = numbered symbol false 0
+string-numbered r symbol xs = either Numbered (isRaw r symbol) (λ e. raw-numbered symbol 0 xs) (λ e. numbered symbol false 0 xs)
 
 -- what each arm of a choice keeps, the choice keeps
 kept : (b : Bool) {u v w z r : Quoted} → (u ≡ r → w ≡ r) → (v ≡ r → z ≡ r) → cond b u v ≡ r → cond b w z ≡ r
@@ -63,5 +76,10 @@ closed-stays symbol [] ys false n r h = cc
 closed-stays symbol (x ∷ xs) ys true n r h = kept (isEscape symbol x) (closed-stays symbol xs ys false (n + 1) r) (λ e. e) h
 closed-stays symbol (x ∷ xs) ys false n r h = kept (eqb x symbol) (λ e. e) (closed-stays symbol xs ys (eqb x backslash) (n + 1) r) h
 
+raw-stays : (symbol : ℕ) (xs ys : List ℕ) (n r : ℕ) → rawFrom symbol n xs ≡ Closed r → rawFrom symbol n (xs ++ ys) ≡ Closed r
+unfolding rawFrom
+raw-stays symbol [] ys n r h = cc
+raw-stays symbol (x ∷ xs) ys n r h = kept (eqb x symbol) (λ e. e) (raw-stays symbol xs ys (n + 1) r) h
+
 pub string-seam : StringSeam
-string-seam symbol xs ys n = closed-stays symbol xs ys false 0 n
+string-seam r symbol xs ys n = kept (isRaw r symbol) (raw-stays symbol xs ys 0 n) (closed-stays symbol xs ys false 0 n)

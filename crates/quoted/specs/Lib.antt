@@ -1,2 +1,3 @@
 pub mod Quoted
+pub mod Texts
 pub mod laws

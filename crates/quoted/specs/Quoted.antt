@@ -1,4 +1,4 @@
--- Strings and comments by the bytes behind the sign that opens them: document 01, "Lexing rules", and its rows 21 to 23.
+-- Strings and comments by the bytes behind the sign that opens them: document 01, "Lexing rules", and its rows 21 to 23, and document 02, L5.
 use Prim.Native.Nat.{ℕ, suc, _+_}
 use mathlib.Core.Bool.{Bool, true, false, cond, _||_}
 use mathlib.Core.List.{List, [], _∷_}
@@ -6,9 +6,11 @@ use lib.Dec.{eqb, ltb}
 use lib.ListN.{length}
 use Rattle.scan.specs.declared.byte.Class.the-variants.{Line}
 use Rattle.scan.specs.Ascii.{ascii}
-use Rattle.scan.specs.Byte.{backslash, isIn}
+use Rattle.scan.specs.Byte.{backslash, backquote, isIn}
 use Rattle.scan.specs.Run.{runEnd}
 use Rattle.scan.specs.Text.{has}
+use Rattle.utf8.specs.declared.Reading.{Reading}
+use Rattle.utf8.specs.declared.Reading.the-variants.{Crate, Documented}
 use Rattle.quoted.specs.declared.Quoted.{Quoted}
 use Rattle.quoted.specs.declared.Quoted.the-variants.{Closed, Refused}
 
@@ -33,8 +35,20 @@ quotedFrom symbol true n (x ∷ xs) = cond (isEscape symbol x) (quotedFrom symbo
 quotedFrom symbol false n [] = Refused endInString n
 quotedFrom symbol false n (x ∷ xs) = cond (eqb x symbol) (Closed (n + 1)) (quotedFrom symbol (eqb x backslash) (n + 1) xs)
 
-abbrev pub quotedOf : ℕ → List ℕ → Quoted
-quotedOf symbol xs = quotedFrom symbol false 0 xs
+-- L5: "In the documented reading the lexer ends a backquoted string at the next backquote and treats a backslash as itself."
+unfoldable pub isRaw : Reading → ℕ → Bool
+isRaw Crate symbol = false
+isRaw Documented symbol = eqb symbol backquote
+
+unfoldable pub rawFrom : ℕ → ℕ → List ℕ → Quoted
+rawFrom symbol n [] = Refused endInString n
+rawFrom symbol n (x ∷ xs) = cond (eqb x symbol) (Closed (n + 1)) (rawFrom symbol (n + 1) xs)
+
+abbrev pub escapedOf : ℕ → List ℕ → Quoted
+escapedOf symbol xs = quotedFrom symbol false 0 xs
+
+abbrev pub quotedOf : Reading → ℕ → List ℕ → Quoted
+quotedOf r symbol xs = cond (isRaw r symbol) (rawFrom symbol 0 xs) (escapedOf symbol xs)
 
 -- "A comment runs from `#` through the first CR or LF, or to the end"
 unfoldable pub commentEnd : List ℕ → ℕ

@@ -494,6 +494,45 @@ const SEPARATED: &[&str] = &[
     "1_0.",
 ];
 
+/// Backslashes between backquotes and elsewhere: before what they escape and what they do not, before the closing backquote and at the
+/// end; alone, in braces, in parentheses, in comments and within other signs.
+const BACKQUOTED: &[&str] = &[
+    "`\\d`",
+    "`\\``",
+    "`\\`",
+    "`\\",
+    "`\\\\`",
+    "`\\\\``",
+    "`\\```",
+    "`\\n\\q\\8`",
+    "`\\\n`",
+    "`\\\u{e9}` \u{e9}",
+    "`\u{20ac}\\` \\",
+    "`\\d",
+    "`\u{10ffff}\\\\",
+    "`\\`\"",
+    "`\\` '`",
+    "`\\`#`",
+    "`\\`[`]",
+    "`\\`5x`",
+    "`a\\``\\b`",
+    "{a=~`\\d+\\.\\w*`}",
+    "{a=`\\`}",
+    "{a=`\\`,b=`\\`}",
+    "{`\\q",
+    "(`\\(`)",
+    "(`\\`",
+    "rate(a{path!~`/v\\d/.*`}[5m]) # `\\",
+    "#`\\\n`\\#`",
+    "\"`\\d`\"",
+    "\"`\\\"`\\`",
+    "'\\`'",
+    "[`\\d`",
+    "5m3 `\\",
+    "`\\d` 1_0",
+    "`\\1_` 1__0",
+];
+
 /// The recorded lines.
 pub fn inputs() -> Vec<String> {
     let mut lines: Vec<String> = BY_HAND.iter().map(|line| line.to_string()).collect();
@@ -515,7 +554,8 @@ pub fn inputs() -> Vec<String> {
     );
     lines.extend(long());
     lines.extend(SEPARATED.iter().map(|text| line(text.as_bytes())));
-    let documented = [SEPARATED, NUMBERS, &QUERIES].concat();
+    lines.extend(BACKQUOTED.iter().map(|text| line(text.as_bytes())));
+    let documented = [SEPARATED, BACKQUOTED, NUMBERS, STRINGS, &QUERIES].concat();
     lines.extend(
         documented
             .iter()

@@ -54,7 +54,7 @@ returns-2 : tie.Need-returns-2
 returns-2 c =
     let w = c .before .before .before .before .before .before .braces .ensures in
     let e = so (c .before .before .before .before .before .before .before .before .before .before .before .before .before .before .before .before .args .next) (c .before .before .before .before .before .before .before .before .before .before .enum-told2 .given .1) in
-    (w .0, leads-on (same-mode _ _ _ e) (w .1 _))
+    (w .0, leads-on (same-mode _ _ _ e) (w .1))
 
 same-length-4 : tie.Need-same-length-4
 same-length-4 c = search needs

@@ -19,7 +19,7 @@ module _ (c : tie.After-shared-slice-known2) where
   there : 0 < length (now (c .before .before .before .before .args .s))
   there = omega arith
 
-  led : let a = c .before .before .before .before .args in braceBy (now (a .leads)) (a .depth) (now (a .s)) ≡ braceLed (now (a .leads)) (a .depth) (now (a .s)) (getD (now (a .leads)) (getD (now (a .s)) 0 0) 0)
+  led : let a = c .before .before .before .before .args in braceBy (a .reading) (now (a .leads)) (a .depth) (now (a .s)) ≡ braceLed (a .reading) (now (a .leads)) (a .depth) (now (a .s)) (getD (now (a .leads)) (getD (now (a .s)) 0 0) 0)
   unfolding braceBy
   led =
       let s = now (c .before .before .before .before .args .s) in
@@ -71,11 +71,11 @@ accept-string-requires : tie.Need-accept-string-requires
 accept-string-requires c κs = search needs
 
 quoted-by-requires : tie.Need-quoted-by-requires
-quoted-by-requires c κs = let s = now (c .before .before .before .before .before .before .before .before .before .before .before .args .s) in rw (c .accept-string .ensures) (omega (arith, string-ends s (there (c .before .before .before .before .before .before .before))))
+quoted-by-requires c κs = let a = c .before .before .before .before .before .before .before .before .before .before .before .args in rw (c .accept-string .ensures) (omega (arith, string-ends (a .reading) (now (a .s)) (there (c .before .before .before .before .before .before .before))))
 
 returns-4 : tie.Need-returns-4
 unfolding braceLed quotedStep
-returns-4 c = c .quoted-by .ensures ∙ rw (c .before .accept-string .ensures, string-there (now (c .before .before .before .before .before .before .before .before .before .before .before .before .args .s)) (there (c .before .before .before .before .before .before .before .before)), led (c .before .before .before .before .before .before .before .before), c .before .before .before .before .before .before .before .before .before .before .in-mode .ensures, ne-eqb _ _ (c .before .before .before .before .before .before .if2 .left), ne-eqb _ _ (c .before .before .before .before .before .if3 .left), eq-eqb _ _ (c .before .before .before .before .if4 .taken))
+returns-4 c = let a = c .before .before .before .before .before .before .before .before .before .before .before .before .args in c .quoted-by .ensures ∙ rw (c .before .accept-string .ensures, string-there (a .reading) (now (a .s)) (there (c .before .before .before .before .before .before .before .before)), led (c .before .before .before .before .before .before .before .before), c .before .before .before .before .before .before .before .before .before .before .in-mode .ensures, ne-eqb _ _ (c .before .before .before .before .before .before .if2 .left), ne-eqb _ _ (c .before .before .before .before .before .if3 .left), eq-eqb _ _ (c .before .before .before .before .if4 .taken))
 
 brace-sign-requires : tie.Need-brace-sign-requires
 brace-sign-requires c κs = search needs

@@ -101,11 +101,11 @@ accept-string-requires : tie.Need-accept-string-requires
 accept-string-requires c κs = search needs
 
 quoted-by-requires : tie.Need-quoted-by-requires
-quoted-by-requires c κs = let s = now (c .before .before .before .before .before .before .before .before .before .before .before .before .before .before .before .before .args .s) in rw (c .accept-string .ensures) (omega (arith, string-ends s (there (c .before .before .before .before .before .before .before .before .before .before .before))))
+quoted-by-requires c κs = let a = c .before .before .before .before .before .before .before .before .before .before .before .before .before .before .before .before .args in rw (c .accept-string .ensures) (omega (arith, string-ends (a .reading) (now (a .s)) (there (c .before .before .before .before .before .before .before .before .before .before .before))))
 
 returns-6 : tie.Need-returns-6
 unfolding outsideLed quotedStep
-returns-6 c = c .quoted-by .ensures ∙ rw (c .before .accept-string .ensures, string-there (now (c .before .before .before .before .before .before .before .before .before .before .before .before .before .before .before .before .before .args .s)) (there (c .before .before .before .before .before .before .before .before .before .before .before .before)), led (c .before .before .before .before .before .before .before .before .before .before .before .before), c .before .before .before .before .before .before .before .before .before .before .before .before .before .before .in-mode .ensures, ne-eqb _ _ (c .before .before .before .before .before .before .before .before .before .before .if2 .left), ← c .before .before .before .before .before .before .before .before .before .is-sign .ensures, c .before .before .before .before .before .before .before .before .if3 .left, ← c .before .before .before .before .before .before .before .starts-word .ensures, c .before .before .before .before .before .before .if4 .left, ne-eqb _ _ (c .before .before .before .before .before .if5 .left), eq-eqb _ _ (c .before .before .before .before .if6 .taken))
+returns-6 c = let a = c .before .before .before .before .before .before .before .before .before .before .before .before .before .before .before .before .before .args in c .quoted-by .ensures ∙ rw (c .before .accept-string .ensures, string-there (a .reading) (now (a .s)) (there (c .before .before .before .before .before .before .before .before .before .before .before .before)), led (c .before .before .before .before .before .before .before .before .before .before .before .before), c .before .before .before .before .before .before .before .before .before .before .before .before .before .before .in-mode .ensures, ne-eqb _ _ (c .before .before .before .before .before .before .before .before .before .before .if2 .left), ← c .before .before .before .before .before .before .before .before .before .is-sign .ensures, c .before .before .before .before .before .before .before .before .if3 .left, ← c .before .before .before .before .before .before .before .starts-word .ensures, c .before .before .before .before .before .before .if4 .left, ne-eqb _ _ (c .before .before .before .before .before .if5 .left), eq-eqb _ _ (c .before .before .before .before .if6 .taken))
 
 other-step-requires : tie.Need-other-step-requires
 other-step-requires c κs = search needs

@@ -9,12 +9,11 @@ use mathlib.Core.List.{List, [], _∷_}
 use mathlib.Core.Logic.{_↔_, _⊎_}
 use mathlib.Core.Path.{_≡_}
 use lib.ListN.{drop}
-use Rattle.scan.specs.Byte.{end, peekAt, isSpace, isAlpha, isDigit, isQuote}
+use Rattle.scan.specs.Byte.{end, backquote, peekAt, isSpace, isAlpha, isDigit, isQuote}
 use Rattle.utf8.specs.declared.Reading.{Reading}
-use Rattle.token.specs.Kinds.{number, duration}
+use Rattle.token.specs.Kinds.{string, number, duration}
 use Rattle.numeral.specs.laws.Texts.{IsNumber, IsDuration, IsNeither}
-use Rattle.quoted.specs.declared.Quoted.the-variants as quoting
-use Rattle.quoted.specs.Quoted.{unknownEscape, endInEscape, endInString, quotedOf}
+use Rattle.quoted.specs.laws.Texts.{IsString, UnknownEscape, EndInEscape, EndInString}
 use Rattle.munch.specs.declared.Inside.the-variants.{Nothing, Braces, Brackets}
 use Rattle.munch.specs.declared.Mode.{Mode}
 use Rattle.munch.specs.declared.Step.the-variants.{Lexeme, Refused}
@@ -101,9 +100,15 @@ OtherOutside m xs = Outside m × (namedOutside (peekAt xs 0) ≡ false)
 abbrev pub NeitherThere : Reading → ℕ → Mode → List ℕ → Type 0
 NeitherThere r n m xs = NumberBegins m xs × IsNeither r xs n
 
--- 21, 22, 23: the string is refused with the number, n bytes behind its opening sign, as `quoted` says of them
-abbrev pub StringFails : ℕ → ℕ → Mode → List ℕ → Type 0
-StringFails number n m xs = StringBegins m xs × (quotedOf (peekAt xs 0) (drop 1 xs) ≡ quoting.Refused number n)
+-- 21 "unknown escape", 22 "end after a backslash", 23 "end in a string", n bytes behind its opening sign, as `quoted` says of the texts there
+abbrev pub EscapeUnknown : Reading → ℕ → Mode → List ℕ → Type 0
+EscapeUnknown r n m xs = StringBegins m xs × UnknownEscape r (peekAt xs 0) (drop 1 xs) n
+
+abbrev pub EscapeCut : Reading → ℕ → Mode → List ℕ → Type 0
+EscapeCut r n m xs = StringBegins m xs × EndInEscape r (peekAt xs 0) (drop 1 xs) n
+
+abbrev pub StringCut : Reading → ℕ → Mode → List ℕ → Type 0
+StringCut r n m xs = StringBegins m xs × EndInString r (peekAt xs 0) (drop 1 xs) n
 
 -- 24 "other character after `!` .. inside braces"
 abbrev pub AfterBangInBraces : Mode → List ℕ → Type 0
@@ -161,9 +166,9 @@ pub data Row (r : Reading) (m : Mode) (xs : List ℕ) : ℕ → ℕ → Type 0 w
   row18 : UnmatchedBracket m xs → Row r m xs 18 0
   row19 : OtherOutside m xs → Row r m xs 19 0
   row20 : (n : ℕ) → NeitherThere r n m xs → Row r m xs 20 n
-  row21 : (n : ℕ) → StringFails unknownEscape n m xs → Row r m xs 21 (suc n)
-  row22 : (n : ℕ) → StringFails endInEscape n m xs → Row r m xs 22 (suc n)
-  row23 : (n : ℕ) → StringFails endInString n m xs → Row r m xs 23 (suc n)
+  row21 : (n : ℕ) → EscapeUnknown r n m xs → Row r m xs 21 (suc n)
+  row22 : (n : ℕ) → EscapeCut r n m xs → Row r m xs 22 (suc n)
+  row23 : (n : ℕ) → StringCut r n m xs → Row r m xs 23 (suc n)
   row24 : AfterBangInBraces m xs → Row r m xs 24 1
   row25 : BraceInBraces m xs → Row r m xs 25 0
   row26 : OtherInBraces m xs → Row r m xs 26 0
@@ -184,9 +189,17 @@ NumbersGiven =
     (munched r m xs ≡ Lexeme number n m′ ↔ IsNumber r xs n × (m′ ≡ mode (m .depth) (past (m .inside))))
     × (munched r m xs ≡ Lexeme duration n m′ ↔ IsDuration r xs n × (m′ ≡ mode (m .depth) (past (m .inside))))
 
--- and where none begins, the readings are one
-abbrev pub NumbersAlone : Type 0
-NumbersAlone = (r s : Reading) (m : Mode) (xs : List ℕ) → (¬ (NumberBegins m xs)) → munched r m xs ≡ munched s m xs
+-- where neither a number nor a backquoted string begins, the readings are one
+abbrev pub ElsewhereAlike : Type 0
+ElsewhereAlike =
+    (r s : Reading) (m : Mode) (xs : List ℕ) → (¬ (NumberBegins m xs)) → (¬ (StringBegins m xs × Begins backquote xs)) →
+    munched r m xs ≡ munched s m xs
+
+-- where a quote sign stands, a step is a STRING exactly when a string begins there and `quoted` says so of the texts behind the sign; it "includes both signs"
+abbrev pub StringsGiven : Type 0
+StringsGiven =
+    (r : Reading) (m m′ : Mode) (xs : List ℕ) (n : ℕ) → isQuote (peekAt xs 0) ≡ true →
+    munched r m xs ≡ Lexeme string (suc n) m′ ↔ StringBegins m xs × IsString r (peekAt xs 0) (drop 1 xs) n × (m′ ≡ mode (m .depth) (m .inside))
 
 -- the first and the last of their numbers
 abbrev pub RowNumbers : Type 0

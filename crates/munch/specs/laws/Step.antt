@@ -69,4 +69,4 @@ abbrev pub OutsideByTables : Type 0
 OutsideByTables = (r : Reading) (d : ℕ) (xs : List ℕ) → outsideBy r leadTable wordTable d xs ≡ munched r (mode d Nothing) xs
 
 abbrev pub BracesByTable : Type 0
-BracesByTable = (r : Reading) (d : ℕ) (xs : List ℕ) → braceBy leadTable d xs ≡ munched r (mode d Braces) xs
+BracesByTable = (r : Reading) (d : ℕ) (xs : List ℕ) → braceBy r leadTable d xs ≡ munched r (mode d Braces) xs

@@ -79,23 +79,23 @@ outsideLed r leads words d xs lead =
     (cond (isSignLead lead) (signStep lead d)
     (cond (startsWord lead) (wordStepBy leads words here xs)
     (cond (eqb lead digitLead) (numberStep r here xs)
-    (cond (eqb lead quoteLead) (quotedStep here xs)
+    (cond (eqb lead quoteLead) (quotedStep r here xs)
     (stepFor (otherTable r here) 19 (peekAt xs 0) xs)))))
 
-unfoldable pub braceLed : List ℕ → ℕ → List ℕ → ℕ → Step
-braceLed leads d xs lead =
+unfoldable pub braceLed : Reading → List ℕ → ℕ → List ℕ → ℕ → Step
+braceLed r leads d xs lead =
     let here = mode d Braces in
     cond (eqb lead whiteLead) (Space here)
     (cond (eqb lead letterLead) (braceWordBy leads here xs)
-    (cond (eqb lead quoteLead) (quotedStep here xs)
+    (cond (eqb lead quoteLead) (quotedStep r here xs)
     (stepFor (braceSigns d) 26 (peekAt xs 0) xs)))
 
 -- a step outside, and one in braces
 unfoldable pub outsideBy : Reading → List ℕ → List ℕ → ℕ → List ℕ → Step
 outsideBy r leads words d xs = cond (isEnd (peekAt xs 0)) (endStep d) (outsideLed r leads words d xs (leadIn leads (peekAt xs 0)))
 
-unfoldable pub braceBy : List ℕ → ℕ → List ℕ → Step
-braceBy leads d xs = cond (isEnd (peekAt xs 0)) (Refused 27 0) (braceLed leads d xs (leadIn leads (peekAt xs 0)))
+unfoldable pub braceBy : Reading → List ℕ → ℕ → List ℕ → Step
+braceBy r leads d xs = cond (isEnd (peekAt xs 0)) (Refused 27 0) (braceLed r leads d xs (leadIn leads (peekAt xs 0)))
 
 -- where a string, or its refusal, is behind its opening sign
 abbrev pub quotedEnd : Quoted → ℕ

@@ -6,6 +6,7 @@ use mathlib.Core.Logic.{_⊎_}
 use mathlib.Core.Path.{_≡_}
 use lib.ListN.{length}
 use Rattle.scan.specs.laws.Edge.{Edge, Bytes}
+use Rattle.utf8.specs.declared.Reading.{Reading}
 use Rattle.quoted.specs.declared.Quoted.{Quoted}
 use Rattle.quoted.specs.declared.Quoted.the-variants.{Closed, Refused}
 use Rattle.quoted.specs.Quoted.{unknownEscape, endInEscape, endInString, quotedOf, commentEnd}
@@ -13,23 +14,23 @@ use Rattle.quoted.specs.Quoted.{unknownEscape, endInEscape, endInString,
 -- what a string takes, one byte at least, or where it is refused
 abbrev pub Lies : List ℕ → Quoted → Type 0
 Lies xs (Closed n) = (1 ≤ n) × Edge xs n
-Lies xs (Refused r n) = Edge xs n
+Lies xs (Refused number n) = Edge xs n
 
 -- is within the bytes, and behind one that is ASCII or at the end
 abbrev pub StringWithin : Type 0
-StringWithin = (symbol : ℕ) (xs : List ℕ) → symbol < 0x80 → Lies xs (quotedOf symbol xs)
+StringWithin = (r : Reading) (symbol : ℕ) (xs : List ℕ) → symbol < 0x80 → Lies xs (quotedOf r symbol xs)
 
 -- a refusal's number is one of the three
 abbrev pub Numbered : Quoted → Type 0
 Numbered (Closed n) = Unit {0}
-Numbered (Refused r n) = (r ≡ unknownEscape) ⊎ ((r ≡ endInEscape) ⊎ (r ≡ endInString))
+Numbered (Refused number n) = (number ≡ unknownEscape) ⊎ ((number ≡ endInEscape) ⊎ (number ≡ endInString))
 
 abbrev pub StringNumbered : Type 0
-StringNumbered = (symbol : ℕ) (xs : List ℕ) → Numbered (quotedOf symbol xs)
+StringNumbered = (r : Reading) (symbol : ℕ) (xs : List ℕ) → Numbered (quotedOf r symbol xs)
 
 -- what follows a string changes nothing
 abbrev pub StringSeam : Type 0
-StringSeam = (symbol : ℕ) (xs ys : List ℕ) (n : ℕ) → quotedOf symbol xs ≡ Closed n → quotedOf symbol (xs ++ ys) ≡ Closed n
+StringSeam = (r : Reading) (symbol : ℕ) (xs ys : List ℕ) (n : ℕ) → quotedOf r symbol xs ≡ Closed n → quotedOf r symbol (xs ++ ys) ≡ Closed n
 
 -- a comment ends within the bytes; of bytes, behind one that is ASCII or at the end
 abbrev pub CommentWithin : Type 0
