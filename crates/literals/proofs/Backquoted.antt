@@ -6,12 +6,12 @@ use native.Mathlib.Numerals.{add-one}
 use native.Mathlib.Omega.{arith}
 use mathlib.Core.Bool.{true}
 use mathlib.Core.List.{List, [], _∷_, _++_}
-use mathlib.Core.Logic.{inr}
+use mathlib.Core.Logic.{inr, ⊎-elim}
 use mathlib.Core.Path.{_≡_, refl, sym, ap, ap₂, subst, _∙_}
 use lib.Dec.{eqb}
 use lib.Seq.{drop-cons, drop-drop, getD-drop, take-append-seam, getD-append-seam, length-take-le, take-take, getD-take}
 use lib.ListN.{length, getD, take, drop, length-append, length-take, length-drop}
-use borrow.Author.Tests.{eqb-true}
+use borrow.Author.Tests.{eqb-true, lt-ltb}
 use Rattle.scan.specs.Byte.{end, peekAt, backquote, isQuote, isWithin}
 use Rattle.scan.specs.Language.{One, one}
 use Rattle.utf8.specs.declared.Reading.{Reading}
@@ -24,16 +24,23 @@ use Rattle.utf8.specs.Answers.{textLimit}
 use Rattle.utf8.specs.laws.Refusals.{TooLong, Taken}
 use Rattle.quoted.specs.Texts.{Piece, plain, escape, Content, none, more}
 use Rattle.quoted.specs.laws.Texts.{IsString}
-use Rattle.munch.specs.declared.Step.{Step}
 use Rattle.munch.specs.laws.Step.{Past, Goes}
 use Rattle.munch.proofs.Goes.{step-goes}
 use Rattle.munch.proofs.Given.{strings-given}
 use Rattle.string.specs.declared.Unquoting.the-variants.{Inner}
-use Rattle.string.specs.Literal.{innerOf, unquotingOf}
+use Rattle.string.specs.Literal.{innerOf, unquoted, unquotingOf, textBy, partOf}
+use Rattle.string.specs.laws.ReadBack.{isRead}
+use Rattle.string.proofs.Readings.{part-is-text}
+use Rattle.token.specs.Kinds.{string}
+use Rattle.munch.specs.declared.Mode.{Mode}
+use Rattle.munch.specs.declared.Step.the-variants.{Lexeme}
+use Rattle.munch.specs.Munch.{munched}
+use Rattle.lex.specs.Outcome.{Entry}
+use Rattle.lex.proofs.Comes.{entry-is-step}
 use Rattle.string.specs.laws.Refusals.{BadLiteral, Fault, short, differ, noSign, newline, bareSign, badEscape, FaultAt, WithEscape}
 use Rattle.string.proofs.Faults.{faults-bad}
 use Rattle.string.proofs.Given.{unquoting-given}
-use Rattle.literals.specs.laws.Literals.{signs, BackquotedGood}
+use Rattle.literals.specs.laws.Literals.{bothSigns, literalOf, betweenSigns, BackquotedGood}
 
 -- no backquote stands in the content of a backquoted string
 one-byte : (u : List ℕ) → Piece Documented backquote u → (x : ℕ) × (u ≡ x ∷ []) × (x ≡ backquote → ⊥)
@@ -105,13 +112,18 @@ module _ (q : List ℕ) (i n : ℕ) (t : Taken textLimit q) (e : peekAt q i ≡ 
         λ r room. unquoting-given r room (take (suc (suc n)) (drop i q)) .4 .1 ((short-enough, well), bad, plain-text) ∙ ap Inner (ap (λ (ys : List ℕ). length ys) inside-is ∙ size),
       )
 
-pub backquoted-good : BackquotedGood
+-- a step of lexing that is one
+abbrev StepGood : List ℕ → ℕ → ℕ → Type 0
+StepGood q i n =
+    (bothSigns ≤ n) × (n ≤ length (drop i q)) × (innerOf (take n (drop i q)) ≡ take (n - bothSigns) (drop (suc i) q)) × ((r : Reading) (room : ℕ) → unquotingOf r room (take n (drop i q)) ≡ Inner (n - bothSigns))
+
+goes-there : (q : List ℕ) (i n : ℕ) (m m′ : Mode) → munched Documented m (drop i q) ≡ Lexeme string n m′ → Past (drop i q) n
+goes-there q i n m m′ c = subst (Goes m (drop i q)) c (step-goes Documented m (drop i q))
+
+step-good : (q : List ℕ) (i n : ℕ) (m m′ : Mode) → Taken textLimit q → peekAt q i ≡ backquote → munched Documented m (drop i q) ≡ Lexeme string n m′ → StepGood q i n
 unfolding isQuote
-backquoted-good q i zero m m′ t e c = absurd (omega (arith, past-some zero (subst (λ (s : Step). Goes m (drop i q) s) c (step-goes Documented m (drop i q)))))
-  where
-    past-some : (k : ℕ) → Past (drop i q) k → 1 ≤ k
-    past-some k p = p .some
-backquoted-good q i (suc k) m m′ t e c = sized k (strings-given Documented m m′ (drop i q) k quote .0 c .1)
+step-good q i zero m m′ t e c = absurd (omega (arith, goes-there q i zero m m′ c .some))
+step-good q i (suc k) m m′ t e c = sized k (goes-there q i (suc k) m m′ c .within) (strings-given Documented m m′ (drop i q) k quote .0 c .1)
   where
     first-is : peekAt (drop i q) 0 ≡ backquote
     first-is = getD-drop i q 0 end ∙ ap (peekAt q) (add-zero i) ∙ e
@@ -122,19 +134,39 @@ backquoted-good q i (suc k) m m′ t e c = sized k (strings-given Documented m m
     behind-sign : drop 1 (drop i q) ≡ drop (suc i) q
     behind-sign = drop-drop 1 i q ∙ ap (λ (j : ℕ). drop j q) (add-one i)
 
-    sized :
-        (k : ℕ) → IsString Documented (peekAt (drop i q) 0) (drop 1 (drop i q)) k →
-        (innerOf (take (suc k) (drop i q)) ≡ take (suc k - signs) (drop (suc i) q)) × ((r : Reading) (room : ℕ) → unquotingOf r room (take (suc k) (drop i q)) ≡ Inner (suc k - signs))
-    sized k s = by-size k (subst (λ (ys : List ℕ). IsString Documented backquote ys k) behind-sign (subst (λ (y : ℕ). IsString Documented y (drop 1 (drop i q)) k) first-is s))
+    sized : (k : ℕ) → suc k ≤ length (drop i q) → IsString Documented (peekAt (drop i q) 0) (drop 1 (drop i q)) k → StepGood q i (suc k)
+    sized k l s = by-size k l (subst (λ (ys : List ℕ). IsString Documented backquote ys k) behind-sign (subst (λ (y : ℕ). IsString Documented y (drop 1 (drop i q)) k) first-is s))
       where
-        by-size :
-            (k : ℕ) → IsString Documented backquote (drop (suc i) q) k →
-            (innerOf (take (suc k) (drop i q)) ≡ take (suc k - signs) (drop (suc i) q)) × ((r : Reading) (room : ℕ) → unquotingOf r room (take (suc k) (drop i q)) ≡ Inner (suc k - signs))
-        by-size zero s = absurd (no-sign (s .1 .front) (s .1 .back) (s .1 .second) (s .1 .whole))
+        by-size : (k : ℕ) → suc k ≤ length (drop i q) → IsString Documented backquote (drop (suc i) q) k → StepGood q i (suc k)
+        by-size zero l s = absurd (no-sign (s .1 .front) (s .1 .back) (s .1 .second) (s .1 .whole))
           where
             no-sign : (u v : List ℕ) → One (λ x. eqb x backquote) v → [] ≡ u ++ v → ⊥
             no-sign u _ (one x y) f = omega (arith, ap (λ (ys : List ℕ). length ys) f, length-append u (x ∷ []))
-        by-size (suc n) s =
+        by-size (suc n) l s =
             let g = good-there q i n t e (s .1 .front) (s .1 .back) (s .1 .first) (s .1 .second) (s .1 .whole) (s .0) in
-            let f : suc (suc n) - signs ≡ n = omega arith in
-            rw f g
+            let f : suc (suc n) - bothSigns ≡ n = omega arith in
+            (omega arith, l, rw f (g .0), rw f (g .1))
+
+-- the part that is handed back of such a literal
+inner-part : (xs d : List ℕ) (n : ℕ) → bothSigns ≤ length xs → n ≡ length xs - bothSigns → partOf (Inner n) xs d ≡ innerOf xs
+unfolding partOf
+inner-part xs d n l e = rw (lt-ltb n (length xs) (omega (arith, l, e))) (ap (λ (k : ℕ). take k (drop 1 xs)) e)
+
+module _ (q : List ℕ) (e : Entry) (g : StepGood q (e .start) (e .length)) where
+  size : length (literalOf q e) ≡ e .length
+  size = length-take-le (e .length) (drop (e .start) q) (g .1)
+
+  handed : (d : List ℕ) → partOf (Inner (e .length - bothSigns)) (literalOf q e) d ≡ betweenSigns q e
+  handed d = inner-part (literalOf q e) d (e .length - bothSigns) (omega (arith, size, g .0)) (omega (arith, size)) ∙ g .2
+
+  text : (r : Reading) (d : List ℕ) → unquoted r (literalOf q e) ≡ betweenSigns q e
+  text r d =
+      let u = g .3 r (length d) in
+      sym (part-is-text r (literalOf q e) d (ap isRead u)) ∙ ap (λ v. partOf v (literalOf q e) (textBy v (unquoted r (literalOf q e)) d)) u ∙ handed d
+
+pub backquoted-good : BackquotedGood
+backquoted-good q e t a k f =
+    ⊎-elim (λ z. absurd (omega (arith, z, k)))
+    (λ w. let g = step-good q (e .start) (e .length) (w .mode) (w .next) t f (w .step ∙ ap (λ (j : ℕ). Lexeme j (e .length) (w .next)) k) in
+    (g .0, λ r d. (g .3 r (length d), text q e g r d, ap (λ v. partOf v (literalOf q e) d) (g .3 r (length d)) ∙ handed q e g d)))
+    (entry-is-step Documented q e a)
