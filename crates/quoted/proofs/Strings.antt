@@ -3,20 +3,21 @@
 use Prim.Native.Nat.{ℕ, zero, suc, _+_, _<_}
 use native.Mathlib.Numerals.{add-one}
 use native.Mathlib.Omega.{arith}
-use mathlib.Core.Bool.{Bool, true, false, cond, true≢false}
+use mathlib.Core.Bool.{Bool, true, false, cond, _||_, true≢false}
 use mathlib.Core.List.{List, [], _∷_, _++_}
 use mathlib.Core.Logic.{inl, inr}
-use mathlib.Core.Path.{_≡_, refl, sym, subst}
+use mathlib.Core.Path.{_≡_, refl, sym, ap, subst}
 use lib.Dec.{eqb}
 use lib.ListN.{length, drop}
-use Rattle.scan.specs.Byte.{end, peekAt, backslash}
+use Rattle.scan.specs.Byte.{end, peekAt, backslash, backquote}
+use Rattle.scan.specs.Text.{has}
 use Rattle.scan.specs.laws.Edge.{Edge, first, last, behind}
 use Rattle.proving.proofs.Choice.{either}
 use Rattle.scan.proofs.Edges.{one-ascii}
 use Rattle.quoted.specs.declared.Quoted.{Quoted}
 use Rattle.quoted.specs.declared.Quoted.the-variants.{Closed}
 use Rattle.quoted.specs.Quoted.{isEscape, quotedFrom, isRaw, rawFrom}
-use Rattle.quoted.specs.laws.Quoted.{Lies, StringWithin, Numbered, StringNumbered, StringSeam}
+use Rattle.quoted.specs.laws.Quoted.{Lies, StringWithin, Numbered, StringNumbered, StringSeam, BackslashAlone}
 use Rattle.quoted.proofs.Turns.{past-end, escaped-turn, plain-turn, raw-end, raw-turn}
 
 -- behind an ASCII byte is an edge
@@ -83,3 +84,18 @@ raw-stays symbol (x ∷ xs) ys n r h = kept (eqb x symbol) (λ e. e) (raw-stays 
 
 pub string-seam : StringSeam
 string-seam r symbol xs ys n = kept (isRaw r symbol) (raw-stays symbol xs ys 0 n) (closed-stays symbol xs ys false 0 n)
+
+-- without a backslash no escape is begun
+no-escape : (symbol n : ℕ) (xs : List ℕ) → has backslash xs ≡ false → quotedFrom symbol false n xs ≡ rawFrom symbol n xs
+unfolding quotedFrom rawFrom has
+no-escape symbol n [] h = refl
+no-escape symbol n (x ∷ xs) h = go (eqb x backslash) h (no-escape symbol (n + 1) xs)
+  where
+    go : (b : Bool) → b || has backslash xs ≡ false → (has backslash xs ≡ false → quotedFrom symbol false (n + 1) xs ≡ rawFrom symbol (n + 1) xs)
+        → cond (eqb x symbol) (Closed (n + 1)) (quotedFrom symbol b (n + 1) xs) ≡ cond (eqb x symbol) (Closed (n + 1)) (rawFrom symbol (n + 1) xs)
+    go true e f = absurd (true≢false e)
+    go false e f = ap (cond (eqb x symbol) (Closed (n + 1))) (f e)
+
+pub backslash-alone : BackslashAlone
+unfolding isRaw
+backslash-alone symbol xs h = either (λ v. quotedFrom symbol false 0 xs ≡ v) (eqb symbol backquote) (λ e. no-escape symbol 0 xs h) (λ e. refl)

@@ -1,5 +1,6 @@
 -- Demand 3: "Joining two queries by a newline joins their lexemes". A is accepted, and its last lexeme is no fill word, which would look past the
--- newline; of B nothing is asked. Document 02, L2: it "holds where A, B and the join use one reading"; each statement is for any one.
+-- newline; of B nothing is asked. Document 02, L2: it "holds where A, B and the join use one reading"; each statement is for any one, and so L5's "proved again
+-- for this reading": a string is read up to its closing sign alone, with escapes or without.
 -- `proofs/Join` has the proofs.
 use Prim.Native.Nat.{ℕ, suc, pred, _+_, _≤_}
 use Prim.Native.Char.{code}

@@ -1,12 +1,16 @@
 -- What the crates above may know of strings and comments, as statements; `proofs/Strings` and `proofs/Comments` have their proofs.
 use Prim.Native.Nat.{ℕ, suc, _≤_, _<_}
 use Prim.Native.Char.{code}
+use mathlib.Core.Bool.{false}
 use mathlib.Core.List.{List, _∷_, _++_}
 use mathlib.Core.Logic.{_⊎_}
 use mathlib.Core.Path.{_≡_}
 use lib.ListN.{length}
 use Rattle.scan.specs.laws.Edge.{Edge, Bytes}
+use Rattle.scan.specs.Byte.{backslash}
+use Rattle.scan.specs.Text.{has}
 use Rattle.utf8.specs.declared.Reading.{Reading}
+use Rattle.utf8.specs.declared.Reading.the-variants.{Crate, Documented}
 use Rattle.quoted.specs.declared.Quoted.{Quoted}
 use Rattle.quoted.specs.declared.Quoted.the-variants.{Closed, Refused}
 use Rattle.quoted.specs.Quoted.{unknownEscape, endInEscape, endInString, quotedOf, commentEnd}
@@ -31,6 +35,10 @@ StringNumbered = (r : Reading) (symbol : ℕ) (xs : List ℕ) → Numbered (quot
 -- what follows a string changes nothing
 abbrev pub StringSeam : Type 0
 StringSeam = (r : Reading) (symbol : ℕ) (xs ys : List ℕ) (n : ℕ) → quotedOf r symbol xs ≡ Closed n → quotedOf r symbol (xs ++ ys) ≡ Closed n
+
+-- the readings of a string differ only where a backslash stands in it
+abbrev pub BackslashAlone : Type 0
+BackslashAlone = (symbol : ℕ) (xs : List ℕ) → has backslash xs ≡ false → quotedOf Crate symbol xs ≡ quotedOf Documented symbol xs
 
 -- a comment ends within the bytes; of bytes, behind one that is ASCII or at the end
 abbrev pub CommentWithin : Type 0
