@@ -21,9 +21,9 @@
  *
  *     const char *query = "rate(a[5m])";
  *     uint16_t kinds[16];
- *     uint32_t starts[16], lengths[16];
+ *     uint32_t starts[16], lengths[16], depths[16];
  *     uint64_t answer = simmerpath_lexer((const uint8_t *)query, strlen(query), SIMMERPATH_READING_CRATE, kinds, 16, starts, 16,
- *                                        lengths, 16);
+ *                                        lengths, 16, depths, 16);
  *     if (simmerpath_is_refusal(answer))
  *         printf("refused: %u at byte %u\n", simmerpath_refusal_number(answer), simmerpath_refusal_byte(answer));
  *     else
@@ -262,11 +262,14 @@ static inline size_t simmerpath_unquoted_length(uint64_t answer)
 
 /*
  * Lexes a query, in a reading: answers how many lexemes it has, its end included, and writes their kinds, the bytes that they
- * start at, and their lengths in bytes to the front of the three lists. There is room for as many as the shortest list has
- * entries. Refuses with TOO_LONG, NOT_UTF8, UNCLOSED_PAREN to END_IN_BRACKETS, NO_ROOM.
+ * start at, their lengths in bytes, and their depths to the front of the four lists. The depth of a lexeme is how many ( are open
+ * before it; that of a ) how many are left open after it, so that a pair has the same, and that of the end 0. The partner of a ( is
+ * the next ) with the same depth, which is proved. There is room for as many as the shortest list has entries. Refuses with
+ * TOO_LONG, NOT_UTF8, UNCLOSED_PAREN to END_IN_BRACKETS, NO_ROOM.
  */
 uint64_t simmerpath_lexer(const uint8_t *query, size_t query_length, uint32_t documented, uint16_t *kinds, size_t kinds_length,
-                          uint32_t *starts, size_t starts_length, uint32_t *lengths, size_t lengths_length);
+                          uint32_t *starts, size_t starts_length, uint32_t *lengths, size_t lengths_length, uint32_t *depths,
+                          size_t depths_length);
 
 /* The kind of a word of PromQL, in any case of its letters, or SIMMERPATH_NO_KIND. Takes any bytes, and refuses none. */
 uint64_t simmerpath_get_keyword_token(const uint8_t *word, size_t word_length);

@@ -15,6 +15,7 @@ pub struct Room {
     kinds: Vec<u16>,
     starts: Vec<u32>,
     lengths: Vec<u32>,
+    depths: Vec<u32>,
     text: Vec<u8>,
 }
 
@@ -26,6 +27,7 @@ impl Room {
             kinds: vec![0; most_lexemes],
             starts: vec![0; most_lexemes],
             lengths: vec![0; most_lexemes],
+            depths: vec![0; most_lexemes],
             text: vec![0; WIDEST_ESCAPE * TEXT_LIMIT],
         }
     }
@@ -41,9 +43,10 @@ pub mod lexing {
             kinds,
             starts,
             lengths,
+            depths,
             ..
         } = room;
-        let lexemes = simmerpath::lex_into(query, Reading::Crate, kinds, starts, lengths);
+        let lexemes = simmerpath::lex_into(query, Reading::Crate, kinds, starts, lengths, depths);
         lexemes.expect("a query that is accepted").len() as u64
     }
 

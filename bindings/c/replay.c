@@ -17,13 +17,16 @@
 #define HEX_BASE 16
 #define MOST_BYTES (LONGEST_LINE / DIGITS_A_BYTE)
 
+/* So many lists are lent for lexemes: kinds, starts, lengths, depths. */
+#define LISTS 4
+
 /* What a record is answered in where it names no room, or more: no text needs more. */
 #define MOST_TEXT SIMMERPATH_MOST_ESCAPED
 
 /* So many bytes stand on each side of what is lent: enough for any alignment, and for the widest write. */
 #define GUARD 64
 
-/* What lent bytes hold before a call: from UNWRITTEN on, and again after so many. No ASCII text, kind, start or length is so. */
+/* What lent bytes hold before a call: from UNWRITTEN on, and again after so many. No ASCII text is so, and no lexeme. */
 #define UNWRITTEN 0x80
 #define UNWRITTEN_STEPS 0x80
 
@@ -398,37 +401,48 @@ static bool answer_durwrite(const struct record *record)
     return true;
 }
 
-/* `ok`, and the kind, the start and the length of each lexeme. */
-static void say_lexemes(const uint16_t *kinds, const uint32_t *starts, const uint32_t *lengths, uint64_t count)
+/* `ok`, and the kind, the start, the length and the depth of each lexeme. */
+static void say_lexemes(const uint16_t *kinds, const uint32_t *starts, const uint32_t *lengths, const uint32_t *depths,
+                        uint64_t count)
 {
     fputs("ok", stdout);
     for (uint64_t i = 0; i < count; i++)
-        printf(" %u,%" PRIu32 ",%" PRIu32, (unsigned)kinds[i], starts[i], lengths[i]);
+        printf(" %u,%" PRIu32 ",%" PRIu32 ",%" PRIu32, (unsigned)kinds[i], starts[i], lengths[i], depths[i]);
     puts("");
 }
 
-/* Answers with the lexemes of a query, in a reading. */
-static bool lex(const struct record *record, enum simmerpath_reading reading)
+/* Answers with the lexemes of a query, in a reading, in lists of these rooms. */
+static bool lex_in(const struct record *record, enum simmerpath_reading reading, const size_t rooms[LISTS])
 {
-    size_t room = room_of(record, SIMMERPATH_MOST_LEXEMES);
     struct lent query = lend_input(record);
-    struct lent kinds = lend(record, "kinds", room, sizeof(uint16_t));
-    struct lent starts = lend(record, "starts", room, sizeof(uint32_t));
-    struct lent lengths = lend(record, "lengths", room, sizeof(uint32_t));
-    uint64_t answer = simmerpath_lexer(start(&query), query.count, reading, start(&kinds), room, start(&starts), room,
-                                       start(&lengths), room);
+    struct lent kinds = lend(record, "kinds", rooms[0], sizeof(uint16_t));
+    struct lent starts = lend(record, "starts", rooms[1], sizeof(uint32_t));
+    struct lent lengths = lend(record, "lengths", rooms[2], sizeof(uint32_t));
+    struct lent depths = lend(record, "depths", rooms[3], sizeof(uint32_t));
+    uint64_t answer = simmerpath_lexer(start(&query), query.count, reading, start(&kinds), kinds.count, start(&starts),
+                                       starts.count, start(&lengths), lengths.count, start(&depths), depths.count);
     take_back_unwritten(&query);
     check_left(&kinds, unless_refused(answer, answer));
     check_left(&starts, unless_refused(answer, answer));
     check_left(&lengths, unless_refused(answer, answer));
+    check_left(&depths, unless_refused(answer, answer));
     if (simmerpath_is_refusal(answer))
         say_refused(answer);
     else
-        say_lexemes(start(&kinds), start(&starts), start(&lengths), answer);
+        say_lexemes(start(&kinds), start(&starts), start(&lengths), start(&depths), answer);
     take_back(&kinds);
     take_back(&starts);
     take_back(&lengths);
+    take_back(&depths);
     return true;
+}
+
+/* Answers with the lexemes of a query, in a reading, in lists of the room that the record names. */
+static bool lex(const struct record *record, enum simmerpath_reading reading)
+{
+    size_t room = room_of(record, SIMMERPATH_MOST_LEXEMES);
+    const size_t rooms[LISTS] = {room, room, room, room};
+    return lex_in(record, reading, rooms);
 }
 
 /* `lex`: the lexemes of a query, in the crate reading. */
@@ -441,6 +455,22 @@ static bool answer_lex(const struct record *record)
 static bool answer_lexdoc(const struct record *record)
 {
     return lex(record, SIMMERPATH_READING_DOCUMENTED);
+}
+
+/* `lexrooms`: those of the crate reading, in lists of a room each: four numbers with a space behind each, then the query. */
+static bool answer_lexrooms(const struct record *record)
+{
+    struct record query = *record;
+    size_t rooms[LISTS];
+    for (size_t i = 0; i < LISTS; i++) {
+        size_t end = digits_in(query.bytes, query.size, DECIMAL_BASE);
+        if (end == query.size || query.bytes[end] != ' ' || !read_decimal(query.bytes, end, &query.room))
+            return false;
+        rooms[i] = room_of(&query, SIMMERPATH_MOST_LEXEMES);
+        query.bytes += end + 1;
+        query.size -= end + 1;
+    }
+    return lex_in(&query, SIMMERPATH_READING_CRATE, rooms);
 }
 
 static const struct op ops[] = {
@@ -458,6 +488,7 @@ static const struct op ops[] = {
     {"durwrite", answer_durwrite},
     {"lex", answer_lex},
     {"lexdoc", answer_lexdoc},
+    {"lexrooms", answer_lexrooms},
 };
 
 /* The op of a name, or NULL. */

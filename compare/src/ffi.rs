@@ -255,17 +255,22 @@ pub fn display_duration(secs: u64, nanos: u32, out: &mut Lent<u8>) -> Outcome<&[
     out.written(answer)
 }
 
-/// How many lexemes a query has; their kinds, starts and lengths are written to the fronts of the lists.
+/// The kinds, starts, lengths and depths of lexemes.
+pub type Lists<'a> = (&'a [u16], &'a [u32], &'a [u32], &'a [u32]);
+
+/// How many lexemes a query has; their kinds, starts, lengths and depths are written to the fronts of the lists.
 pub fn lexer<'a>(
     query: &mut Lent<u8>,
     documented: u32,
     kinds: &'a mut Lent<u16>,
     starts: &'a mut Lent<u32>,
     lengths: &'a mut Lent<u32>,
-) -> Outcome<(&'a [u16], &'a [u32], &'a [u32])> {
+    depths: &'a mut Lent<u32>,
+) -> Outcome<Lists<'a>> {
     kinds.restore();
     starts.restore();
     lengths.restore();
+    depths.restore();
     // Safety: each pointer and the length behind it are those of one list.
     let answer = unsafe {
         simmerpath_lexer(
@@ -278,12 +283,20 @@ pub fn lexer<'a>(
             starts.len(),
             lengths.start(),
             lengths.len(),
+            depths.start(),
+            depths.len(),
         )
     };
-    let guarded = kinds.is_guarded() && starts.is_guarded() && lengths.is_guarded();
+    let numbers = [&*starts, lengths, depths];
+    let guarded = kinds.is_guarded() && numbers.iter().all(|list| list.is_guarded());
     Outcome {
         answer,
-        written: (kinds.contents(), starts.contents(), lengths.contents()),
+        written: (
+            kinds.contents(),
+            starts.contents(),
+            lengths.contents(),
+            depths.contents(),
+        ),
         untouched: query.is_untouched() && guarded,
     }
 }

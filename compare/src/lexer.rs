@@ -16,8 +16,11 @@ const BACKQUOTED_SHARE: usize = 25;
 /// brackets or parentheses; and more white space.
 const AROUND: &[u8] = b"a5m_=~.([ \n\"'`\\}])\x80\xbf";
 
-/// What stands where the kinds, the starts and the lengths may be written, and around these.
-const BLANK: (u16, u32, u32) = (0xeeee, 0xdddd_dddd, 0xcccc_cccc);
+/// How many lists a query is lexed into.
+const LISTS: usize = 4;
+
+/// What stands where the kinds, the starts, the lengths and the depths may be written, and around these.
+const BLANK: (u16, u32, u32, u32) = (0xeeee, 0xdddd_dddd, 0xcccc_cccc, 0xbbbb_bbbb);
 
 /// The function on a query.
 const ON_QUERIES: [Function<[u8]>; 1] = [Function {
@@ -80,21 +83,23 @@ pub fn run(seed: u64, count: usize) -> u64 {
         + compare(&ON_OTHERS, others)
 }
 
-/// The rooms of the three lists for so many lexemes: more than enough, just enough, one too little, and none; then with each
-/// list in turn shorter than the others, by the one that is missing, and where none is.
-fn rooms(count: usize) -> [[usize; 3]; 10] {
+/// The rooms of the lists for so many lexemes: more than enough, just enough, one too little, and none; then with each list in
+/// turn shorter than the others, by the one that is missing, and where none is.
+fn rooms(count: usize) -> [[usize; LISTS]; 12] {
     let (more, less) = (count + 1, count.saturating_sub(1));
     [
-        [count + 2; 3],
-        [count; 3],
-        [less; 3],
-        [0; 3],
-        [less, count, count],
-        [count, less, count],
-        [count, count, less],
-        [count, more, more],
-        [more, count, more],
-        [more, more, count],
+        [count + 2; LISTS],
+        [count; LISTS],
+        [less; LISTS],
+        [0; LISTS],
+        [less, count, count, count],
+        [count, less, count, count],
+        [count, count, less, count],
+        [count, count, count, less],
+        [count, more, more, more],
+        [more, count, more, more],
+        [more, more, count, more],
+        [more, more, more, count],
     ]
 }
 
@@ -119,14 +124,23 @@ fn difference(query: &[u8], lexed: &Lexed, readings: Readings) -> Option<Differe
         let mut kinds = vec![BLANK.0; room[0]];
         let mut starts = vec![BLANK.1; room[1]];
         let mut lengths = vec![BLANK.2; room[2]];
+        let mut depths = vec![BLANK.3; room[3]];
         let mut lists = (
             Lent::new(&kinds, BLANK.0),
             Lent::new(&starts, BLANK.1),
             Lent::new(&lengths, BLANK.2),
+            Lent::new(&depths, BLANK.3),
         );
-        let answer = lexed.write(&mut kinds, &mut starts, &mut lengths);
-        let must = Outcome::of(answer, (&kinds[..], &starts[..], &lengths[..]));
-        let ours = ffi::lexer(&mut lent, reading, &mut lists.0, &mut lists.1, &mut lists.2);
+        let answer = lexed.write(&mut kinds, &mut starts, &mut lengths, &mut depths);
+        let must = Outcome::of(answer, (&kinds[..], &starts[..], &lengths[..], &depths[..]));
+        let ours = ffi::lexer(
+            &mut lent,
+            reading,
+            &mut lists.0,
+            &mut lists.1,
+            &mut lists.2,
+            &mut lists.3,
+        );
         let call = || format!("reading {reading}, rooms {room:?}, {around:x} around");
         Difference::between(call, &ours, &must)
     })

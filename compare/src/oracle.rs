@@ -5,6 +5,8 @@ use std::fmt::{self, Display, Formatter};
 #[cfg(feature = "promql")]
 pub mod backquotes;
 #[cfg(feature = "promql")]
+pub mod depth;
+#[cfg(feature = "promql")]
 pub mod duration;
 pub mod fault;
 #[cfg(feature = "go")]

@@ -142,6 +142,7 @@ fn known_lexemes(lexed: &Lexed, room: usize) -> Result<Vec<Lexeme>, Answer> {
         kind: lexed.kinds[at],
         start: lexed.starts[at] as usize,
         length: lexed.lengths[at] as usize,
+        depth: lexed.depths[at] as usize,
     };
     match lexed.answer(room as u64) {
         Answer::Value(_) => Ok((0..lexed.count()).map(lexeme).collect()),
@@ -188,9 +189,15 @@ fn lexing_into(query: &[u8], lexed: &Lexed, reading: Reading) -> Option<Differen
         .into_iter()
         .find_map(|room| {
             let (mut kinds, mut starts) = (vec![0; room], vec![0; room]);
-            let mut lengths = vec![0; room];
-            let lexemes =
-                simmerpath::lex_into(query, reading, &mut kinds, &mut starts, &mut lengths);
+            let (mut lengths, mut depths) = (vec![0; room], vec![0; room]);
+            let lexemes = simmerpath::lex_into(
+                query,
+                reading,
+                &mut kinds,
+                &mut starts,
+                &mut lengths,
+                &mut depths,
+            );
             let must = known_lexemes(lexed, room);
             difference(
                 &format!("room {room}"),

@@ -1,5 +1,5 @@
-//! look: shows the queries on standard input, a line each, in colours by the class of each lexeme. Under a query that is
-//! refused stands a caret at the refused character, and why.
+//! look: shows the queries on standard input, a line each, in colours by the class of each lexeme, with a pair of parentheses in
+//! one colour by its depth. Under a query that is refused stands a caret at the refused character, and why.
 //! `--color=always` and `--color=never` decide over colour; else there is some on a terminal, but for the variable NO_COLOR.
 //! With `--documented` queries are read as Prometheus documents it.
 
@@ -20,6 +20,9 @@ const NAME: &str = "39";
 const BRACKET: &str = "1";
 const COMMENT: &str = "90";
 const REFUSAL: &str = "31";
+
+/// The colours of parentheses, by their depth: three bright colours in turn.
+const PARENTHESES: [&str; 3] = ["1;93", "1;95", "1;96"];
 
 /// Where the pictures of the control characters begin, and that of the last.
 const PICTURES: u32 = 0x2400;
@@ -91,7 +94,7 @@ fn accepted(query: &str, lexemes: &[Lexeme], coloured: bool) -> String {
     let mut end = 0;
     for lexeme in lexemes {
         shown += &painted(&query[end..lexeme.start], COMMENT, coloured);
-        shown += &painted(lexeme.text(query), colour(lexeme.kind), coloured);
+        shown += &painted(lexeme.text(query), colour(lexeme), coloured);
         end = lexeme.range().end;
     }
     shown + "\n"
@@ -105,17 +108,18 @@ fn refused(query: &str, error: Error, coloured: bool) -> String {
     format!("{}\n{indent}{reason}\n", visible(query))
 }
 
-/// The colour of a kind.
-fn colour(kind: TokenId) -> &'static str {
-    match kind {
+/// The colour of a lexeme.
+fn colour(lexeme: &Lexeme) -> &'static str {
+    match lexeme.kind {
+        T_LEFT_PAREN | T_RIGHT_PAREN => PARENTHESES[lexeme.depth % PARENTHESES.len()],
         T_STRING => STRING,
         T_NUMBER => NUMBER,
         T_DURATION => DURATION,
         T_IDENTIFIER | T_METRIC_IDENTIFIER => NAME,
-        T_LEFT_PAREN..=T_COLON => BRACKET,
+        T_LEFT_BRACE..=T_COLON => BRACKET,
         T_EQL => OPERATOR,
-        _ if is_operator(kind) => OPERATOR,
-        _ if is_aggregator(kind) => AGGREGATOR,
+        kind if is_operator(kind) => OPERATOR,
+        kind if is_aggregator(kind) => AGGREGATOR,
         _ => KEYWORD,
     }
 }

@@ -60,6 +60,8 @@ pub mod raw {
             starts_len: usize,
             lengths: *mut u32,
             lengths_len: usize,
+            depths: *mut u32,
+            depths_len: usize,
         ) -> u64;
     }
 }
@@ -161,6 +163,7 @@ pub(crate) fn lexer(
     kinds: &mut [u16],
     starts: &mut [u32],
     lengths: &mut [u32],
+    depths: &mut [u32],
 ) -> u64 {
     // SAFETY: each pointer and the length behind it are those of one slice; `query` is read only, and the lists are lent for the
     // call.
@@ -175,6 +178,8 @@ pub(crate) fn lexer(
             starts.len(),
             lengths.as_mut_ptr(),
             lengths.len(),
+            depths.as_mut_ptr(),
+            depths.len(),
         )
     }
 }

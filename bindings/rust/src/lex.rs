@@ -8,7 +8,7 @@ use core::iter::{FusedIterator, Zip};
 use core::ops::Range;
 use core::slice::Iter;
 
-/// A lexeme: its kind, the byte of the query that it starts at, and how many bytes it has.
+/// A lexeme: its kind, the byte of the query that it starts at, how many bytes it has, and how deep in parentheses it stands.
 #[derive(Clone, Copy, Debug, PartialEq, Eq, Hash)]
 pub struct Lexeme {
     /// Its kind: one of [`token`](crate::token).
@@ -17,6 +17,15 @@ pub struct Lexeme {
     pub start: usize,
     /// How many bytes it has.
     pub length: usize,
+    /// How many parentheses are open before it; of a `)`, how many are left open after it, so that a pair has the same depth: the
+    /// partner of a `(` is the next `)` with its depth. That is proved.
+    ///
+    /// ```
+    /// let lexemes = simmerpath::lexer("(a + (b))")?;
+    /// assert!(lexemes.iter().map(|lexeme| lexeme.depth).eq([0, 1, 1, 1, 2, 1, 0, 0]));
+    /// # Ok::<(), simmerpath::Error>(())
+    /// ```
+    pub depth: usize,
 }
 
 impl Lexeme {
@@ -67,9 +76,9 @@ impl Lexeme {
 /// use simmerpath::Lexeme;
 ///
 /// let lexemes = simmerpath::lexer("-0x1F")?;
-/// assert_eq!(lexemes[0], Lexeme { kind: T_SUB, start: 0, length: 1 });
-/// assert_eq!(lexemes[1], Lexeme { kind: T_NUMBER, start: 1, length: 4 });
-/// assert_eq!(lexemes[2], Lexeme { kind: T_EOF, start: 5, length: 0 });
+/// assert_eq!(lexemes[0], Lexeme { kind: T_SUB, start: 0, length: 1, depth: 0 });
+/// assert_eq!(lexemes[1], Lexeme { kind: T_NUMBER, start: 1, length: 4, depth: 0 });
+/// assert_eq!(lexemes[2], Lexeme { kind: T_EOF, start: 5, length: 0, depth: 0 });
 ///
 /// let refused = simmerpath::lexer("(up").unwrap_err();
 /// assert_eq!(refused.to_string(), "unclosed left parenthesis, at byte 3");
@@ -94,7 +103,7 @@ where
 /// use simmerpath::{lexer_in, Lexeme, Reading};
 ///
 /// let lexemes = lexer_in("up > 1_000", Reading::Documented)?;
-/// assert_eq!(lexemes[2], Lexeme { kind: T_NUMBER, start: 5, length: 5 });
+/// assert_eq!(lexemes[2], Lexeme { kind: T_NUMBER, start: 5, length: 5, depth: 0 });
 ///
 /// let refused = lexer_in("up > 1_000", Reading::Crate).unwrap_err();
 /// assert_eq!((refused.number(), refused.byte()), (20, 6));
@@ -112,10 +121,19 @@ where
     let mut kinds = alloc::vec![0; room];
     let mut starts = alloc::vec![0; room];
     let mut lengths = alloc::vec![0; room];
-    lex_into(query, reading, &mut kinds, &mut starts, &mut lengths).map(Iterator::collect)
+    let mut depths = alloc::vec![0; room];
+    let lexemes = lex_into(
+        query,
+        reading,
+        &mut kinds,
+        &mut starts,
+        &mut lengths,
+        &mut depths,
+    );
+    lexemes.map(Iterator::collect)
 }
 
-/// Writes the lexemes of a query, its end included, in a reading, to the fronts of three lists. What stands behind them stays, and
+/// Writes the lexemes of a query, its end included, in a reading, to the fronts of four lists. What stands behind them stays, and
 /// where the query is refused all of it. A query has at most one lexeme more than bytes.
 ///
 /// # Errors
@@ -125,12 +143,21 @@ where
 /// ```
 /// use simmerpath::{lex_into, Reading};
 ///
-/// let query = "a or b";
-/// let (mut kinds, mut starts, mut lengths) = ([9; 5], [9; 5], [9; 5]);
-/// let lexemes = lex_into(query, Reading::Crate, &mut kinds, &mut starts, &mut lengths)?;
-/// assert_eq!(lexemes.len(), 4);
-/// assert!(lexemes.map(|lexeme| lexeme.text(query)).eq(["a", "or", "b", ""]));
-/// assert_eq!((kinds, starts, lengths), ([1, 36, 1, 0, 9], [0, 2, 5, 6, 9], [1, 2, 1, 0, 9]));
+/// let query = "or (b)";
+/// let (mut kinds, mut starts) = ([9; 6], [9; 6]);
+/// let (mut lengths, mut depths) = ([9; 6], [9; 6]);
+/// let lexemes = lex_into(
+///     query,
+///     Reading::Crate,
+///     &mut kinds,
+///     &mut starts,
+///     &mut lengths,
+///     &mut depths,
+/// )?;
+/// assert_eq!(lexemes.len(), 5);
+/// assert!(lexemes.map(|lexeme| lexeme.text(query)).eq(["or", "(", "b", ")", ""]));
+/// assert_eq!((kinds, starts), ([36, 6, 1, 7, 0, 9], [0, 3, 4, 5, 6, 9]));
+/// assert_eq!((lengths, depths), ([2, 1, 1, 1, 0, 9], [0, 0, 1, 0, 0, 9]));
 /// # Ok::<(), simmerpath::Error>(())
 /// ```
 pub fn lex_into<'l, Q>(
@@ -139,34 +166,40 @@ pub fn lex_into<'l, Q>(
     kinds: &'l mut [TokenId],
     starts: &'l mut [u32],
     lengths: &'l mut [u32],
+    depths: &'l mut [u32],
 ) -> Result<Lexemes<'l>, Error>
 where
     Q: AsRef<[u8]> + ?Sized,
 {
     let query = query.as_ref();
-    let answer = ffi::lexer(query, reading.documented(), kinds, starts, lengths);
+    let answer = ffi::lexer(query, reading.documented(), kinds, starts, lengths, depths);
     let count = query_result(answer, query, reading)? as usize;
+    let kinds_and_depths = kinds[..count].iter().zip(&depths[..count]);
     let spans = starts[..count].iter().zip(&lengths[..count]);
     Ok(Lexemes {
-        lists: kinds[..count].iter().zip(spans),
+        lists: kinds_and_depths.zip(spans),
     })
 }
+
+/// The kinds of lexemes, and their depths.
+type KindsAndDepths<'l> = Zip<Iter<'l, TokenId>, Iter<'l, u32>>;
 
 /// The starts of lexemes, and their lengths.
 type Spans<'l> = Zip<Iter<'l, u32>, Iter<'l, u32>>;
 
-/// An iterator over the lexemes in three lists: what [`lex_into`] gives.
+/// An iterator over the lexemes in four lists: what [`lex_into`] gives.
 #[derive(Clone, Debug)]
 pub struct Lexemes<'l> {
-    lists: Zip<Iter<'l, TokenId>, Spans<'l>>,
+    lists: Zip<KindsAndDepths<'l>, Spans<'l>>,
 }
 
 /// The lexeme of an entry of each list.
-fn lexeme((&kind, (&start, &length)): (&TokenId, (&u32, &u32))) -> Lexeme {
+fn lexeme(((&kind, &depth), (&start, &length)): ((&TokenId, &u32), (&u32, &u32))) -> Lexeme {
     Lexeme {
         kind,
         start: start as usize,
         length: length as usize,
+        depth: depth as usize,
     }
 }
 

@@ -2,8 +2,9 @@
 //!
 //! The work is done by C functions that are proved: each ends for all bytes and all lengths of what it is lent, with the one answer
 //! that its definition gives, or with a numbered refusal, after which all that it was lent is as it was. The functions here have
-//! the names of promql-parser's, whose answers they give. What that has not: [`parse_duration_exact`], and the reading that Prometheus
-//! documents, where it differs, which is asked for by a [`Reading`]. All of them are safe to call, and none panics.
+//! the names of promql-parser's, whose answers they give. What that has not: [`Lexeme::depth`], [`parse_duration_exact`], and the
+//! reading that Prometheus documents, where it differs, which is asked for by a [`Reading`]. All of them are safe to call, and none
+//! panics.
 //!
 //! ```
 //! use simmerpath::token::{T_EOF, T_IDENTIFIER, T_LEFT_BRACKET};
@@ -15,6 +16,10 @@
 //! assert_eq!(lexemes[0].kind, T_IDENTIFIER);
 //! assert_eq!(lexemes[1].kind, T_LEFT_BRACKET);
 //! assert_eq!(lexemes[4].kind, T_EOF);
+//!
+//! let lexemes = simmerpath::lexer("sum(rate(up[5m]))")?;
+//! assert_eq!((lexemes[1].depth, lexemes[9].depth), (0, 0)); // sum's own parentheses
+//! assert_eq!((lexemes[3].depth, lexemes[8].depth), (1, 1)); // rate's
 //!
 //! let refused = simmerpath::lexer("up[:5m]").unwrap_err();
 //! assert_eq!((refused.number(), refused.byte()), (29, 3));

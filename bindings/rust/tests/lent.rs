@@ -8,26 +8,37 @@ use std::time::Duration;
 
 #[test]
 fn lexemes_in_lent_lists() {
-    let (mut kinds, mut starts, mut lengths) = ([0; 5], [0; 5], [0; 5]);
-    let reading = Reading::default();
-    let lexemes = lex_into("a[5m]", reading, &mut kinds, &mut starts, &mut lengths).unwrap();
-    assert_eq!(lexemes.len(), 5);
+    let (mut kinds, mut starts) = ([0; 7], [0; 7]);
+    let (mut lengths, mut depths) = ([0; 7], [0; 7]);
+    let lexemes = lex_into(
+        "(a[5m])",
+        Reading::default(),
+        &mut kinds,
+        &mut starts,
+        &mut lengths,
+        &mut depths,
+    );
+    let lexemes = lexemes.unwrap();
+    assert_eq!(lexemes.len(), 7);
     let last = lexemes.clone().next_back();
     let end = Lexeme {
         kind: T_EOF,
-        start: 5,
+        start: 7,
         length: 0,
+        depth: 0,
     };
     assert_eq!(last, Some(end));
+    let depths = lexemes.clone().map(|lexeme| lexeme.depth);
+    assert!(depths.eq([0, 1, 1, 1, 1, 0, 0]));
     assert!(lexemes
         .map(|lexeme| lexeme.kind)
-        .eq([T_IDENTIFIER, 10, T_DURATION, 11, T_EOF]));
+        .eq([6, T_IDENTIFIER, 10, T_DURATION, 11, 7, T_EOF]));
 }
 
 #[test]
 fn an_empty_list_is_too_short() {
     for reading in [Reading::Crate, Reading::Documented] {
-        let error = lex_into("", reading, &mut [], &mut [], &mut []).unwrap_err();
+        let error = lex_into("", reading, &mut [], &mut [], &mut [], &mut []).unwrap_err();
         assert_eq!((error.number(), error.byte(), error.character()), (3, 0, 0));
     }
 }

@@ -8,7 +8,7 @@ use simmerpath::{unquote_string, unquote_string_into, Reading, NUMBER_LIMIT, TEX
 use std::borrow::Cow;
 
 /// What stands in a list before a call.
-const BLANK: (u16, u32, u32) = (0xeeee, 0xdddd_dddd, 0xcccc_cccc);
+const BLANK: (u16, u32, u32, u32) = (0xeeee, 0xdddd_dddd, 0xcccc_cccc, 0xbbbb_bbbb);
 
 #[test]
 fn a_query_of_the_limit_is_read_and_a_longer_one_refused() {
@@ -18,6 +18,20 @@ fn a_query_of_the_limit_is_read_and_a_longer_one_refused() {
     assert_eq!(lexer(&spaces).unwrap()[0].start, TEXT_LIMIT);
     let error = lexer(&(spaces + " ")).unwrap_err();
     assert_eq!((error.number(), error.has_place()), (TOO_LONG, false));
+}
+
+#[test]
+fn parentheses_as_deep_as_can_be() {
+    let most = TEXT_LIMIT / 2;
+    let lexemes = lexer(&["(".repeat(most), "a".into(), ")".repeat(most)].concat()).unwrap();
+    assert_eq!(lexemes[most].depth, most);
+    for (depth, open) in lexemes[..most].iter().enumerate() {
+        let close = &lexemes[2 * most - depth];
+        assert_eq!((open.depth, close.depth), (depth, depth));
+    }
+    assert_eq!(lexemes[2 * most + 1].depth, 0);
+    let error = lexer(&"(".repeat(TEXT_LIMIT)).unwrap_err();
+    assert_eq!((error.number(), error.byte()), (10, TEXT_LIMIT));
 }
 
 #[test]
@@ -123,40 +137,51 @@ fn bytes_that_are_no_text_are_refused() {
 
 #[test]
 fn a_list_that_is_too_short_leaves_all_as_they_were() {
-    for short in 0..3 {
+    for short in 0..4 {
         let room = |list| if list == short { 4 } else { 6 };
         let mut kinds = vec![BLANK.0; room(0)];
         let mut starts = vec![BLANK.1; room(1)];
         let mut lengths = vec![BLANK.2; room(2)];
+        let mut depths = vec![BLANK.3; room(3)];
         let lexemes = lex_into(
             "a[5m]",
             Reading::Crate,
             &mut kinds,
             &mut starts,
             &mut lengths,
+            &mut depths,
         );
         assert_eq!(lexemes.unwrap_err().number(), NO_ROOM);
         assert_eq!(kinds, vec![BLANK.0; room(0)]);
         assert_eq!(starts, vec![BLANK.1; room(1)]);
         assert_eq!(lengths, vec![BLANK.2; room(2)]);
+        assert_eq!(depths, vec![BLANK.3; room(3)]);
     }
 }
 
 #[test]
 fn a_refused_query_leaves_the_lists_as_they_were() {
-    let (mut kinds, mut starts, mut lengths) = ([BLANK.0; 9], [BLANK.1; 9], [BLANK.2; 9]);
+    let (mut kinds, mut starts) = ([BLANK.0; 9], [BLANK.1; 9]);
+    let (mut lengths, mut depths) = ([BLANK.2; 9], [BLANK.3; 9]);
     for (query, reading, number) in [
+        ("((a) +", Reading::Crate, 10),
+        ("((a)))", Reading::Crate, 16),
         ("a + b !", Reading::Crate, 13),
         ("a + 1_0", Reading::Crate, 20),
         ("1_0 + 1_", Reading::Documented, 20),
     ] {
-        let lexemes = lex_into(query, reading, &mut kinds, &mut starts, &mut lengths);
+        let lexemes = lex_into(
+            query,
+            reading,
+            &mut kinds,
+            &mut starts,
+            &mut lengths,
+            &mut depths,
+        );
         assert_eq!(lexemes.unwrap_err().number(), number, "{query}");
     }
-    assert_eq!(
-        (kinds, starts, lengths),
-        ([BLANK.0; 9], [BLANK.1; 9], [BLANK.2; 9])
-    );
+    assert_eq!((kinds, starts), ([BLANK.0; 9], [BLANK.1; 9]));
+    assert_eq!((lengths, depths), ([BLANK.2; 9], [BLANK.3; 9]));
 }
 
 #[test]

@@ -10,6 +10,9 @@ use std::{env, fs, str};
 /// The room that is lent where a record names none: as much as any answer needs.
 const MOST_ROOM: usize = 2 * TEXT_LIMIT;
 
+/// How many lists lexemes are written to.
+const LISTS: usize = 4;
+
 /// The answer to a line that is no record.
 const BAD_RECORD: &str = "bad record";
 
@@ -65,8 +68,9 @@ fn answer(record: &str) -> Option<String> {
         "duration" => parse_duration(&bytes).map(timed),
         "durexact" => parse_duration_exact(&bytes).map(timed),
         "durwrite" => Ok(written(&bytes, room)?),
-        "lex" => lexed(&bytes, Reading::Crate, lent.len()),
-        "lexdoc" => lexed(&bytes, Reading::Documented, lent.len()),
+        "lex" => lexed(&bytes, Reading::Crate, [lent.len(); LISTS]),
+        "lexdoc" => lexed(&bytes, Reading::Documented, [lent.len(); LISTS]),
+        "lexrooms" => lexed_in_rooms(&bytes)?,
         _ => panic!("there is no op {op}"),
     };
     Some(match answered {
@@ -118,11 +122,30 @@ fn written(digits: &[u8], room: Option<usize>) -> Option<String> {
     Some(hex(display_duration(&duration).as_bytes()))
 }
 
-/// The lexemes of a query in lists of so many entries.
-fn lexed(query: &[u8], reading: Reading, room: usize) -> Result<String, Error> {
-    let (mut kinds, mut starts, mut lengths) = (vec![0; room], vec![0; room], vec![0; room]);
-    let lexemes = lex_into(query, reading, &mut kinds, &mut starts, &mut lengths)?;
-    let entry = |l: Lexeme| format!("{},{},{}", l.kind, l.start, l.length);
+/// The lexemes of a query behind the rooms of the four lists; none where there are no four.
+fn lexed_in_rooms(bytes: &[u8]) -> Option<Result<String, Error>> {
+    let mut words = bytes.splitn(LISTS + 1, |&byte| byte == b' ');
+    let mut rooms = [0; LISTS];
+    for room in &mut rooms {
+        let named: u64 = str::from_utf8(words.next()?).ok()?.parse().ok()?;
+        *room = named.min(MOST_ROOM as u64) as usize;
+    }
+    Some(lexed(words.next()?, Reading::Crate, rooms))
+}
+
+/// The lexemes of a query in lists of so many entries each.
+fn lexed(query: &[u8], reading: Reading, rooms: [usize; LISTS]) -> Result<String, Error> {
+    let (mut kinds, mut starts) = (vec![0; rooms[0]], vec![0; rooms[1]]);
+    let (mut lengths, mut depths) = (vec![0; rooms[2]], vec![0; rooms[3]]);
+    let lexemes = lex_into(
+        query,
+        reading,
+        &mut kinds,
+        &mut starts,
+        &mut lengths,
+        &mut depths,
+    )?;
+    let entry = |l: Lexeme| format!("{},{},{},{}", l.kind, l.start, l.length, l.depth);
     Ok(lexemes.map(entry).collect::<Vec<_>>().join(" "))
 }
 

@@ -1,5 +1,5 @@
-//! The values that document 01 gives, its misreadings to catch, the places, the exact durations, the digit separators and the
-//! backquotes of document 02, and the worked examples of promql-parser.
+//! The values that document 01 gives, its misreadings to catch, the places, the exact durations, the digit separators, the
+//! backquotes and the depths of document 02, and the worked examples of promql-parser.
 #![cfg(feature = "alloc")]
 
 use simmerpath::token::*;
@@ -26,6 +26,7 @@ fn queries_that_are_accepted() {
         kind: T_EOF,
         start: 0,
         length: 0,
+        depth: 0,
     };
     assert_eq!(lexer("").unwrap(), [end]);
     assert_eq!(kinds("{or }"), [8, 36, 9, 0]);
@@ -128,6 +129,30 @@ fn backquotes_in_both_readings() {
         assert_eq!(first(r"'\''", reading), string(4));
         assert_eq!(first("`a", reading), Err((23, 2)));
     }
+}
+
+#[test]
+fn depths_in_both_readings() {
+    let cases = [
+        ("", vec![0]),
+        ("()", vec![0, 0, 0]),
+        ("((a) b) c", vec![0, 1, 2, 1, 1, 0, 0, 0]),
+        ("()(())", vec![0, 0, 0, 1, 1, 0, 0]),
+        ("a[5m] (b)", vec![0, 0, 0, 0, 0, 1, 0, 0]),
+        ("({a=\"(\"}(b))", vec![0, 1, 1, 1, 1, 1, 1, 2, 1, 0, 0]),
+        ("(\"))\" + '(' - `(`)", vec![0, 1, 1, 1, 1, 1, 0, 0]),
+        ("(# ))\na#(\n)", vec![0, 1, 0, 0]),
+        ("fill (fill ())", vec![0, 0, 1, 1, 1, 0, 0]),
+    ];
+    for (query, depths) in cases {
+        for reading in [Reading::Crate, Reading::Documented] {
+            let lexemes = lexer_in(query, reading).unwrap();
+            let read: Vec<_> = lexemes.iter().map(|lexeme| lexeme.depth).collect();
+            assert_eq!(read, depths, "{query}");
+        }
+    }
+    assert_eq!(refused("((a)"), (10, 4, 4));
+    assert_eq!(refused("(a))"), (16, 3, 3));
 }
 
 #[test]

@@ -1,7 +1,8 @@
 //! Lexing by the Rust's lex.rs, and what document 01 has beside it: the limit, the room, the number of each refusal, and which
-//! of the places that the Rust comes to is its place. Every lexeme and every place is the Rust's. There are no known
-//! differences.
+//! of the places that the Rust comes to is its place. Every lexeme and every place is the Rust's; the depths are counted from its
+//! kinds (`depth`). There are no known differences.
 
+use super::depth::depths;
 use super::utf8::admitted;
 use super::{Answer, NO_ROOM};
 use promql::{Place, Stopped};
@@ -59,12 +60,13 @@ const REFUSALS: [(At, &[Row]); 4] = [
     (Stopped::not_taken, &[(BAD_NUMERAL, SAID_OF_NUMERAL)]),
 ];
 
-/// What a query is read as: the kind, start and length of each lexeme, and the refusal behind these where there is one.
+/// What a query is read as: the kind, start, length and depth of each lexeme, and the refusal behind these where there is one.
 #[derive(Default, PartialEq)]
 pub struct Lexed {
     pub kinds: Vec<u16>,
     pub starts: Vec<u32>,
     pub lengths: Vec<u32>,
+    pub depths: Vec<u32>,
     refused: Option<Answer>,
     said: Option<String>,
     /// Where the text begins that no lexeme has.
@@ -94,8 +96,10 @@ impl Lexed {
         assert_eq!(promql::lexemes(query).as_ref(), stepped, "{query:?}");
         let said = stepped.err().cloned();
         let lexemes = steps.lexemes.iter();
+        let kinds: Vec<u16> = lexemes.clone().map(|lexeme| lexeme.0).collect();
         Lexed {
-            kinds: lexemes.clone().map(|lexeme| lexeme.0).collect(),
+            depths: depths(&kinds),
+            kinds,
             starts: lexemes.clone().map(|lexeme| lexeme.1 as u32).collect(),
             lengths: lexemes.map(|lexeme| lexeme.2 as u32).collect(),
             refused: steps.stopped.map(|stopped| refusal(query, stopped)),
@@ -154,13 +158,21 @@ impl Lexed {
     }
 
     /// Writes the lexemes to the fronts of the lists: how many they are.
-    pub fn write(&self, kinds: &mut [u16], starts: &mut [u32], lengths: &mut [u32]) -> Answer {
-        let room = kinds.len().min(starts.len()).min(lengths.len());
+    pub fn write(
+        &self,
+        kinds: &mut [u16],
+        starts: &mut [u32],
+        lengths: &mut [u32],
+        depths: &mut [u32],
+    ) -> Answer {
+        let rooms = [kinds.len(), starts.len(), lengths.len(), depths.len()];
+        let room = rooms.into_iter().fold(usize::MAX, usize::min);
         let answer = self.answer(room as u64);
         if let Answer::Value(_) = answer {
             kinds[..self.count()].copy_from_slice(&self.kinds);
             starts[..self.count()].copy_from_slice(&self.starts);
             lengths[..self.count()].copy_from_slice(&self.lengths);
+            depths[..self.count()].copy_from_slice(&self.depths);
         }
         answer
     }

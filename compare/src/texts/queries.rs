@@ -87,8 +87,8 @@ const TELLING: [&str; 26] = [
 type Around = [&'static str; 2];
 
 /// What stands around every row, what it is made of, and how much of that it has at most: for numbers and durations, braces,
-/// brackets, strings, signs, comments, and what is behind a fill word.
-const ROWS: [(&[Around], &[&str], u32); 7] = [
+/// brackets, strings, signs, comments, depths, and what is behind a fill word.
+const ROWS: [(&[Around], &[&str], u32); 8] = [
     (
         &[["", ""], ["[", "]"]],
         &["0", "7", "x", ".", "e", "+", "m", "s", "y", "f"],
@@ -110,6 +110,11 @@ const ROWS: [(&[Around], &[&str], u32); 7] = [
         &[["", ""], ["{", "}"]],
         &["(", ")", "#", "\r", "\n", " ", "}", "a"],
         5,
+    ),
+    (
+        &[["", ""], ["((", "))"]],
+        &["(", ")", "a", "{}", "')'", "#(\n"],
+        6,
     ),
     (
         &[
@@ -180,7 +185,7 @@ const NO_NUMBERS: [&str; 15] = [
 ];
 
 /// Numbers with separators, and what is nearly one.
-const SEPARATED: [&str; 42] = [
+pub const SEPARATED: [&str; 42] = [
     "1_000",
     "0x_1f",
     "0x1_e",
@@ -547,6 +552,24 @@ const AROUND_CHARACTER: [Around; 18] = [
 /// How deep parentheses are nested.
 const DEPTHS: [usize; 16] = [
     1, 2, 3, 4, 5, 7, 8, 9, 31, 32, 255, 256, 257, 4_096, 10_000, 32_767,
+];
+
+/// What stands between parentheses and has none that count.
+const BETWEEN: [&str; 14] = [
+    "",
+    " ",
+    ",",
+    "a ",
+    "sum by",
+    "fill ",
+    "[5m]",
+    "[5m:1m]",
+    "{}",
+    "{a=\"(\"}",
+    "')'",
+    "`\u{e9}(`",
+    "#)\n",
+    "# (\u{e9}\r",
 ];
 
 /// What stands in the innermost parentheses.
@@ -928,6 +951,7 @@ fn round(random: &mut Random, words: &[&str]) -> Vec<Vec<u8>> {
         crossed(random, sample, &other),
         spoiled(random, &pieces, &PUT_IN),
         in_parentheses(random, &other),
+        in_pairs(random),
         (0..count).map(|_| random.byte()).collect(),
         (0..count).map(|_| random.byte() % 0x80).collect(),
         (0..count)
@@ -975,6 +999,30 @@ fn in_parentheses(random: &mut Random, text: &[u8]) -> Vec<u8> {
         ")".repeat(closed).as_bytes(),
     ]
     .concat()
+}
+
+/// Pairs of parentheses, one in another and beside each other; one in eight times one too few or too many closes them.
+fn in_pairs(random: &mut Random) -> Vec<u8> {
+    let (mut text, mut open) = (String::new(), 0_usize);
+    for _ in 0..random.below(40) {
+        match random.below(3) {
+            0 => {
+                text += "(";
+                open += 1;
+            }
+            1 if open > 0 => {
+                text += ")";
+                open -= 1;
+            }
+            _ => text += random.one_of(&BETWEEN),
+        }
+    }
+    let closed = match random.below(16) {
+        0 => open + 1,
+        1 => open.saturating_sub(1),
+        _ => open,
+    };
+    (text + &")".repeat(closed)).into_bytes()
 }
 
 /// Up to twelve pieces in a row, with or without a space behind each; one in 64 times up to 200.

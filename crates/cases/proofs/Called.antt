@@ -41,8 +41,8 @@ use Rattle.duration.proofs.display.display_duration.Kinds as display
 use Rattle.duration.proofs.display.display_duration.Reads as display-reads
 use Rattle.lex.specs.declared.Lexing.the-variants as lexing
 use Rattle.lex.specs.Lex.{roomed, lexed}
-use Rattle.join.specs.laws.Calls.{LexCall, roomIn, kindsLeft}
-use Rattle.join.proofs.Calls.{answered, writes}
+use Rattle.calls.specs.laws.Calls.{LexCall, roomIn, kindsLeft}
+use Rattle.calls.proofs.Calls.{answered, writes}
 use Rattle.cases.specs.laws.Cases.{Case, lexes, refuses, literal, timed, written, queries, texts, cases, Shown, Each}
 use Rattle.cases.proofs.Shown.{queries-shown, texts-shown, each-both}
 

@@ -11,7 +11,7 @@ use Rattle.utf8.specs.declared.Reading.the-variants.{Crate}
 use Rattle.utf8.specs.declared.Refusal.{Refusal}
 use Rattle.lex.specs.declared.Lexing.{Lexing}
 use Rattle.lex.specs.declared.Lexing.the-variants.{Count, Refused}
-use Rattle.join.specs.laws.Calls.{LexCall, roomIn, kindsLeft}
+use Rattle.calls.specs.laws.Calls.{LexCall, roomIn, kindsLeft}
 use Rattle.cases.specs.laws.Cases.{lexes}
 use Rattle.cases.proofs.Called.{Called, all-called}
 

@@ -28,7 +28,7 @@ use Rattle.scan.specs.laws.Edge.{Bytes}
 use Rattle.munch.specs.laws.Step.{Goes, Seam, same, grown, called, refused}
 use Rattle.munch.proofs.Goes.{step-goes}
 use Rattle.munch.proofs.Seam.{step-seam}
-use Rattle.lex.specs.Outcome.{stepsPast, stepsOf, Entry, entry, Outcome, reads, ends, refuses, readFrom, outcomeOf}
+use Rattle.lex.specs.Outcome.{stepsPast, stepsOf, Entry, entry, depthBy, Outcome, reads, ends, refuses, readFrom, outcomeOf}
 use Rattle.lex.proofs.Steps.{steps-at}
 use Rattle.join.specs.laws.Join.{joined, LastNoFill, movedEntry}
 use Rattle.join.proofs.Steps.{Accepts, lexemes, line-step, ended, blank}
@@ -53,7 +53,7 @@ read-shift : (d : ℕ) (t : List Step) (at : ℕ) → readFrom (d + at) t ≡ sh
 unfolding readFrom
 read-shift d [] at = refl
 read-shift d (Lexeme k n m ∷ t) at =
-    ap (reads (entry k (d + at) n)) (ap (λ (o : ℕ). readFrom o t) (omega arith) ∙ read-shift d t (at + n))
+    ap (reads (entry k (d + at) n (depthBy k m))) (ap (λ (o : ℕ). readFrom o t) (omega arith) ∙ read-shift d t (at + n))
 read-shift d (Space m ∷ t) at = ap (λ (o : ℕ). readFrom o t) (omega arith) ∙ read-shift d t (at + 1)
 read-shift d (Comment n ∷ t) at = ap (λ (o : ℕ). readFrom o t) (omega arith) ∙ read-shift d t (at + n)
 read-shift d (Refused r o ∷ t) at = ap (refuses r) (omega arith)
@@ -70,7 +70,7 @@ readAt r q at m = readFrom at (stepsPast r 0 m (drop at q))
 
 -- a fill word with nothing but white space behind it is the last lexeme
 fill-last : (r : Reading) (q : List ℕ) (at k n : ℕ) (m : Mode) → keywordOf (take n (drop at q)) ≡ Kind k → isFill k ≡ true → runEnd (isIn class.Space) (drop at q) n ≡ length (drop at q)
-    → LastNoFill q (entry identifier at n ∷ lexemes (readAt r q (at + n) m)) → ⊥
+    → LastNoFill q (entry identifier at n (depthBy identifier m) ∷ lexemes (readAt r q (at + n) m)) → ⊥
 fill-last r q at k n m w i white p =
     let s : n + runLength (isIn class.Space) (drop (at + n) q) ≡ length (drop at q) = rw drop-drop at white in
     let t : runLength (isIn class.Space) (drop (at + n) q) ≡ length (drop (at + n) q) = omega (arith, length-drop at q, length-drop (at + n) q) in
@@ -103,7 +103,7 @@ module _ (r : Reading) (a b : List ℕ) where
     join-step (same (Lexeme k n m′)) e f =
         let g = goes-at r a at m e in
         rw (steps-at r a at m _ e, steps-at r (joined a b) at m _ f)
-        (λ h p. ap (reads (entry k at n)) (rest n m′ (g .some) (g .within) h (plain-behind a (entry k at n) (lexemes (readAt r a (at + n) m′)) p)))
+        (λ h p. ap (reads (entry k at n (depthBy k m′))) (rest n m′ (g .some) (g .within) h (plain-behind a (entry k at n (depthBy k m′)) (lexemes (readAt r a (at + n) m′)) p)))
     join-step (same (Space m′)) e f =
         rw (steps-at r a at m _ e, steps-at r (joined a b) at m _ f) (rest 1 m′ (omega arith) (goes-at r a at m e .within))
     join-step (same (Comment n)) e f =

@@ -4,7 +4,7 @@ use Prim.Native.Nat.{ℕ, zero, suc, _+_, _<_, _≤_}
 use native.Mathlib.Omega.{arith}
 use mathlib.Core.List.{List}
 use mathlib.Core.Logic.{_⊎_, inl, inr, ⊎-elim}
-use mathlib.Core.Path.{_≡_, refl, sym, ap, subst, _∙_}
+use mathlib.Core.Path.{_≡_, refl, sym, ap, subst}
 use lib.ListN.{length, drop, length-drop}
 use Rattle.utf8.specs.declared.Reading.{Reading}
 use Rattle.token.specs.Kinds.{eofKind}
@@ -12,7 +12,7 @@ use Rattle.munch.specs.declared.Mode.{Mode}
 use Rattle.munch.specs.declared.Step.{Step}
 use Rattle.munch.specs.declared.Step.the-variants.{Lexeme, Space, Comment, Refused, Finished}
 use Rattle.munch.specs.Munch.{outside, munched}
-use Rattle.lex.specs.Outcome.{Entry, entry, stepsPast, readFrom}
+use Rattle.lex.specs.Outcome.{Entry, stepsPast, readFrom}
 use Rattle.lex.specs.Lex.{entries}
 use Rattle.lex.specs.laws.Refusals.{Reaches, start, lexeme, space, comment}
 use Rattle.lex.specs.laws.Entries.{Among, StepThere, EntryIsStep}
@@ -34,7 +34,7 @@ module _ (r : Reading) (q : List ℕ) (e : Entry) where
       go (Lexeme k n m′) f a =
           let g = goes-at r q i m f in
           ⊎-elim
-          (λ x. inr (subst (StepThere r q) (sym x) (record { mode = m; next = m′; reached = h; step = f })))
+          (λ x. inr (subst (StepThere r q) (sym x) (record { mode = m; next = m′; reached = h; step = f; deep = refl })))
           (λ x. more (i + n) m′ (omega (arith, g .some)) (omega (arith, g .within, length-drop i q, g .some)) (lexeme i k n m m′ h f) x)
           (rw (steps-at r q i m _ f) at a)
       go (Space m′) f a =

@@ -1,5 +1,5 @@
 -- The refusals of a string in a whole query: by its row, the string begins where the step stands, and is refused so many bytes behind its sign.
-use Prim.Native.Nat.{ℕ, suc, _+_, _<_}
+use Prim.Native.Nat.{ℕ, suc, _<_}
 use native.Mathlib.Omega.{arith}
 use mathlib.Core.Bool.{true}
 use mathlib.Core.List.{List}
@@ -8,7 +8,7 @@ use mathlib.Core.Path.{_≡_, refl, ap, _∙_}
 use lib.ListN.{length, drop, length-drop}
 use lib.Seq.{getD-drop}
 use native.Mathlib.Nat.{add-zero}
-use Rattle.scan.specs.Byte.{end, peekAt, backquote, isQuote}
+use Rattle.scan.specs.Byte.{end, peekAt, isQuote}
 use Rattle.scan.proofs.Runs.{inside}
 use Rattle.utf8.specs.declared.Reading.{Reading}
 use Rattle.utf8.specs.declared.Reading.the-variants.{Documented}

@@ -14,9 +14,9 @@ use Rattle.lex.specs.declared.Lexing.{Lexing}
 use Rattle.lex.specs.declared.Lexing.the-variants.{Count, Refused}
 use Rattle.lex.specs.Outcome.{Entry, entry, Outcome, reads, ends, refuses, outcomeOf}
 
--- the lexemes that were read; "EOF: start at the query's length, length 0"
+-- the lexemes that were read; "EOF: start at the query's length, length 0", and nothing is open there
 abbrev pub eof : ℕ → Entry
-eof at = entry eofKind at 0
+eof at = entry eofKind at 0 0
 
 abbrev pub entries : Outcome → List Entry
 entries (reads e r) = e ∷ entries r
@@ -53,7 +53,7 @@ abbrev pub notLexed : Lexing → Refusal
 notLexed (Count n) = noRefusal
 notLexed (Refused refusal) = refusal
 
--- "the first count entries of the three lent lists .. are written, no other"
+-- "the first count entries of the three lent lists .. are written, no other", and of a fourth since document 02's L7
 abbrev pub listed : Reading → (Entry → ℕ) → List ℕ → List ℕ → List ℕ
 listed r f q d = map f (entriesOf r q) ++ drop (length (entriesOf r q)) d
 
@@ -70,6 +70,9 @@ startsAt e = e .start
 abbrev pub lengthOf : Entry → ℕ
 lengthOf e = e .length
 
--- the shortest of three
-abbrev pub shortest : ℕ → ℕ → ℕ → ℕ
-shortest a b c = min a (min b c)
+abbrev pub depthOf : Entry → ℕ
+depthOf e = e .depth
+
+-- 02, L7: "Room is the shortest of four lists."
+abbrev pub shortest : ℕ → ℕ → ℕ → ℕ → ℕ
+shortest a b c d = min a (min b (min c d))

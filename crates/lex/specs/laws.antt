@@ -1,3 +1,4 @@
 pub mod Bounds
 pub mod Refusals
 pub mod Entries
+pub mod Before

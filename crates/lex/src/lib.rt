@@ -1,4 +1,4 @@
-// Lexing a query, in a reading, to three lent lists. A pass reads it into lists of the lexer's own, so that nothing lent is written before the
+// Lexing a query, in a reading, to four lent lists. A pass reads it into lists of the lexer's own, so that nothing lent is written before the
 // query is measured; where all lexemes had room there they are copied, and otherwise a second pass writes them. A refused query writes nothing.
 use munch::Inside;
 use munch::Mode;
@@ -10,18 +10,16 @@ use utf8::Reading;
 use utf8::Refusal;
 ghost use mathlib.Core.Path.{_≡_};
 ghost use mathlib.Core.List.{_++_};
-ghost use Prim.Native.Nat.{_≤_};
+ghost use Prim.Native.Nat.{_≤_, min};
 ghost use lib.ListN.{length, set, take, drop};
 ghost use Rattle.utf8.specs.Answers.{textLimit};
 ghost use Rattle.token.specs.steps.WordRows.{wordTable};
-ghost use mathlib.Core.Bool.{true, false};
-ghost use Rattle.munch.specs.declared.Inside.the-variants.{Braces, Brackets};
-ghost use Rattle.munch.specs.Munch.{mode};
+ghost use Rattle.munch.specs.Munch.{mode, munched};
 ghost use Rattle.munch.specs.laws.Modes.{Opens};
 ghost use Rattle.munch.specs.steps.Leads.{leadTable};
-ghost use Rattle.lex.specs.Lex.{entriesOf, measured, notLexed, roomed, lexed, listed, leftAfter, kindOf, startsAt, lengthOf, shortest};
+ghost use Rattle.lex.specs.Lex.{entriesOf, measured, notLexed, roomed, lexed, listed, leftAfter, kindOf, startsAt, lengthOf, depthOf, shortest};
 ghost use Rattle.lex.specs.steps.Tally.{refusedBy, tallyOf, refusedIn, answerIn};
-ghost use Rattle.lex.specs.steps.Pass.{filled, outcomeAt, spanOf, state, stateBehind, Leads, Alike, Reached};
+ghost use Rattle.lex.specs.steps.Pass.{inBraces, hasColon, insideBy, filled, outcomeAt, lexemeOf, state, stateBehind, Leads, Alike, Reached};
 
 // How many lexemes a query has, or why it has none.
 pub enum Lexing {
@@ -35,34 +33,57 @@ enum Run {
     Refused { number: usize, at: ByteOffset },
 }
 
-// Where a lexeme stands: its first byte, and how many it has.
-struct Span {
+// A lexeme: its kind, its first byte, how many it has, and its depth.
+struct Lexeme {
+    kind: u16,
     start: ByteOffset,
     length: usize,
+    depth: usize,
 }
 
-// Writes a lexeme at place i of three equally long lists, where they have it.
-fn put(kinds: &mut [u16], starts: &mut [u32], lengths: &mut [u32], i: usize, kind: u16, span: Span)
-    requires { ⌜ Alike (now kinds) (now starts) (now lengths) ⌝ }
-    requires { ⌜ (span .start .0 ≤ textLimit) × (span .length ≤ textLimit) ⌝ }
-    ensures { λ _. ⌜ now (kinds .exit) ≡ set (now (kinds .entry)) i kind ⌝ }
-    ensures { λ _. ⌜ now (starts .exit) ≡ set (now (starts .entry)) i (span .start .0) ⌝ }
-    ensures { λ _. ⌜ now (lengths .exit) ≡ set (now (lengths .entry)) i (span .length) ⌝ }
+// Writes a lexeme at place i of four equally long lists, where they have it.
+fn put(
+    kinds: &mut [u16],
+    starts: &mut [u32],
+    lengths: &mut [u32],
+    depths: &mut [u32],
+    i: usize,
+    lexeme: Lexeme,
+)
+    requires { ⌜ Alike (now kinds) (now starts) (now lengths) (now depths) ⌝ }
+    requires { ⌜ (lexeme .start .0 ≤ textLimit) × (lexeme .length ≤ textLimit) × (lexeme .depth ≤ textLimit) ⌝ }
+    ensures { λ _. ⌜ now (kinds .exit) ≡ set (now (kinds .entry)) i (lexeme .kind) ⌝ }
+    ensures { λ _. ⌜ now (starts .exit) ≡ set (now (starts .entry)) i (lexeme .start .0) ⌝ }
+    ensures { λ _. ⌜ now (lengths .exit) ≡ set (now (lengths .entry)) i (lexeme .length) ⌝ }
+    ensures { λ _. ⌜ now (depths .exit) ≡ set (now (depths .entry)) i (lexeme .depth) ⌝ }
 {
     if i < kinds.len() {
-        let start = span.start;
-        kinds[i] = kind;
+        let start = lexeme.start;
+        kinds[i] = lexeme.kind;
         starts[i] = start.0 as u32;
-        lengths[i] = span.length as u32;
+        lengths[i] = lexeme.length as u32;
+        depths[i] = lexeme.depth as u32;
     }
 }
 
-// Where a lexeme of so many bytes stands that begins at an offset.
-fn placed(at: usize, length: usize) -> Span
-    ensures { λ r. ⌜ r ≡ spanOf at length ⌝ }
+// The lexeme of a kind that begins at an offset.
+fn placed(kind: u16, at: usize, length: usize, depth: usize) -> Lexeme
+    ensures { λ r. ⌜ r ≡ lexemeOf kind at length depth ⌝ }
 {
     let start = ByteOffset(at);
-    Span { start, length }
+    Lexeme {
+        kind,
+        start,
+        length,
+        depth,
+    }
+}
+
+// The lesser of two numbers.
+fn least(a: usize, b: usize) -> usize
+    ensures { λ r. ⌜ r ≡ min a b ⌝ }
+{
+    if a <= b { a } else { b }
 }
 
 // A text is refused at an offset.
@@ -73,77 +94,89 @@ fn refused_by(number: usize, at: usize) -> Run
     Run::Refused { number, at }
 }
 
-// Reads on in braces from a place, through the brace that closes them, and writes the lexemes that have room, the first of them at place `first`.
-fn braces(
+// Whether braces are open, and whether brackets that have their colon.
+fn in_braces(inside: Inside) -> bool
+    ensures { λ r. ⌜ r ≡ inBraces inside ⌝ }
+{
+    let Inside::Braces = inside else {
+        return false;
+    };
+    true
+}
+
+fn has_colon(inside: Inside) -> bool
+    ensures { λ r. ⌜ r ≡ hasColon inside ⌝ }
+{
+    let Inside::Brackets { seen, fresh: _ } = inside else {
+        return false;
+    };
+    seen
+}
+
+// The step in braces, or else in brackets.
+fn inner_step(
+    leads: &[u8; munch::BYTES],
+    s: &[u8],
+    reading: Reading,
+    depth: usize,
+    braces: bool,
+    seen: bool,
+    fresh: bool,
+) -> Step
+    requires { ⌜ now leads ≡ leadTable ⌝ }
+    ensures { λ r. ⌜ r ≡ munched reading (mode depth (insideBy braces seen fresh)) (now (s .entry)) ⌝ }
+{
+    if braces {
+        munch::brace_step(leads, s, reading, depth)
+    } else {
+        munch::bracket_step(s, reading, depth, seen, fresh)
+    }
+}
+
+// Reads on from a place through the end of what is open there, and writes the lexemes that have room, the first of them at place `first`.
+fn opened(
     leads: &[u8; munch::BYTES],
     query: &[u8],
     reading: Reading,
     kinds: &mut [u16],
     starts: &mut [u32],
     lengths: &mut [u32],
-    depth: usize,
+    depths: &mut [u32],
+    next: Mode,
     from: usize,
     first: usize,
 ) -> Run
-    requires { ⌜ now leads ≡ leadTable ⌝ ∗ ⌜ length (now query) ≤ textLimit ⌝ ∗ ⌜ Alike (now kinds) (now starts) (now lengths) ⌝ }
-    requires { ⌜ (from ≤ length (now query)) × (first ≤ from) ⌝ }
+    requires { ⌜ now leads ≡ leadTable ⌝ ∗ ⌜ length (now query) ≤ textLimit ⌝ ∗ ⌜ Alike (now kinds) (now starts) (now lengths) (now depths) ⌝ }
+    requires { ⌜ Opens (next .inside) ⌝ ∗ ⌜ (from ≤ length (now query)) × (first ≤ from) × (next .depth ≤ from) ⌝ }
     ensures { λ r. ⌜ Reached (now (query .entry)) from r ⌝ }
-    ensures { λ r. ⌜ Leads (state (now (kinds .entry)) (now (starts .entry)) (now (lengths .entry)) first (outcomeAt reading (now (query .entry)) from (mode depth Braces))) (stateBehind reading (now (query .entry)) (now (kinds .exit)) (now (starts .exit)) (now (lengths .exit)) depth r) ⌝ }
+    ensures { λ r. ⌜ Leads (state (now (kinds .entry)) (now (starts .entry)) (now (lengths .entry)) (now (depths .entry)) first (outcomeAt reading (now (query .entry)) from next)) (stateBehind reading (now (query .entry)) (now (kinds .exit)) (now (starts .exit)) (now (lengths .exit)) (now (depths .exit)) (next .depth) r) ⌝ }
 {
+    let inside = next.inside;
+    if let Inside::Nothing = inside {
+        return Run::To {
+            at: from,
+            count: first,
+        };
+    }
+    let depth = next.depth;
+    let braces = in_braces(inside);
+    let mut seen = false;
+    let mut fresh = true;
     let mut at = from;
     let mut i = first;
     loop {
-        let s = munch::brace_step(leads, &query[at..], reading, depth);
+        let s = inner_step(leads, &query[at..], reading, depth, braces, seen, fresh);
         match s {
             Step::Lexeme { kind, length, mode } => {
-                put(kinds, starts, lengths, i, kind, placed(at, length));
+                let lexeme = placed(kind, at, length, depth);
+                put(kinds, starts, lengths, depths, i, lexeme);
                 at += length;
                 i += 1;
                 let inside = mode.inside;
                 if let Inside::Nothing = inside {
                     return Run::To { at, count: i };
                 }
-            }
-            Step::Space { mode: _ } => at += 1,
-            Step::Comment { length } => at += length,
-            Step::Refused { number, at: offset } => return refused_by(number, at + offset),
-            Step::Finished => return Run::To { at, count: i },
-        }
-    }
-}
-
-// The same in brackets.
-fn brackets(
-    query: &[u8],
-    reading: Reading,
-    kinds: &mut [u16],
-    starts: &mut [u32],
-    lengths: &mut [u32],
-    depth: usize,
-    from: usize,
-    first: usize,
-) -> Run
-    requires { ⌜ length (now query) ≤ textLimit ⌝ ∗ ⌜ Alike (now kinds) (now starts) (now lengths) ⌝ }
-    requires { ⌜ (from ≤ length (now query)) × (first ≤ from) ⌝ }
-    ensures { λ r. ⌜ Reached (now (query .entry)) from r ⌝ }
-    ensures { λ r. ⌜ Leads (state (now (kinds .entry)) (now (starts .entry)) (now (lengths .entry)) first (outcomeAt reading (now (query .entry)) from (mode depth (Brackets false true)))) (stateBehind reading (now (query .entry)) (now (kinds .exit)) (now (starts .exit)) (now (lengths .exit)) depth r) ⌝ }
-{
-    let mut at = from;
-    let mut i = first;
-    let mut seen = false;
-    let mut fresh = true;
-    loop {
-        let s = munch::bracket_step(&query[at..], reading, depth, seen, fresh);
-        match s {
-            Step::Lexeme { kind, length, mode } => {
-                put(kinds, starts, lengths, i, kind, placed(at, length));
-                at += length;
-                i += 1;
-                let inside = mode.inside;
-                let Inside::Brackets { seen: c, fresh: _ } = inside else {
-                    return Run::To { at, count: i };
-                };
-                seen = c;
+                seen = has_colon(inside);
                 fresh = false;
             }
             Step::Space { mode: _ } => {
@@ -157,46 +190,6 @@ fn brackets(
     }
 }
 
-// What a lexeme outside has opened, through its end.
-fn opened(
-    leads: &[u8; munch::BYTES],
-    query: &[u8],
-    reading: Reading,
-    kinds: &mut [u16],
-    starts: &mut [u32],
-    lengths: &mut [u32],
-    next: Mode,
-    at: usize,
-    count: usize,
-) -> Run
-    requires { ⌜ now leads ≡ leadTable ⌝ ∗ ⌜ length (now query) ≤ textLimit ⌝ ∗ ⌜ Alike (now kinds) (now starts) (now lengths) ⌝ }
-    requires { ⌜ Opens (next .inside) ⌝ ∗ ⌜ (at ≤ length (now query)) × (count ≤ at) ⌝ }
-    ensures { λ r. ⌜ Reached (now (query .entry)) at r ⌝ }
-    ensures { λ r. ⌜ Leads (state (now (kinds .entry)) (now (starts .entry)) (now (lengths .entry)) count (outcomeAt reading (now (query .entry)) at next)) (stateBehind reading (now (query .entry)) (now (kinds .exit)) (now (starts .exit)) (now (lengths .exit)) (next .depth) r) ⌝ }
-{
-    let depth = next.depth;
-    let inside = next.inside;
-    match inside {
-        Inside::Nothing => Run::To { at, count },
-        Inside::Braces => {
-            braces(
-                leads,
-                query,
-                reading,
-                kinds,
-                starts,
-                lengths,
-                depth,
-                at,
-                count,
-            )
-        }
-        Inside::Brackets { seen: _, fresh: _ } => {
-            brackets(query, reading, kinds, starts, lengths, depth, at, count)
-        }
-    }
-}
-
 // Reads a text and writes the lexemes that have room, lexeme i at place i; those before a refusal too.
 fn pass(
     leads: &[u8; munch::BYTES],
@@ -206,12 +199,14 @@ fn pass(
     kinds: &mut [u16],
     starts: &mut [u32],
     lengths: &mut [u32],
+    depths: &mut [u32],
 ) -> Run
-    requires { ⌜ (now leads ≡ leadTable) × (now words ≡ wordTable) ⌝ ∗ ⌜ length (now query) ≤ textLimit ⌝ ∗ ⌜ Alike (now kinds) (now starts) (now lengths) ⌝ }
+    requires { ⌜ (now leads ≡ leadTable) × (now words ≡ wordTable) ⌝ ∗ ⌜ length (now query) ≤ textLimit ⌝ ∗ ⌜ Alike (now kinds) (now starts) (now lengths) (now depths) ⌝ }
     ensures { λ r. ⌜ r ≡ tallyOf reading (now (query .entry)) ⌝ }
     ensures { λ _. ⌜ now (kinds .exit) ≡ filled reading kindOf (now (query .entry)) (now (kinds .entry)) ⌝ }
     ensures { λ _. ⌜ now (starts .exit) ≡ filled reading startsAt (now (query .entry)) (now (starts .entry)) ⌝ }
     ensures { λ _. ⌜ now (lengths .exit) ≡ filled reading lengthOf (now (query .entry)) (now (lengths .entry)) ⌝ }
+    ensures { λ _. ⌜ now (depths .exit) ≡ filled reading depthOf (now (query .entry)) (now (depths .entry)) ⌝ }
 {
     let mut at = 0;
     let mut i = 0;
@@ -220,11 +215,21 @@ fn pass(
         let s = munch::outside_step(leads, words, &query[at..], reading, depth);
         match s {
             Step::Lexeme { kind, length, mode } => {
-                put(kinds, starts, lengths, i, kind, placed(at, length));
-                at += length;
-                i += 1;
+                let lexeme = placed(kind, at, length, least(depth, mode.depth));
+                put(kinds, starts, lengths, depths, i, lexeme);
                 depth = mode.depth;
-                let r = opened(leads, query, reading, kinds, starts, lengths, mode, at, i);
+                let r = opened(
+                    leads,
+                    query,
+                    reading,
+                    kinds,
+                    starts,
+                    lengths,
+                    depths,
+                    mode,
+                    at + length,
+                    i + 1,
+                );
                 let Run::To { at: end, count } = r else {
                     return r;
                 };
@@ -235,7 +240,8 @@ fn pass(
             Step::Comment { length } => at += length,
             Step::Refused { number, at: offset } => return refused_by(number, at + offset),
             Step::Finished => {
-                put(kinds, starts, lengths, i, kinds::T_EOF, placed(at, 0));
+                let end = placed(kinds::T_EOF, at, 0, 0);
+                put(kinds, starts, lengths, depths, i, end);
                 let count = i + 1;
                 return Run::To { at, count };
             }
@@ -266,6 +272,7 @@ pub fn measure(query: &[u8], reading: Reading) -> Lexing
     let mut kinds = [0u16; 0];
     let mut starts = [0u32; 0];
     let mut lengths = [0u32; 0];
+    let mut depths = [0u32; 0];
     let r = pass(
         &leads,
         &words,
@@ -274,6 +281,7 @@ pub fn measure(query: &[u8], reading: Reading) -> Lexing
         &mut kinds,
         &mut starts,
         &mut lengths,
+        &mut depths,
     );
     let Run::To { at: _, count: n } = r else {
         return Lexing::Refused(refused_in(query, r));
@@ -291,38 +299,38 @@ pub fn not_lexed(answer: Lexing) -> Refusal
     r
 }
 
-// The least of three numbers.
-fn shortest(a: usize, b: usize, c: usize) -> usize
-    ensures { λ r. ⌜ r ≡ shortest a b c ⌝ }
+// The least of four numbers.
+fn shortest(a: usize, b: usize, c: usize, d: usize) -> usize
+    ensures { λ r. ⌜ r ≡ shortest a b c d ⌝ }
 {
-    if a <= b {
-        if a <= c { a } else { c }
-    } else {
-        if b <= c { b } else { c }
-    }
+    least(a, least(b, least(c, d)))
 }
 
-// Copies the first n of three lists.
+// Copies the first n of four lists.
 fn copy(
     n: usize,
     ks: &[u16],
     ss: &[u32],
     ls: &[u32],
+    ds: &[u32],
     kinds: &mut [u16],
     starts: &mut [u32],
     lengths: &mut [u32],
+    depths: &mut [u32],
 )
-    requires { ⌜ (n ≤ length (now ks)) × (n ≤ length (now ss)) × (n ≤ length (now ls)) ⌝ }
-    requires { ⌜ (n ≤ length (now kinds)) × (n ≤ length (now starts)) × (n ≤ length (now lengths)) ⌝ }
+    requires { ⌜ (n ≤ length (now ks)) × (n ≤ length (now ss)) × (n ≤ length (now ls)) × (n ≤ length (now ds)) ⌝ }
+    requires { ⌜ (n ≤ length (now kinds)) × (n ≤ length (now starts)) × (n ≤ length (now lengths)) × (n ≤ length (now depths)) ⌝ }
     ensures { λ _. ⌜ now (kinds .exit) ≡ take n (now (ks .entry)) ++ drop n (now (kinds .entry)) ⌝ }
     ensures { λ _. ⌜ now (starts .exit) ≡ take n (now (ss .entry)) ++ drop n (now (starts .entry)) ⌝ }
     ensures { λ _. ⌜ now (lengths .exit) ≡ take n (now (ls .entry)) ++ drop n (now (lengths .entry)) ⌝ }
+    ensures { λ _. ⌜ now (depths .exit) ≡ take n (now (ds .entry)) ++ drop n (now (depths .entry)) ⌝ }
 {
     let mut i = 0;
     while i < n {
         kinds[i] = ks[i];
         starts[i] = ss[i];
         lengths[i] = ls[i];
+        depths[i] = ds[i];
         i += 1;
     }
 }
@@ -337,12 +345,14 @@ fn write(
     kinds: &mut [u16],
     starts: &mut [u32],
     lengths: &mut [u32],
+    depths: &mut [u32],
 )
     requires { ⌜ (now leads ≡ leadTable) × (now words ≡ wordTable) ⌝ ∗ ⌜ length (now query) ≤ textLimit ⌝ ∗ ⌜ n ≡ length (entriesOf reading (now query)) ⌝ }
-    requires { ⌜ (n ≤ length (now kinds)) × (n ≤ length (now starts)) × (n ≤ length (now lengths)) ⌝ }
+    requires { ⌜ (n ≤ length (now kinds)) × (n ≤ length (now starts)) × (n ≤ length (now lengths)) × (n ≤ length (now depths)) ⌝ }
     ensures { λ _. ⌜ now (kinds .exit) ≡ listed reading kindOf (now (query .entry)) (now (kinds .entry)) ⌝ }
     ensures { λ _. ⌜ now (starts .exit) ≡ listed reading startsAt (now (query .entry)) (now (starts .entry)) ⌝ }
     ensures { λ _. ⌜ now (lengths .exit) ≡ listed reading lengthOf (now (query .entry)) (now (lengths .entry)) ⌝ }
+    ensures { λ _. ⌜ now (depths .exit) ≡ listed reading depthOf (now (query .entry)) (now (depths .entry)) ⌝ }
 {
     pass(
         leads,
@@ -352,39 +362,53 @@ fn write(
         &mut kinds[..n],
         &mut starts[..n],
         &mut lengths[..n],
+        &mut depths[..n],
     );
 }
 
-// Lexes a text to three lent lists, by a pass that writes to three others first.
+// Lexes a text to four lent lists, by a pass that writes to four others first.
 fn lex_text(
-    leads: &[u8; munch::BYTES],
-    words: &[u8],
     query: &[u8],
     reading: Reading,
     ks: &mut [u16],
     ss: &mut [u32],
     ls: &mut [u32],
+    ds: &mut [u32],
     kinds: &mut [u16],
     starts: &mut [u32],
     lengths: &mut [u32],
+    depths: &mut [u32],
 ) -> Lexing
-    requires { ⌜ (now leads ≡ leadTable) × (now words ≡ wordTable) ⌝ ∗ ⌜ length (now query) ≤ textLimit ⌝ ∗ ⌜ Alike (now ks) (now ss) (now ls) ⌝ }
-    ensures { λ r. ⌜ r ≡ roomed (shortest (length (now (kinds .entry))) (length (now (starts .entry))) (length (now (lengths .entry)))) (answerIn (now (query .entry)) (tallyOf reading (now (query .entry)))) ⌝ }
+    requires { ⌜ length (now query) ≤ textLimit ⌝ ∗ ⌜ Alike (now ks) (now ss) (now ls) (now ds) ⌝ }
+    ensures { λ r. ⌜ r ≡ roomed (shortest (length (now (kinds .entry))) (length (now (starts .entry))) (length (now (lengths .entry))) (length (now (depths .entry)))) (answerIn (now (query .entry)) (tallyOf reading (now (query .entry)))) ⌝ }
     ensures { λ r. ⌜ now (kinds .exit) ≡ leftAfter r (listed reading kindOf (now (query .entry)) (now (kinds .entry))) (now (kinds .entry)) ⌝ }
     ensures { λ r. ⌜ now (starts .exit) ≡ leftAfter r (listed reading startsAt (now (query .entry)) (now (starts .entry))) (now (starts .entry)) ⌝ }
     ensures { λ r. ⌜ now (lengths .exit) ≡ leftAfter r (listed reading lengthOf (now (query .entry)) (now (lengths .entry))) (now (lengths .entry)) ⌝ }
+    ensures { λ r. ⌜ now (depths .exit) ≡ leftAfter r (listed reading depthOf (now (query .entry)) (now (depths .entry))) (now (depths .entry)) ⌝ }
 {
-    let r = pass(leads, words, query, reading, ks, ss, ls);
+    let leads = munch::leads();
+    let words = token::words();
+    let r = pass(&leads, &words, query, reading, ks, ss, ls, ds);
     let Run::To { at: _, count: n } = r else {
         return Lexing::Refused(refused_in(query, r));
     };
-    if shortest(kinds.len(), starts.len(), lengths.len()) < n {
+    if shortest(kinds.len(), starts.len(), lengths.len(), depths.len()) < n {
         return Lexing::Refused(utf8::at_start(utf8::NO_ROOM));
     }
     if n <= ks.len() {
-        copy(n, ks, ss, ls, kinds, starts, lengths);
+        copy(n, ks, ss, ls, ds, kinds, starts, lengths, depths);
     } else {
-        write(leads, words, query, reading, n, kinds, starts, lengths);
+        write(
+            &leads,
+            &words,
+            query,
+            reading,
+            n,
+            kinds,
+            starts,
+            lengths,
+            depths,
+        );
     }
     Lexing::Count(n)
 }
@@ -396,21 +420,21 @@ const FEW: usize = 64;
 
 const MANY: usize = 1024;
 
-// Lexes a query to three lent lists, which it leaves as they were where it refuses.
+// Lexes a query to four lent lists, which it leaves as they were where it refuses.
 pub fn lexer(
     query: &[u8],
     reading: Reading,
     kinds: &mut [u16],
     starts: &mut [u32],
     lengths: &mut [u32],
+    depths: &mut [u32],
 ) -> Lexing
-    ensures { λ r. ⌜ r ≡ lexed reading (shortest (length (now (kinds .entry))) (length (now (starts .entry))) (length (now (lengths .entry)))) (now (query .entry)) ⌝ }
+    ensures { λ r. ⌜ r ≡ lexed reading (shortest (length (now (kinds .entry))) (length (now (starts .entry))) (length (now (lengths .entry))) (length (now (depths .entry)))) (now (query .entry)) ⌝ }
     ensures { λ r. ⌜ now (kinds .exit) ≡ leftAfter r (listed reading kindOf (now (query .entry)) (now (kinds .entry))) (now (kinds .entry)) ⌝ }
     ensures { λ r. ⌜ now (starts .exit) ≡ leftAfter r (listed reading startsAt (now (query .entry)) (now (starts .entry))) (now (starts .entry)) ⌝ }
     ensures { λ r. ⌜ now (lengths .exit) ≡ leftAfter r (listed reading lengthOf (now (query .entry)) (now (lengths .entry))) (now (lengths .entry)) ⌝ }
+    ensures { λ r. ⌜ now (depths .exit) ≡ leftAfter r (listed reading depthOf (now (query .entry)) (now (depths .entry))) (now (depths .entry)) ⌝ }
 {
-    let leads = munch::leads();
-    let words = token::words();
     let a = utf8::admit(query, utf8::TEXT_LIMIT);
     let Admission::Admitted(_) = a else {
         return Lexing::Refused(utf8::not_admitted(a));
@@ -419,32 +443,34 @@ pub fn lexer(
         let mut ks = [0u16; FEW];
         let mut ss = [0u32; FEW];
         let mut ls = [0u32; FEW];
+        let mut ds = [0u32; FEW];
         return lex_text(
-            &leads,
-            &words,
             query,
             reading,
             &mut ks,
             &mut ss,
             &mut ls,
+            &mut ds,
             kinds,
             starts,
             lengths,
+            depths,
         );
     }
     let mut ks = [0u16; MANY];
     let mut ss = [0u32; MANY];
     let mut ls = [0u32; MANY];
+    let mut ds = [0u32; MANY];
     lex_text(
-        &leads,
-        &words,
         query,
         reading,
         &mut ks,
         &mut ss,
         &mut ls,
+        &mut ds,
         kinds,
         starts,
         lengths,
+        depths,
     )
 }

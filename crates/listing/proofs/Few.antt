@@ -42,8 +42,10 @@ numbers-few i j k a b c f g h =
     let third = numberThen c (ascii "\n") in
     omega (arith, length-append (first ++ second) third, length-append first second, number-few i a (ascii " ") f, number-few j b (ascii " ") g, number-few k c (ascii "\n") h)
 
-pub lexeme-few : (kind start size : ℕ) → kind < 2 ^ 16 → start < 2 ^ 32 → size < 2 ^ 32 → length (lexemeText (entry kind start size)) ≤ longestLexeme
-lexeme-few kind start size f g h = omega (arith, numbers-few before16 before32 before32 kind start size (omega arith) (omega arith) (omega arith))
+pub lexeme-few : (kind start size depth : ℕ) → kind < 2 ^ 16 → start < 2 ^ 32 → size < 2 ^ 32 → depth < 2 ^ 32 → length (lexemeText (entry kind start size depth)) ≤ longestLexeme
+lexeme-few kind start size depth f g h d =
+    let first = numberThen kind (ascii " ") in
+    omega (arith, length-append first (numbers start size depth), number-few before16 kind (ascii " ") (omega arith), numbers-few before32 before32 before32 start size depth (omega arith) (omega arith) (omega arith))
 
 pub refusal-few : (r : Refusal) → r .number < 2 ^ 64 → r .place .byte .0 < 2 ^ 64 → r .place .character .0 < 2 ^ 64 → length (refusal r) ≤ longestLine
 unfolding refusal

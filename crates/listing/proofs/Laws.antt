@@ -34,7 +34,7 @@ lexemes-few : (size : ℕ) → size ≤ inputLimit → (es : List Entry) → All
 unfolding lexemesText
 lexemes-few size h [] a = omega arith
 lexemes-few size h (e ∷ es) a =
-    omega (arith, length-append (lexemeText e) (lexemesText es), lexeme-few (e .kind) (e .start) (e .length) (a .0 .0) (omega (arith, a .0 .1)) (omega (arith, a .0 .1)), lexemes-few size h es (a .1))
+    omega (arith, length-append (lexemeText e) (lexemesText es), lexeme-few (e .kind) (e .start) (e .length) (e .depth) (a .0 .0) (omega (arith, a .0 .1)) (omega (arith, a .0 .1)) (omega (arith, a .0 .2)), lexemes-few size h es (a .1))
 
 pub text-fits : TextFits
 unfolding printed printedBy

@@ -22,7 +22,7 @@ use Rattle.writing.specs.Put.{putAt, pastAt}
 use Rattle.writing.specs.Decimal.{digitFor, digitsWithin, decimalText}
 use Rattle.token.specs.Words.{words, kindIn, keywordOf}
 use Rattle.munch.specs.Word.{isWordStart, ruleBy, kindBy}
-use Rattle.munch.specs.Munch.{wordStep, endStep, outsideTable, stepIn, munched}
+use Rattle.munch.specs.Munch.{wordStep, rightParenStep, deeper, endStep, outsideTable, stepIn, munched}
 use Rattle.lex.specs.Outcome.{stepsPast, readFrom}
 use Rattle.lex.specs.Lex.{answerBy, measured, lexed}
 use Rattle.listing.specs.Listing.{inputLimit, refusal, lexemesText, printedBy, printed}
@@ -35,7 +35,7 @@ unfolding putAt pastAt refusal decimalText digitsWithin digitFor
 writing = tt
 
 listing : Unit {0}
-unfolding writing printed printedBy lexemesText lexed measured answerBy stepsPast readFrom munched stepIn outsideTable isWordStart isQuote wordStep endStep ruleBy kindBy keywordOf words kindIn admitted validityOf charsPast sizeOf charNumber begunIn charLength sizeIn fits codeOf isWithin isIn isSpace isAlpha isAlphaNumeric isWord lowered runLength sameText has
+unfolding writing printed printedBy lexemesText lexed measured answerBy stepsPast readFrom munched stepIn outsideTable isWordStart isQuote wordStep rightParenStep deeper endStep ruleBy kindBy keywordOf words kindIn admitted validityOf charsPast sizeOf charNumber begunIn charLength sizeIn fits codeOf isWithin isIn isSpace isAlpha isAlphaNumeric isWord lowered runLength sameText has
 listing = tt
 
 -- a buffer of so many dots
@@ -49,11 +49,11 @@ list-lexemes-gives q out v =
 list-lexemes-at : (q out : List ℕ) → list-lexemes-gives q out (pastAt out 0 (printed q))
 list-lexemes-at q out κs a x e p h = cc (p .0, h .0, h .1)
 
-pub end-is-counted : list-lexemes-gives (ascii "a") (dots 12) 12
+pub end-is-counted : list-lexemes-gives (ascii "a") (dots 16) 16
 unfolding listing
 end-is-counted = list-lexemes-at _ _
 
-pub text-without-room-is-not-counted : list-lexemes-gives (ascii "a") (dots 11) 0
+pub text-without-room-is-not-counted : list-lexemes-gives (ascii "a") (dots 15) 0
 unfolding listing
 text-without-room-is-not-counted = list-lexemes-at _ _
 
@@ -64,19 +64,23 @@ list-lexemes-leaves-out q out v =
 list-lexemes-left-out : (q out : List ℕ) → list-lexemes-leaves-out q out (putAt out 0 (printed q))
 list-lexemes-left-out q out κs a x e p h = cc (p .1, h .0, h .1)
 
-pub short-query-is-not-too-long : list-lexemes-leaves-out (ascii "a") (dots 14) (ascii "1 0 1\n0 1 0\n..")
+pub short-query-is-not-too-long : list-lexemes-leaves-out (ascii "a") (dots 18) (ascii "1 0 1 0\n0 1 0 0\n..")
 unfolding listing
 short-query-is-not-too-long = list-lexemes-left-out _ _
 
-pub start-is-not-the-length : list-lexemes-leaves-out (ascii "a b") (dots 20) (ascii "1 0 1\n1 2 1\n0 3 0\n..")
+pub start-is-not-the-length : list-lexemes-leaves-out (ascii "a b") (dots 26) (ascii "1 0 1 0\n1 2 1 0\n0 3 0 0\n..")
 unfolding listing
 start-is-not-the-length = list-lexemes-left-out _ _
+
+pub depth-is-printed-last : list-lexemes-leaves-out (ascii "(a)") (dots 34) (ascii "6 0 1 0\n1 1 1 1\n7 2 1 0\n0 3 0 0\n..")
+unfolding listing
+depth-is-printed-last = list-lexemes-left-out _ _
 
 pub character-is-not-the-byte : list-lexemes-leaves-out (0xc3 ∷ 0xa9 ∷ 0xff ∷ []) (dots 16) (ascii "refused 2 2 1\n..")
 unfolding listing
 character-is-not-the-byte = list-lexemes-left-out _ _
 
-pub text-without-room-is-not-written : list-lexemes-leaves-out (ascii "a") (dots 11) (dots 11)
+pub text-without-room-is-not-written : list-lexemes-leaves-out (ascii "a") (dots 15) (dots 15)
 unfolding listing
 text-without-room-is-not-written = list-lexemes-left-out _ _
 

@@ -22,9 +22,9 @@ inputLimit = 4096
 abbrev pub mostLexemes : ℕ
 mostLexemes = inputLimit + 1
 
--- no lexeme takes more bytes: a number of 16 bits, two of 32 bits, and three signs
+-- no lexeme takes more bytes: a number of 16 bits, three of 32 bits, and four signs
 abbrev pub longestLexeme : ℕ
-longestLexeme = 28
+longestLexeme = 39
 
 -- no text that is printed is longer
 abbrev pub mostText : ℕ
@@ -49,20 +49,21 @@ longestLine = length (ascii "refused ") + mostNumbers
 unfoldable pub refusal : Refusal → List ℕ
 refusal r = ascii "refused " ++ numbers (r .number) (r .place .byte .0) (r .place .character .0)
 
--- "Values on both sides": "each lexeme as kind, start, length", on a line
+-- "Values on both sides": "each lexeme as kind, start, length", on a line; document 02, L7: the depth "as a fourth field"
 abbrev pub lexemeText : Entry → List ℕ
-lexemeText e = numbers (e .kind) (e .start) (e .length)
+lexemeText e = numberThen (e .kind) (ascii " ") ++ numbers (e .start) (e .length) (e .depth)
 
 unfoldable pub lexemesText : List Entry → List ℕ
 lexemesText [] = []
 lexemesText (e ∷ es) = lexemeText e ++ lexemesText es
 
--- the lexemes that three lists hold
-abbrev pub zipped : List ℕ → List ℕ → List ℕ → List Entry
-zipped [] ss ls = []
-zipped (k ∷ ks) [] ls = []
-zipped (k ∷ ks) (s ∷ ss) [] = []
-zipped (k ∷ ks) (s ∷ ss) (l ∷ ls) = entry k s l ∷ zipped ks ss ls
+-- the lexemes that four lists hold
+abbrev pub zipped : List ℕ → List ℕ → List ℕ → List ℕ → List Entry
+zipped [] ss ls ds = []
+zipped (k ∷ ks) [] ls ds = []
+zipped (k ∷ ks) (s ∷ ss) [] ds = []
+zipped (k ∷ ks) (s ∷ ss) (l ∷ ls) [] = []
+zipped (k ∷ ks) (s ∷ ss) (l ∷ ls) (d ∷ ds) = entry k s l d ∷ zipped ks ss ls ds
 
 -- "The program prints each lexeme ..; a refusal ..": its one line and no lexeme
 unfoldable pub printedBy : List ℕ → Lexing → List ℕ

@@ -8,8 +8,10 @@ ghost use Prim.Native.Nat.{_+_, _≤_};
 ghost use lib.ListN.{length};
 ghost use Rattle.writing.specs.Put.{putAt, pastAt};
 ghost use Rattle.writing.specs.Decimal.{mostDigits};
+ghost use Rattle.lex.specs.Outcome.{entry};
 ghost use Rattle.lex.specs.Lex.{lexed};
-ghost use Rattle.listing.specs.Listing.{mostLexemes, mostNumbers, numberThen, numbers, refusal, lexemesText, zipped, printedBy, printed};
+ghost use Rattle.lex.specs.steps.Pass.{Alike};
+ghost use Rattle.listing.specs.Listing.{mostLexemes, mostNumbers, numberThen, numbers, refusal, lexemeText, lexemesText, zipped, printedBy, printed};
 ghost use Rattle.listing.specs.steps.Puts.{mostRoom, Puts};
 
 // A longer input is refused.
@@ -18,8 +20,8 @@ pub const INPUT_LIMIT: usize = 4_096;
 // No input has more lexemes: one for each byte, and its end.
 const MOST_LEXEMES: usize = INPUT_LIMIT + 1;
 
-// No lexeme takes more bytes: a number of 16 bits, two of 32 bits, and three signs.
-const LONGEST_LEXEME: usize = 28;
+// No lexeme takes more bytes: a number of 16 bits, three of 32 bits, and four signs.
+const LONGEST_LEXEME: usize = 39;
 
 // No text that is printed is longer.
 const MOST_TEXT: usize = MOST_LEXEMES * LONGEST_LEXEME;
@@ -27,7 +29,8 @@ const MOST_TEXT: usize = MOST_LEXEMES * LONGEST_LEXEME;
 // No line is longer: `refused `, three numbers of 64 bits, and a sign behind each.
 const LONGEST_LINE: usize = 71;
 
-// A list of so many bytes has room for any line behind all that is printed before it, so that each is written where it stays.
+// A list of so many bytes has room for a refusal's line behind all that is printed before it, and for four numbers of 64 bits in place of the last lexeme's, so that
+// each is written where it stays.
 pub const ROOM: usize = MOST_TEXT + LONGEST_LINE;
 
 // Writes a number and what follows it.
@@ -63,22 +66,31 @@ fn put_refusal(out: &mut [u8], at: usize, r: Refusal) -> usize
     writing::put_text(out, at, &line[..end])
 }
 
-// Writes a line `KIND START LENGTH` for each of the lexemes that three lists of one length hold.
-fn put_lexemes(kinds: &[u16], starts: &[u32], lengths: &[u32], text: &mut [u8]) -> usize
+// Writes a line `KIND START LENGTH DEPTH`.
+fn put_lexeme(out: &mut [u8], at: usize, kind: u16, start: u32, size: u32, depth: u32) -> usize
+    requires { ⌜ at + mostDigits + 1 + mostNumbers ≤ length (now out) ⌝ }
+    ensures { λ r. ⌜ Puts (lexemeText (entry kind start size depth)) (now (out .entry)) at r (now (out .exit)) ⌝ }
+{
+    let next = put_number(out, at, kind as usize, b" ");
+    put_numbers(out, next, start as usize, size as usize, depth as usize)
+}
+
+// Writes a line for each of the lexemes that four lists of one length hold.
+fn put_lexemes(
+    kinds: &[u16],
+    starts: &[u32],
+    lengths: &[u32],
+    depths: &[u32],
+    text: &mut [u8],
+) -> usize
     requires { ⌜ (length (now kinds) ≤ mostLexemes) × (mostRoom ≤ length (now text)) ⌝ }
-    requires { ⌜ (length (now starts) ≡ length (now kinds)) × (length (now lengths) ≡ length (now kinds)) ⌝ }
-    ensures { λ r. ⌜ Puts (lexemesText (zipped (now (kinds .entry)) (now (starts .entry)) (now (lengths .entry)))) (now (text .entry)) 0 r (now (text .exit)) ⌝ }
+    requires { ⌜ Alike (now kinds) (now starts) (now lengths) (now depths) ⌝ }
+    ensures { λ r. ⌜ Puts (lexemesText (zipped (now (kinds .entry)) (now (starts .entry)) (now (lengths .entry)) (now (depths .entry)))) (now (text .entry)) 0 r (now (text .exit)) ⌝ }
 {
     let mut at = 0;
     let mut i = 0;
     while i < kinds.len() {
-        at = put_numbers(
-            text,
-            at,
-            kinds[i] as usize,
-            starts[i] as usize,
-            lengths[i] as usize,
-        );
+        at = put_lexeme(text, at, kinds[i], starts[i], lengths[i], depths[i]);
         i += 1;
     }
     at
@@ -90,17 +102,18 @@ fn lex_to(
     kinds: &mut [u16],
     starts: &mut [u32],
     lengths: &mut [u32],
+    depths: &mut [u32],
     text: &mut [u8],
 ) -> usize
-    requires { ⌜ (length (now kinds) ≡ mostLexemes) × (length (now starts) ≡ mostLexemes) × (length (now lengths) ≡ mostLexemes) ⌝ }
+    requires { ⌜ (length (now kinds) ≡ mostLexemes) × (length (now starts) ≡ mostLexemes) × (length (now lengths) ≡ mostLexemes) × (length (now depths) ≡ mostLexemes) ⌝ }
     requires { ⌜ mostRoom ≤ length (now text) ⌝ }
     ensures { λ r. ⌜ Puts (printedBy (now (query .entry)) (lexed Reading.Crate mostLexemes (now (query .entry)))) (now (text .entry)) 0 r (now (text .exit)) ⌝ }
 {
-    let x = lex::lexer(query, Reading::Crate, kinds, starts, lengths);
+    let x = lex::lexer(query, Reading::Crate, kinds, starts, lengths, depths);
     let Lexing::Count(n) = x else {
         return put_refusal(text, 0, lex::not_lexed(x));
     };
-    put_lexemes(&kinds[..n], &starts[..n], &lengths[..n], text)
+    put_lexemes(&kinds[..n], &starts[..n], &lengths[..n], &depths[..n], text)
 }
 
 // Writes what is printed of an input to a list that has room for it.
@@ -114,7 +127,15 @@ fn list_to(query: &[u8], text: &mut [u8]) -> usize
     let mut kinds = [0u16; MOST_LEXEMES];
     let mut starts = [0u32; MOST_LEXEMES];
     let mut lengths = [0u32; MOST_LEXEMES];
-    lex_to(query, &mut kinds, &mut starts, &mut lengths, text)
+    let mut depths = [0u32; MOST_LEXEMES];
+    lex_to(
+        query,
+        &mut kinds,
+        &mut starts,
+        &mut lengths,
+        &mut depths,
+        text,
+    )
 }
 
 // Writes what is printed of an input at the front of `out`: all of it and its length, or nothing and 0 where it does not fit.

@@ -21,7 +21,7 @@ use Rattle.numeral.specs.Numeral.{numeralOf}
 use Rattle.quoted.specs.declared.Quoted.{Quoted}
 use Rattle.quoted.specs.declared.Quoted.the-variants as quoting
 use Rattle.quoted.specs.Quoted.{quotedOf}
-use Rattle.munch.proofs.word.Fits.{word-fits, brace-word-fits}
+use Rattle.munch.proofs.word.Fits.{small, word-fits, brace-word-fits}
 use Rattle.munch.specs.declared.Inside.{Inside}
 use Rattle.munch.specs.declared.Inside.the-variants.{Nothing, Braces, Brackets}
 use Rattle.munch.specs.declared.Mode.{Mode}
@@ -91,11 +91,11 @@ module _ (r : Reading) (d : ℕ) (xs : List ℕ) where
 
   word-step-fits : (m : Mode) → Fits (wordStep m xs)
   unfolding wordStep
-  word-step-fits m = let n = runEnd (isIn Word) xs 1 in word-fits xs n (keywordOf (take n xs)) (keyword-fits (take n xs))
+  word-step-fits m = let n = runEnd (isIn Word) xs 1 in small _ (word-fits xs n (keywordOf (take n xs)) (keyword-fits (take n xs)))
 
   brace-word-step-fits : (m : Mode) → Fits (braceWord m xs)
   unfolding braceWord
-  brace-word-step-fits m = brace-word-fits xs (runEnd (isIn AlphaNumeric) xs 1)
+  brace-word-step-fits m = small _ (brace-word-fits xs (runEnd (isIn AlphaNumeric) xs 1))
 
   -- of the bytes that are left
   abbrev Small : (List ℕ → Step) → Type 0

@@ -6,6 +6,8 @@ pub mod Labels
 pub mod Tables
 pub mod Ends
 pub mod Goes
+pub mod Marks
+pub mod Held
 pub mod Modes
 pub mod Fits
 pub mod Seam

@@ -35,7 +35,7 @@ mode depth inside = record { depth = depth; inside = inside }
 abbrev pub outside : Mode
 outside = mode 0 Nothing
 
--- one parenthesis more, up to the greatest count, which no query of 65,535 bytes reaches: "Never given by the Rust here: .. 'too many left
+-- one parenthesis more, up to the greatest count, which no query of 65,535 bytes reaches (`depths`, `BoundNotMet`): "Never given by the Rust here: .. 'too many left
 -- parentheses'"
 abbrev pub mostDepth : ℕ
 mostDepth = 0xffffffffffffffff

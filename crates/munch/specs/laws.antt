@@ -1,3 +1,4 @@
 pub mod Modes
 pub mod Rows
+pub mod Marks
 pub mod Step

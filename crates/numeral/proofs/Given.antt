@@ -2,37 +2,34 @@
 -- (`number-longest`) and on what is read behind it (`reading-path`): what is taken in all is the longest number text, or text that a duration begins
 -- with (`taken-longest`). A longer one would have a unit behind that number text (`beyond`): if its own number is shorter, it goes on with
 -- digits and letters that are digits of a hex number too, and with the byte behind them as with a unit.
-use Prim.Native.Nat.{ℕ, zero, suc, _+_, _-_, _<_, _≤_}
+use Prim.Native.Nat.{ℕ, suc, _+_, _-_, _<_, _≤_}
 use Prim.Native.Char.{code}
 use native.Mathlib.Nat.{add-zero}
 use native.Mathlib.Numerals.{add-one}
 use native.Mathlib.Omega.{arith}
-use mathlib.Core.Bool.{Bool, true, false, cond, _&&_, _||_, not, true≢false}
-use mathlib.Core.List.{List, [], _∷_, _++_, append-assoc, append-nil}
-use mathlib.Core.Logic.{_⊎_, inl, inr, ⊎-elim}
+use mathlib.Core.Bool.{Bool, true, false, _&&_, _||_, not, true≢false}
+use mathlib.Core.List.{List, _∷_, _++_, append-assoc}
 use mathlib.Core.Path.{_≡_, refl, sym, ap, ap₂, subst, _∙_}
-use lib.Dec.{eqb, ltb}
-use lib.Seq.{split-at, take-take, drop-append-add, length-take-le, take-append-seam, drop-append-seam, getD-append-add, getD-drop, drop-drop, drop-cons}
-use lib.ListN.{length, getD, take, drop, length-append, length-drop, take-append-drop, List·getD-append}
-use borrow.Author.Tests.{eqb-true, ltb-true, ltb-false}
+use lib.Seq.{split-at, take-take, drop-append-add, length-take-le, take-append-seam, drop-append-seam, getD-append-add, getD-drop}
+use lib.ListN.{length, take, drop, length-append, length-drop, take-append-drop}
+use borrow.Author.Tests.{eqb-true}
 use Rattle.proving.proofs.Below.{below}
 use Rattle.proving.proofs.Choice.{either, and-left, and-right, told}
-use Rattle.scan.specs.Byte.{end, peekAt, isWithin, isAlpha, isDigit, isAlphaNumeric}
-use Rattle.scan.specs.Language.{Then, FrontOf, Longest}
+use Rattle.scan.specs.Byte.{end, peekAt, isWithin, isAlpha, isAlphaNumeric}
+use Rattle.scan.specs.Language.{Longest}
 use Rattle.scan.specs.Separated.{separator}
 use Rattle.scan.specs.Text.{has}
 use Rattle.scan.proofs.Edges.{ascii-inside}
-use Rattle.scan.proofs.Greedy.{longest-one, split}
+use Rattle.scan.proofs.Greedy.{longest-one}
 use Rattle.utf8.specs.declared.Reading.{Reading}
-use Rattle.utf8.specs.declared.Reading.the-variants.{Crate, Documented}
 use Rattle.numeral.specs.declared.Part.the-variants as part
 use Rattle.numeral.specs.declared.Numeral.{Numeral}
 use Rattle.numeral.specs.declared.Numeral.the-variants.{Number, Duration, Neither}
 use Rattle.numeral.specs.Numeral.{isUnit, isFirstUnit, numberEnd, durationFrom, taken, numeralOf}
-use Rattle.numeral.specs.Texts.{Begun, isPoint, NumberText, Units, DurationText}
-use Rattle.numeral.specs.laws.Texts.{IsNumber, IsDuration, NumberGiven, DurationGiven, NeitherGiven, TakenText}
-use Rattle.numeral.proofs.Texts.{implied, not-both, number-longest, number-stopped, number-cut}
-use Rattle.numeral.proofs.Units.{first-ascii, Path, units-path, path-units, path-duration, numeralNumber, Reads, reading-path, units-letter}
+use Rattle.numeral.specs.Texts.{isPoint, NumberText, Units}
+use Rattle.numeral.specs.laws.Texts.{IsNumber, IsDuration, NumberGiven, DurationGiven}
+use Rattle.numeral.proofs.Texts.{implied, not-both, number-longest}
+use Rattle.numeral.proofs.Units.{first-ascii, Path, units-path, path-units, path-duration, numeralNumber, reading-path}
 use Rattle.numeral.proofs.Within.{alpha-ascii}
 
 -- a unit is a letter, and a letter is no point

@@ -3,8 +3,6 @@
 -- are digits of a hex number too, and with the byte behind them as with a unit. A text that a number begins with is a number text itself, but where it
 -- ends with a separator; so the longest such text is no longer, where no separator stands behind what is taken.
 use Prim.Native.Nat.{ℕ, zero, suc, _+_, _-_, _<_, _≤_}
-use Prim.Native.Char.{code}
-use native.Mathlib.Numerals.{add-one}
 use native.Mathlib.Omega.{arith}
 use mathlib.Core.Bool.{Bool, true, false, _&&_, _||_, not, true≢false}
 use mathlib.Core.List.{List, [], _∷_, _++_, append-assoc, append-nil}
@@ -12,11 +10,11 @@ use mathlib.Core.Logic.{_⊎_, inl, inr, ⊎-elim}
 use mathlib.Core.Path.{_≡_, refl, sym, ap, ap₂, subst, _∙_}
 use lib.Dec.{eqb, ltb}
 use lib.Seq.{split-at, length-take-le, drop-append-add, take-suc, take-append-le, getD-take}
-use lib.ListN.{length, getD, take, drop, length-append, length-drop, take-append-drop, drop-of-length-le, List·getD-append}
+use lib.ListN.{length, getD, take, drop, length-append, take-append-drop, drop-of-length-le, List·getD-append}
 use borrow.Author.Tests.{eqb-true, ltb-true, ltb-false}
 use Rattle.proving.proofs.Choice.{and-left, and-right, told}
 use Rattle.scan.specs.Byte.{end, peekAt, isDigit, isAlpha, isAlphaNumeric, isWithin}
-use Rattle.scan.specs.Language.{Then, FrontOf, Longest}
+use Rattle.scan.specs.Language.{FrontOf, Longest}
 use Rattle.scan.specs.Separated.{separator}
 use Rattle.scan.specs.Text.{has}
 use Rattle.scan.proofs.Edges.{ascii-inside}

@@ -4,7 +4,7 @@
 use Prim.Native.Nat.{ℕ, zero, suc, _+_, _-_, _<_, _≤_}
 use native.Mathlib.Omega.{arith}
 use Prim.Native.Char.{code}
-use mathlib.Core.Bool.{Bool, true, false, cond, _&&_, _||_, not, and-true, true≢false}
+use mathlib.Core.Bool.{Bool, true, false, cond, _&&_, not, and-true, true≢false}
 use mathlib.Core.List.{List, [], _∷_, _++_}
 use mathlib.Core.Logic.{_⊎_, inl, inr, ⊎-elim}
 use mathlib.Core.Path.{_≡_, refl, sym, ap, ap₂, subst, _∙_}
@@ -23,7 +23,7 @@ use Rattle.scan.proofs.Stands.{has-append, none-at}
 use Rattle.scan.proofs.separated.Runs.{separated-never}
 use Rattle.scan.proofs.separated.Texts.{digits-alike}
 use Rattle.scan.proofs.Greedy.{longest-one}
-use Rattle.scan.specs.Language.{Then, Optional, nothing, marked, Longest}
+use Rattle.scan.specs.Language.{Then, Optional, nothing, marked}
 use Rattle.utf8.specs.declared.Reading.{Reading}
 use Rattle.utf8.specs.declared.Reading.the-variants.{Crate, Documented}
 use Rattle.numeral.specs.Numeral.{betweenDigits, behindPrefix, isHex, fractionEnd, mantissaEnd, exponentEnd, numberEnd, isUnit, isFirstUnit, taken, numeralOf}

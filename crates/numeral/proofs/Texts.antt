@@ -1,9 +1,8 @@
 -- A number is the longest number text that the bytes begin with: each of its parts is read greedily, and none begins with a byte that the part before
 -- it could have taken (`then-greedy`). Of a hex number no exponent is read, since the byte behind its digits is no hex digit and so no e.
-use Prim.Native.Nat.{ℕ, zero, suc, _+_, _<_, _≤_}
+use Prim.Native.Nat.{ℕ, suc, _+_, _≤_}
 use Prim.Native.Char.{code}
 use native.Mathlib.Nat.{zero-add, add-zero}
-use native.Mathlib.Numerals.{add-one}
 use native.Mathlib.Omega.{arith}
 use mathlib.Core.Bool.{Bool, true, false, cond, _&&_, _||_, not, true≢false}
 use mathlib.Core.List.{List, [], _∷_, _++_, append-assoc, append-nil}
@@ -20,7 +19,7 @@ use Rattle.scan.specs.declared.byte.Class.the-variants.{Digit, HexDigit}
 use Rattle.scan.specs.declared.separated.Separators.{Separators}
 use Rattle.scan.specs.Ascii.{ascii}
 use Rattle.scan.specs.Byte.{end, peekAt, isWithin, isDigit, isHexDigit, isIn, lowered}
-use Rattle.scan.specs.Language.{Empty, Then, Optional, nothing, marked, Longest}
+use Rattle.scan.specs.Language.{Optional, nothing, marked}
 use Rattle.scan.specs.Separated.{separator, separatedLength, separatedRun, separatedEnd}
 use Rattle.scan.specs.Sign.{isSign, pastSign}
 use Rattle.scan.specs.laws.Separated.{Opens, front, behind, SeparatedDigits}

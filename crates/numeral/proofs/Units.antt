@@ -1,14 +1,12 @@
 -- The units of a duration, byte by byte: `Path p t` says that each byte of t goes on with a duration that was read through to p, and that it may end
 -- behind them. These are the texts of the grammar (`units-path`, `path-units`), and what reading takes begins one, and is the longest text there
 -- that does (`reading-path`).
-use Prim.Native.Nat.{ℕ, zero, suc, _+_, _<_, _≤_}
+use Prim.Native.Nat.{ℕ, suc, _+_, _<_, _≤_}
 use Prim.Native.Char.{code}
-use native.Mathlib.Nat.{add-zero, le-of-suc-le-suc}
-use native.Mathlib.Numerals.{add-one}
+use native.Mathlib.Nat.{add-zero}
 use native.Mathlib.Omega.{arith}
 use mathlib.Core.Bool.{Bool, true, false, cond, _&&_, _||_, not, or-true, true≢false}
-use mathlib.Core.List.{List, [], _∷_, _++_, append-assoc, append-nil}
-use mathlib.Core.Logic.{_⊎_, inl, inr, ⊎-elim}
+use mathlib.Core.List.{List, [], _∷_, _++_, append-assoc}
 use mathlib.Core.Path.{_≡_, refl, sym, ap, ap₂, subst, _∙_}
 use lib.Dec.{eqb, ltb}
 use lib.ListN.{length, getD, drop}
@@ -19,7 +17,7 @@ use Rattle.scan.specs.declared.byte.Class.the-variants.{Digit}
 use Rattle.scan.specs.declared.separated.Separators.the-variants.{Never}
 use Rattle.scan.specs.Ascii.{ascii}
 use Rattle.scan.specs.Byte.{end, peekAt, isWithin, isAlpha, isAlphaNumeric, isDigit, isIn}
-use Rattle.scan.specs.Language.{One, one, Then, Optional, nothing, marked}
+use Rattle.scan.specs.Language.{One, one, Then, nothing, marked}
 use Rattle.scan.specs.Separated.{separator}
 use Rattle.scan.specs.Text.{has}
 use Rattle.scan.specs.laws.Separated.{SeparatedDigits}
@@ -33,7 +31,7 @@ use Rattle.numeral.specs.declared.Turn.the-variants.{On, Ends, Fails}
 use Rattle.numeral.specs.declared.Numeral.{Numeral}
 use Rattle.numeral.specs.declared.Numeral.the-variants.{Number, Duration, Neither}
 use Rattle.numeral.specs.Numeral.{isUnit, isFirstUnit, stopOf, turnOf, turned, partBehind, durationFrom, taken}
-use Rattle.numeral.specs.Texts.{isOneOf, OptionalS, SomeDigits, Repeat, Repeats, none, more, Units}
+use Rattle.numeral.specs.Texts.{isOneOf, OptionalS, SomeDigits, Repeats, none, more, Units}
 use Rattle.numeral.proofs.Texts.{implied, not-both, neither-of}
 use Rattle.numeral.proofs.Turns.{unit-ascii, not-on, on-inside, turned-at}
 
@@ -363,11 +361,6 @@ no-separator p q c e = go (eqb c separator) refl (goes p q c e)
         refuses i _ _ (unit d) = true≢false (sym d ∙ ap isUnit i ∙ (unfold isUnit in refl))
     go false i g = refl
 
-path-plain : (t : List ℕ) (p : Part) → Path p t → has separator t ≡ false
-unfolding has
-path-plain [] p a = refl
-path-plain (c ∷ t) p a = ap₂ _||_ (no-separator p (a .0) c (a .1)) (path-plain t (a .0) (a .2))
-
 path-letter : (a : List ℕ) (p : Part) (c : ℕ) (w : List ℕ) → isDigit c ≡ false → Path p (a ++ (c ∷ w)) → (has separator a ≡ false) × (isFirstUnit c ≡ true) × Path part.Unit w
 unfolding has
 path-letter [] p c w h x = let r = go p (x .0) (goes p (x .0) c (x .1)) (x .2) in (refl, r .0, r .1)
@@ -387,12 +380,6 @@ first-no-separator c e = go (eqb c separator) refl
     go : (b : Bool) → eqb c separator ≡ b → b ≡ false
     go true i = absurd (true≢false (sym e ∙ ap isFirstUnit (eqb-true c separator i)))
     go false i = refl
-
-pub units-plain : (t : List ℕ) → Units t → has separator t ≡ false
-unfolding has
-units-plain t u =
-    let q = units-path t u in
-    ap (has separator) (q .2) ∙ ap₂ _||_ (first-no-separator (q .0) (q .3)) (path-plain (q .1) part.Unit (q .4))
 
 -- of a text with units, what stands behind a byte of them that is no digit goes on as behind a unit
 pub units-letter : (a : List ℕ) (c : ℕ) (w : List ℕ) → isDigit c ≡ false → Units (a ++ (c ∷ w)) → (has separator a ≡ false) × (isFirstUnit c ≡ true) × Path part.Unit w

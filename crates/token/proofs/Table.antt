@@ -1,10 +1,9 @@
 -- The table of words, by one test that the check computes: there are 35 entries, each text is some bytes, short, ASCII and without a colon, each
--- kind has 16 bits, each text is unlike each that follows, and the slot of each leads to it. So at most one entry has a word for its text, the
--- first that a search finds is the only one, and a word that has an entry finds it by its slot.
-use Prim.Native.Nat.{ℕ, _^_, _≤_, _<_}
+-- kind is that of numbers or one from `and` to `end`, each text is unlike each that follows, and the slot of each leads to it. So at most one entry
+-- has a word for its text, the first that a search finds is the only one, and a word that has an entry finds it by its slot.
+use Prim.Native.Nat.{ℕ, _≤_, _<_}
 use Prim.Native.Char.{code}
-use native.Mathlib.Omega.{arith}
-use mathlib.Core.Bool.{Bool, true, false, _&&_, not, true≢false}
+use mathlib.Core.Bool.{Bool, true, false, _&&_, _||_, not, true≢false}
 use mathlib.Core.List.{List}
 use mathlib.Core.Path.{_≡_, refl, sym, _∙_}
 use lib.Dec.{eqb, leb, ltb}
@@ -14,16 +13,22 @@ use Rattle.scan.specs.Text.{sameText, has}
 use Rattle.scan.proofs.Same.{same-is-equal}
 use Rattle.proving.proofs.Below.{allBelow, below}
 use Rattle.proving.proofs.Choice.{and-left, and-right}
+use Rattle.proving.proofs.Tests.{tests-eq, tests-le, tests-or, tests-and}
 use Rattle.utf8.specs.laws.Ascii.{isAscii}
 use Rattle.token.specs.declared.Keyword.{Keyword}
 use Rattle.token.specs.declared.Keyword.the-variants.{Kind, Nothing}
+use Rattle.token.specs.Kinds.{number, land, endKind}
 use Rattle.token.specs.Words.{KindText, _names_, words, kindIn}
 use Rattle.token.specs.steps.WordRows.{wordCount, widestWord, slotOf, rowFor}
-use Rattle.token.specs.laws.Words.{wordAt, OneEntry, EntryFound, NoneFound}
+use Rattle.token.specs.laws.Words.{KindFits, wordAt, OneEntry, EntryFound, NoneFound}
 use Rattle.token.proofs.Every.{every, distinct, Search, each-found, none-hit, one-hit, hit-found}
 
+-- a kind that a word has
+abbrev isOwn : ℕ → Bool
+isOwn k = eqb k number || (leb land k && leb k endKind)
+
 abbrev pub isEntry : KindText → Bool
-isEntry e = (ltb 0 (length (e .text)) && leb (length (e .text)) widestWord) && (isAscii (e .text) && (ltb (e .kind) (2 ^ 16) && not (has (code ":") (e .text))))
+isEntry e = (ltb 0 (length (e .text)) && leb (length (e .text)) widestWord) && (isAscii (e .text) && (isOwn (e .kind) && not (has (code ":") (e .text))))
 
 module _ (e : KindText) (t : isEntry e ≡ true) where
   abbrev sized : Bool
@@ -38,11 +43,13 @@ module _ (e : KindText) (t : isEntry e ≡ true) where
   pub plain : isAscii (e .text) ≡ true
   plain = and-left _ _ (and-right sized _ t)
 
-  pub small : e .kind < 2 ^ 16
-  small = ltb-true _ _ (and-left _ _ (and-right (isAscii (e .text)) _ (and-right sized _ t)))
+  pub own : KindFits (Kind (e .kind))
+  own =
+      tests-or (tests-eq (e .kind) number) (tests-and (tests-le land (e .kind)) (tests-le (e .kind) endKind))
+      .0 (and-left (isOwn (e .kind)) _ (and-right (isAscii (e .text)) _ (and-right sized _ t)))
 
   pub whole : has (code ":") (e .text) ≡ false
-  whole = not-true _ (and-right (ltb (e .kind) (2 ^ 16)) _ (and-right (isAscii (e .text)) _ (and-right sized _ t)))
+  whole = not-true _ (and-right (isOwn (e .kind)) _ (and-right (isAscii (e .text)) _ (and-right sized _ t)))
 
 -- the search for a word, which is not both of unlike texts
 abbrev unlike : KindText → KindText → Bool

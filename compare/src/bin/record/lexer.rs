@@ -1,11 +1,12 @@
 //! The records of lexing.
 
+use super::decimal;
 use compare::oracle::lexer::Lexed;
 use compare::oracle::separators;
 use compare::oracle::token::words;
 use compare::oracle::{Answer, MOST_BYTES};
 use compare::texts::hex;
-use compare::texts::queries::{self, of_length, QUERIES};
+use compare::texts::queries::{self, of_length, QUERIES, SEPARATED};
 use compare::texts::words::cased;
 
 /// Lines written by hand: records in every form, and lines that are no record.
@@ -428,6 +429,58 @@ const NOT_UTF8: &[&[u8]] = &[
     b"[\x80:",
 ];
 
+/// Parentheses, one in another and beside each other, next to braces, brackets and fill words; strings and comments that have some,
+/// which count for nothing; and what is open or closes nothing.
+const DEPTHS: &[&str] = &[
+    "(a)",
+    "((a))",
+    "(((a)))",
+    "()()",
+    "()(())",
+    "(()())",
+    "((a) b) c",
+    "(,(,),)",
+    "((a + (b)) * (c))",
+    "(\n((\t)\r) )",
+    "sum(rate(a[5m])) by (b)",
+    "{}()",
+    "(){}()",
+    "({}(){})",
+    "({a=\"(\"}(b))",
+    "({a=')'})",
+    "{a=`((`}(`)`)",
+    "([5m])",
+    "([5m]([5m:]))",
+    "(a)[5m:1m](b)",
+    "fill (fill ())",
+    "fill(FILL_left(fill_Right((1))))",
+    "(fill)(fill)",
+    "(\"))\" + '(' - `(`)",
+    "('\\'(' (\"\\\")\"))",
+    "(`\\(` (`\\`))",
+    "(\"\u{e9}(\" ('\u{10ffff}'))",
+    "#(\n()",
+    "(# ))\na#(\n)",
+    "((#)\r))",
+    "(((a))",
+    "((a)))",
+    "(a))(",
+    "a) + (b",
+    ")(",
+    "((((",
+    "))))",
+    "(()#)",
+    "((\")\"",
+    "({(",
+    "{(a)}",
+    "([(5m)])",
+    "({)}",
+    "([)]",
+];
+
+/// How deep parentheses are nested, as deep as that, and with one too few or too many that close them.
+const DEEP: [usize; 3] = [100, 256, 600];
+
 /// Queries that are lexed in every room up to one more than they need.
 const IN_ROOMS: &[&str] = &[
     "",
@@ -436,10 +489,35 @@ const IN_ROOMS: &[&str] = &[
     "a[5m]",
     "{a=~'\u{e9}'}",
     "sum(a) by (b)",
+    "((a) b)",
     ")",
     "a + )",
     "(a",
     "\u{e9}",
+];
+
+/// How many lists lexemes are written to.
+const LISTS: usize = 4;
+
+/// Queries that are lexed with each list in turn shorter than the others, by the one that is missing, and where none is.
+const IN_LISTS: &[&str] = &["", "a", "((a) b)", "a[5m] # (", "(a", "())"];
+
+/// What is no record of such a query, or has more room than any needs.
+const NO_ROOMS: &[&str] = &[
+    "",
+    "a",
+    "2 2 2 a",
+    "2 2 2 2",
+    "2 2 2 2 ",
+    "2  2 2 2 a",
+    " 2 2 2 2 a",
+    "2 2 2 -2 a",
+    "2 2 2 +2 a",
+    "2 2 2 0x2 a",
+    "2 2 2 18446744073709551616 a",
+    "2 2 2 18446744073709551615 a",
+    "002 65536 65537 4294967298 a",
+    "2 2 2 2  a",
 ];
 
 /// The longest queries that are recorded: what they begin with, what fills them, and what they end with.
@@ -452,37 +530,13 @@ const LONGEST: [[&str; 3]; 3] = [
 /// The seed and the number of the generated queries.
 const GENERATED: (u64, usize) = (3629, 300);
 
-/// Separators, so placed and not, in numbers of each form, before units and in durations, alone and in queries.
-const SEPARATED: &[&str] = &[
-    "1_000",
-    "0x_1f",
-    "0x1_e",
-    "1_0e1_0",
-    ".5_0",
-    "1.5_0",
-    "1_0e",
-    "0x1.8_8",
-    "0_17",
+/// Queries with separators beside those of the comparison: next to other signs, in brackets, and where they are of no number.
+const SEPARATED_BESIDE: &[&str] = &[
     "0X_f+1",
     "1_0e+1_0",
-    "1__0",
-    "1_",
-    "1_.5",
-    "1._5",
-    "1e_5",
-    "1e+_5",
-    "0x_",
-    "0x__1",
-    "0_x1",
     "0x1_g",
-    "1_000m",
-    "1_0em",
-    "1_0z",
     "1_0y",
-    "5_m",
-    "1h3_0m",
     "1m_",
-    "_1",
     "1_\u{e9}",
     "[1_0]",
     "[1_0m]",
@@ -491,7 +545,6 @@ const SEPARATED: &[&str] = &[
     "a[5m] > 1_000_000_000",
     "rate(a_1[1m]) / 1_0 # 1__0",
     "{a_1=\"1__0\"} == 0x_ff",
-    "1_0.",
 ];
 
 /// Backslashes between backquotes and elsewhere: before what they escape and what they do not, before the closing backquote and at the
@@ -553,9 +606,12 @@ pub fn inputs() -> Vec<String> {
             .map(|text| line(&text)),
     );
     lines.extend(long());
-    lines.extend(SEPARATED.iter().map(|text| line(text.as_bytes())));
-    lines.extend(BACKQUOTED.iter().map(|text| line(text.as_bytes())));
-    let documented = [SEPARATED, BACKQUOTED, NUMBERS, STRINGS, &QUERIES].concat();
+    let later = [&SEPARATED, SEPARATED_BESIDE, BACKQUOTED, DEPTHS].concat();
+    lines.extend(later.iter().map(|text| line(text.as_bytes())));
+    lines.extend(deep());
+    lines.extend(IN_LISTS.iter().flat_map(|query| in_lists(query)));
+    lines.extend(NO_ROOMS.iter().map(|text| lists_line(text)));
+    let documented = [&later, NUMBERS, STRINGS, &QUERIES[..]].concat();
     lines.extend(
         documented
             .iter()
@@ -575,6 +631,40 @@ fn in_rooms(query: &[u8]) -> Vec<String> {
     (0..=Lexed::new(query).count() + 1)
         .map(|room| format!("{line} {room}"))
         .collect()
+}
+
+/// The records of a query with a room for each list.
+fn in_lists(query: &str) -> Vec<String> {
+    let count = Lexed::new(query.as_bytes()).count();
+    let (more, less) = (count + 1, count.saturating_sub(1));
+    let mut rooms = vec![[count; LISTS], [count, more, count + 2, count + 3]];
+    for (one, others) in [(less, count), (count, more), (0, more)] {
+        rooms.extend((0..LISTS).map(|list| {
+            let mut rooms = [others; LISTS];
+            rooms[list] = one;
+            rooms
+        }));
+    }
+    let text = |rooms: [usize; LISTS]| rooms.map(|room| format!("{room} ")).concat() + query;
+    rooms
+        .into_iter()
+        .map(|rooms| lists_line(&text(rooms)))
+        .collect()
+}
+
+/// The record of rooms and a query.
+fn lists_line(text: &str) -> String {
+    format!("lexrooms {}", hex(text.as_bytes()))
+}
+
+/// Queries of deep parentheses.
+fn deep() -> impl Iterator<Item = String> {
+    DEEP.into_iter().flat_map(|depth| {
+        [depth - 1, depth, depth + 1].map(|closed| {
+            let query = ["(".repeat(depth), "a".into(), ")".repeat(closed)].concat();
+            line(query.as_bytes())
+        })
+    })
 }
 
 /// Queries as long as the limit, one with more lexemes than its room has, and one that is a byte longer.
@@ -599,13 +689,33 @@ pub fn lexdoc(query: &[u8], room: u64) -> String {
     told(&separators::lexed(query), room)
 }
 
-/// The kind, start and length of each lexeme.
+/// The answer to `lexrooms`: the rooms of the four lists in decimal digits, a space behind each, and the query; none for any
+/// other text.
+pub fn lexrooms(text: &[u8]) -> Option<String> {
+    let mut words = text.splitn(LISTS + 1, |&byte| byte == b' ');
+    let mut room = u64::MAX;
+    for _ in 0..LISTS {
+        room = room.min(decimal(words.next()?)?);
+    }
+    Some(told(&Lexed::new(words.next()?), room))
+}
+
+/// The kind, start, length and depth of each lexeme.
 fn told(lexed: &Lexed, room: u64) -> String {
     match lexed.answer(room) {
         Answer::Value(_) => {
-            let lexemes = lexed.kinds.iter().zip(&lexed.starts).zip(&lexed.lengths);
-            let shown = lexemes.map(|((kind, start), length)| format!(" {kind},{start},{length}"));
-            format!("ok{}", shown.collect::<String>())
+            let Lexed {
+                kinds,
+                starts,
+                lengths,
+                depths,
+                ..
+            } = lexed;
+            let lexeme = |at| {
+                let (kind, start) = (kinds[at], starts[at]);
+                format!(" {kind},{start},{},{}", lengths[at], depths[at])
+            };
+            format!("ok{}", (0..lexed.count()).map(lexeme).collect::<String>())
         }
         refused => refused.to_string(),
     }

@@ -31,6 +31,7 @@ fn answer(line: &str) -> String {
         "durwrite" => duration::durwrite(&input, room),
         "lex" => Some(lexer::lex(&input, room)),
         "lexdoc" => Some(lexer::lexdoc(&input, room)),
+        "lexrooms" => lexer::lexrooms(&input),
         _ => None,
     });
     answer.unwrap_or_else(|| "bad record".to_string())

@@ -16,4 +16,7 @@ pub same-simmerpath-lexer-starts : OneContent lexer.ps lexer.r lexer-reads.Post 
 same-simmerpath-lexer-starts κs a x y e f p q = p .1 .1 .0 ∙ sym (q .1 .1 .0)
 
 pub same-simmerpath-lexer-lengths : OneContent lexer.ps lexer.r lexer-reads.Post (λ κs e. now (e .1 .1 .1 .1 .0))
-same-simmerpath-lexer-lengths κs a x y e f p q = p .1 .1 .1 ∙ sym (q .1 .1 .1)
+same-simmerpath-lexer-lengths κs a x y e f p q = p .1 .1 .1 .0 ∙ sym (q .1 .1 .1 .0)
+
+pub same-simmerpath-lexer-depths : OneContent lexer.ps lexer.r lexer-reads.Post (λ κs e. now (e .1 .1 .1 .1 .1 .0))
+same-simmerpath-lexer-depths κs a x y e f p q = p .1 .1 .1 .1 ∙ sym (q .1 .1 .1 .1)

@@ -48,9 +48,9 @@ pub record Joins (r : Reading) (a : List ℕ) (n : ℕ) : Type 0 where
   pub accepted : measured r a ≡ Count n
   pub plain : LastNoFill a (front r a)
 
--- moved along by so many bytes, and so many characters
+-- moved along by so many bytes, and so many characters; document 02, L7: "Demand 3 gives B's depths as they are"
 abbrev pub movedEntry : ℕ → Entry → Entry
-movedEntry d e = entry (e .kind) (d + e .start) (e .length)
+movedEntry d e = entry (e .kind) (d + e .start) (e .length) (e .depth)
 
 abbrev pub movedRefusal : ℕ → ℕ → Refusal → Refusal
 movedRefusal d c r = record { number = r .number; place = place (d + r .place .byte .0) (c + r .place .character .0) }
@@ -65,7 +65,7 @@ abbrev pub JoinAnswer : Type 0
 JoinAnswer =
     (r : Reading) (a b : List ℕ) (n : ℕ) → Joins r a n → length (joined a b) ≤ textLimit → measured r (joined a b) ≡ movedBehind a n (measured r b)
 
--- the lexemes; of a B that is refused none are said
+-- the lexemes; of a B that is refused, those before its refusal
 abbrev pub JoinEntries : Type 0
 JoinEntries =
     (r : Reading) (a b : List ℕ) (n : ℕ) → Joins r a n → entriesOf r (joined a b) ≡ front r a ++ map (movedEntry (suc (length a))) (entriesOf r b)

@@ -1,7 +1,6 @@
 -- What is refused first is refused; then the text decides, which is within the limit, whatever room the lexer's own lists have.
 use native.Mathlib.Omega.{arith}
-use mathlib.Core.List.{List}
-use mathlib.Core.Path.{_≡_, refl, sym, ap, _∙_}
+use mathlib.Core.Path.{refl, sym, ap, _∙_}
 use denote.Ref.{now}
 use borrow.Author.Needs.{needs}
 use Rattle.utf8.specs.Answers.{textLimit, notAdmitted}
@@ -11,12 +10,6 @@ use Rattle.lex.specs.Lex.{measured, roomed, lexed}
 use Rattle.lex.proofs.Tallies.{tally-measured}
 use Rattle.lex.proofs.lexer.Statement.{statement}
 use Rattle.lex.proofs.lexer.Tie as tie
-
-leads-requires : tie.Need-leads-requires
-leads-requires c κs = search needs
-
-words-requires : tie.Need-words-requires
-words-requires c κs = search needs
 
 admit-requires : tie.Need-admit-requires
 admit-requires c κs = search needs
@@ -34,7 +27,7 @@ returns : tie.Need-returns
 unfolding lexed measured
 returns c =
     let e = c .before .enum-told2 .given .1 in
-    rw (← c .before .before .before .admit .ensures, e) (ap Refused (c .not-admitted .ensures ∙ ap notAdmitted e), (refl, (refl, refl)))
+    rw (← c .before .before .before .admit .ensures, e) (ap Refused (c .not-admitted .ensures ∙ ap notAdmitted e), (refl, (refl, (refl, refl))))
 
 slice-aggregate-lex-text : tie.Need-slice-aggregate-lex-text
 slice-aggregate-lex-text c = search needs
@@ -50,8 +43,8 @@ slice-aggregate-lex-text-4 c = search needs
 
 lex-text-requires : tie.Need-lex-text-requires
 lex-text-requires c κs =
-    let taken = admitted-text textLimit (now (c .before .before .before .before .before .before .before .before .before .before .before .before .before .before .before .before .before .before .args .query)) _ (sym (c .before .before .before .before .before .before .before .before .before .before .before .admit .ensures) ∙ c .before .before .before .before .before .before .before .before .before .enum-told .given .1) in
-    ((c .before .before .before .before .before .before .before .before .before .before .before .before .before .leads .ensures, c .before .before .before .before .before .before .before .before .before .before .before .before .words .ensures), (omega (arith, taken .0), (refl, refl)))
+    let taken = admitted-text textLimit (now (c .before .before .before .before .before .before .before .before .before .before .before .before .before .before .before .before .before .args .query)) _ (sym (c .before .before .before .before .before .before .before .before .before .before .before .admit .ensures) ∙ c .before .before .before .before .before .before .before .before .before .enum-told .given .1) in
+    (omega (arith, taken .0), (refl, refl, refl))
 
 same-length : tie.Need-same-length
 same-length c = search needs
@@ -62,11 +55,14 @@ same-length-2 c = search needs
 same-length-3 : tie.Need-same-length-3
 same-length-3 c = search needs
 
+same-length-4 : tie.Need-same-length-4
+same-length-4 c = search needs
+
 returns-2 : tie.Need-returns-2
 unfolding lexed
 returns-2 c =
-    let w = c .before .before .before .before .before .before .before .before .before .lex-text .ensures in
-    let m = tally-measured _ (now (c .before .before .before .before .before .before .before .before .before .before .before .before .before .before .before .before .before .before .before .before .before .before .before .before .before .before .before .before .args .query)) (sym (c .before .before .before .before .before .before .before .before .before .before .before .before .before .before .before .before .before .before .before .before .before .admit .ensures) ∙ c .before .before .before .before .before .before .before .before .before .before .before .before .before .before .before .before .before .before .before .enum-told .given .1) in
+    let w = c .before .before .before .before .before .before .before .before .before .before .before .before .lex-text .ensures in
+    let m = tally-measured _ (now (c .before .before .before .before .before .before .before .before .before .before .before .before .before .before .before .before .before .before .before .before .before .before .before .before .before .before .before .before .before .before .args .query)) (sym (c .before .before .before .before .before .before .before .before .before .before .before .before .before .before .before .before .before .before .before .before .before .before .before .before .admit .ensures) ∙ c .before .before .before .before .before .before .before .before .before .before .before .before .before .before .before .before .before .before .before .before .before .before .enum-told .given .1) in
     (w .0 ∙ ap (roomed _) m, w .1)
 
 slice-aggregate-lex-text-5 : tie.Need-slice-aggregate-lex-text-5
@@ -83,11 +79,8 @@ slice-aggregate-lex-text-8 c = search needs
 
 lex-text-requires-2 : tie.Need-lex-text-requires-2
 lex-text-requires-2 c κs =
-    let taken = admitted-text textLimit (now (c .before .before .before .before .before .before .before .before .before .before .before .before .before .before .before .before .before .before .args .query)) _ (sym (c .before .before .before .before .before .before .before .before .before .before .before .admit .ensures) ∙ c .before .before .before .before .before .before .before .before .before .enum-told .given .1) in
-    ((c .before .before .before .before .before .before .before .before .before .before .before .before .before .leads .ensures, c .before .before .before .before .before .before .before .before .before .before .before .before .words .ensures), (omega (arith, taken .0), (refl, refl)))
-
-same-length-4 : tie.Need-same-length-4
-same-length-4 c = search needs
+    let taken = admitted-text textLimit (now (c .before .before .before .before .before .before .before .before .before .before .before .before .before .before .before .before .before .args .query)) _ (sym (c .before .before .before .before .before .before .before .before .before .before .before .admit .ensures) ∙ c .before .before .before .before .before .before .before .before .before .enum-told .given .1) in
+    (omega (arith, taken .0), (refl, refl, refl))
 
 same-length-5 : tie.Need-same-length-5
 same-length-5 c = search needs
@@ -95,19 +88,23 @@ same-length-5 c = search needs
 same-length-6 : tie.Need-same-length-6
 same-length-6 c = search needs
 
+same-length-7 : tie.Need-same-length-7
+same-length-7 c = search needs
+
+same-length-8 : tie.Need-same-length-8
+same-length-8 c = search needs
+
 returns-3 : tie.Need-returns-3
 unfolding lexed
 returns-3 c =
-    let w = c .before .before .before .before .before .before .before .before .before .lex-text2 .ensures in
-    let m = tally-measured _ (now (c .before .before .before .before .before .before .before .before .before .before .before .before .before .before .before .before .before .before .before .before .before .before .before .before .before .before .before .before .args .query)) (sym (c .before .before .before .before .before .before .before .before .before .before .before .before .before .before .before .before .before .before .before .before .before .admit .ensures) ∙ c .before .before .before .before .before .before .before .before .before .before .before .before .before .before .before .before .before .before .before .enum-told .given .1) in
+    let w = c .before .before .before .before .before .before .before .before .before .before .before .before .lex-text2 .ensures in
+    let m = tally-measured _ (now (c .before .before .before .before .before .before .before .before .before .before .before .before .before .before .before .before .before .before .before .before .before .before .before .before .before .before .before .before .before .before .args .query)) (sym (c .before .before .before .before .before .before .before .before .before .before .before .before .before .before .before .before .before .before .before .before .before .before .before .before .admit .ensures) ∙ c .before .before .before .before .before .before .before .before .before .before .before .before .before .before .before .before .before .before .before .before .before .before .enum-told .given .1) in
     (w .0 ∙ ap (roomed _) m, w .1)
 
 pub lexer-spec : {M : Type 1} → statement M
 lexer-spec =
     tie.close
     (tie.spec
-    leads-requires
-    words-requires
     admit-requires
     enum-told
     enum-told-2
@@ -121,13 +118,15 @@ lexer-spec =
     same-length
     same-length-2
     same-length-3
+    same-length-4
     returns-2
     slice-aggregate-lex-text-5
     slice-aggregate-lex-text-6
     slice-aggregate-lex-text-7
     slice-aggregate-lex-text-8
     lex-text-requires-2
-    same-length-4
     same-length-5
     same-length-6
+    same-length-7
+    same-length-8
     returns-3)

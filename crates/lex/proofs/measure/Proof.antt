@@ -49,16 +49,19 @@ slice-aggregate-pass-3 c = search needs
 slice-aggregate-pass-4 : tie.Need-slice-aggregate-pass-4
 slice-aggregate-pass-4 c = search needs
 
+slice-aggregate-pass-5 : tie.Need-slice-aggregate-pass-5
+slice-aggregate-pass-5 c = search needs
+
 pass-requires : tie.Need-pass-requires
 pass-requires c κs =
-    let taken = admitted-text textLimit (now (c .before .before .before .before .before .before .before .before .before .before .before .args .query)) _ (sym (c .before .before .before .before .before .before .before .before .before .admit .ensures) ∙ c .before .before .before .before .before .before .before .enum-told .given .1) in
-    ((c .before .before .before .before .before .before .leads .ensures, c .before .before .before .before .before .words .ensures), (omega (arith, taken .0), (refl, refl)))
+    let taken = admitted-text textLimit (now (c .before .before .before .before .before .before .before .before .before .before .before .before .args .query)) _ (sym (c .before .before .before .before .before .before .before .before .before .before .admit .ensures) ∙ c .before .before .before .before .before .before .before .before .enum-told .given .1) in
+    ((c .before .before .before .before .before .before .before .leads .ensures, c .before .before .before .before .before .before .words .ensures), (omega (arith, taken .0), (refl, refl, refl)))
 
 -- what the pass counts is the measure
-counts : (c : tie.After-pass) (r : Run) → c .pass .result ≡ r → let a = c .before .before .before .before .before .before .before .before .before .before .before .before .args in answerIn (now (a .query)) r ≡ measured (a .reading) (now (a .query))
+counts : (c : tie.After-pass) (r : Run) → c .pass .result ≡ r → let a = c .before .before .before .before .before .before .before .before .before .before .before .before .before .args in answerIn (now (a .query)) r ≡ measured (a .reading) (now (a .query))
 counts c r e =
-    let q = now (c .before .before .before .before .before .before .before .before .before .before .before .before .args .query) in
-    ap (answerIn q) (sym e ∙ c .pass .ensures .0) ∙ tally-measured _ q (sym (c .before .before .before .before .before .before .before .before .before .before .admit .ensures) ∙ c .before .before .before .before .before .before .before .before .enum-told .given .1)
+    let q = now (c .before .before .before .before .before .before .before .before .before .before .before .before .before .args .query) in
+    ap (answerIn q) (sym e ∙ c .pass .ensures .0) ∙ tally-measured _ q (sym (c .before .before .before .before .before .before .before .before .before .before .before .admit .ensures) ∙ c .before .before .before .before .before .before .before .before .before .enum-told .given .1)
 
 enum-known-r : tie.Need-enum-known-r
 enum-known-r c = search needs
@@ -72,10 +75,10 @@ refused-in-requires c κs = search needs
 returns-2 : tie.Need-returns-2
 returns-2 c =
     let e = c .before .enum-told3 .given .1 in
-    ap Refused (c .refused-in .ensures ∙ ap (refusedIn (now (c .before .before .before .before .before .before .before .before .before .before .before .before .before .before .before .before .before .before .args .query))) e) ∙ counts (c .before .before .before .before .before .before) _ e
+    ap Refused (c .refused-in .ensures ∙ ap (refusedIn (now (c .before .before .before .before .before .before .before .before .before .before .before .before .before .before .before .before .before .before .before .before .args .query))) e) ∙ counts (c .before .before .before .before .before .before .before) _ e
 
 returns-3 : tie.Need-returns-3
-returns-3 c = counts (c .before .before .before .before .before .before) _ (c .before .r .given .1)
+returns-3 c = counts (c .before .before .before .before .before .before .before) _ (c .before .r .given .1)
 
 pub measure-spec : {M : Type 1} → statement M
 measure-spec =
@@ -92,6 +95,7 @@ measure-spec =
     slice-aggregate-pass-2
     slice-aggregate-pass-3
     slice-aggregate-pass-4
+    slice-aggregate-pass-5
     pass-requires
     enum-known-r
     enum-told-3

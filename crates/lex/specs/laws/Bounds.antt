@@ -26,9 +26,9 @@ LexingWithin (Refused r) = (r .number ≤ lastRow) × (r .place .byte .0 ≤ tex
 abbrev pub LexingBounded : Type 0
 LexingBounded = (r : Reading) (room : ℕ) (q : List ℕ) → LexingWithin (lexed r room q)
 
--- of a query of so many bytes: a lexeme, and all of a list; a kind has 16 bits
+-- of a query of so many bytes: a lexeme, and all of a list; a kind has 16 bits, and no more parentheses are open than there are bytes
 abbrev pub Within : ℕ → Entry → Type 0
-Within size e = (e .kind < 2 ^ 16) × (e .start + e .length ≤ size)
+Within size e = (e .kind < 2 ^ 16) × (e .start + e .length ≤ size) × (e .depth ≤ size)
 
 abbrev pub AllWithin : ℕ → List Entry → Type 0
 AllWithin size [] = Unit {0}

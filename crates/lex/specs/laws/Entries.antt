@@ -13,7 +13,7 @@ use Rattle.quoted.specs.Quoted.{unknownEscape, endInEscape, endInString}
 use Rattle.munch.specs.declared.Mode.{Mode}
 use Rattle.munch.specs.declared.Step.the-variants.{Lexeme}
 use Rattle.munch.specs.Munch.{munched}
-use Rattle.lex.specs.Outcome.{Entry}
+use Rattle.lex.specs.Outcome.{Entry, depthBy}
 use Rattle.lex.specs.Lex.{entriesOf}
 use Rattle.lex.specs.laws.Refusals.{Reaches, RowAt}
 
@@ -28,6 +28,7 @@ pub record StepThere (r : Reading) (q : List ℕ) (e : Entry) : Type 0 where
   pub next : Mode
   pub reached : Reaches r q (e .start) mode
   pub step : munched r mode (drop (e .start) q) ≡ Lexeme (e .kind) (e .length) next
+  pub deep : e .depth ≡ depthBy (e .kind) next
 
 -- each lexeme is the end or such a step; also those before a refusal
 abbrev pub EntryIsStep : Type 0

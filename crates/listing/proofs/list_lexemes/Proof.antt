@@ -1,5 +1,5 @@
 -- With room for any line what is printed is put where it stays; else it stands at the front of the array, from where it is put.
-use mathlib.Core.Path.{sym, _∙_}
+use mathlib.Core.Path.{sym}
 use lib.Seq.{length-take-le}
 use borrow.Author.Needs.{needs}
 use Rattle.listing.proofs.Puts.{puts-front, puts-told}
@@ -22,7 +22,7 @@ list-to-requires-2 : tie.Need-list-to-requires-2
 list-to-requires-2 c κs = search needs
 
 array-share-prefix-text : tie.Need-array-share-prefix-text
-array-share-prefix-text c = search needs
+array-share-prefix-text c = let s = c .before .before .list-to2 in puts-front (s .ensures) (s .kept .1 .0) .0
 
 slice-aggregate-put-text : tie.Need-slice-aggregate-put-text
 slice-aggregate-put-text c = let s = c .before .before .before .list-to2 in sym (length-take-le _ _ (puts-front (s .ensures) (s .kept .1 .0) .0))

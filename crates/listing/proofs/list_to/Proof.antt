@@ -36,6 +36,9 @@ slice-aggregate-lex-to-2 c = search needs
 slice-aggregate-lex-to-3 : tie.Need-slice-aggregate-lex-to-3
 slice-aggregate-lex-to-3 c = search needs
 
+slice-aggregate-lex-to-4 : tie.Need-slice-aggregate-lex-to-4
+slice-aggregate-lex-to-4 c = search needs
+
 lex-to-requires : tie.Need-lex-to-requires
 lex-to-requires c κs = search needs
 
@@ -44,7 +47,7 @@ same-length-2 c = search needs
 
 returns-2 : tie.Need-returns-2
 unfolding printed
-returns-2 c = rw (le-ltb inputLimit (length (now (c .before .before .before .before .before .before .before .before .before .before .before .before .before .args .query))) (omega arith)) (c .before .before .before .before .before .lex-to .ensures)
+returns-2 c = rw (le-ltb inputLimit (length (now (c .before .before .before .before .before .before .before .before .before .before .before .before .before .before .before .args .query))) (omega arith)) (c .before .before .before .before .before .before .lex-to .ensures)
 
 pub list-to-spec : {M : Type 1} → statement M
 list-to-spec =
@@ -57,6 +60,7 @@ list-to-spec =
     slice-aggregate-lex-to
     slice-aggregate-lex-to-2
     slice-aggregate-lex-to-3
+    slice-aggregate-lex-to-4
     lex-to-requires
     same-length-2
     returns-2)

@@ -1,5 +1,6 @@
 -- Where a step leads, as a statement; `proofs/Modes` has the proof. In braces it stays there or leads outside, and so in brackets, where their opening is
--- past behind it; the parentheses that are open stay so. Outside, white space changes nothing, and a lexeme opens what it opens anew.
+-- past behind it; the parentheses that are open stay so. Outside, white space changes nothing, and a lexeme opens what it opens anew. A comment changes
+-- nothing.
 use Prim.Native.Nat.{ℕ}
 use mathlib.Core.Bool.{Bool, true, false}
 use mathlib.Core.List.{List}
@@ -30,10 +31,16 @@ past Nothing = Nothing
 past Braces = Braces
 past (Brackets seen fresh) = Brackets seen false
 
+-- where a comment may stand: "none exist inside `[ ]`"
+abbrev pub Commented : Inside → Type 0
+Commented Nothing = Unit {0}
+Commented Braces = Unit {0}
+Commented (Brackets seen fresh) = ⊥
+
 abbrev pub LeadsTo : ℕ → Inside → Step → Type 0
 LeadsTo d i (Lexeme k n m) = Behind d i m
 LeadsTo d i (Space m) = m ≡ mode d (past i)
-LeadsTo d i (Comment n) = Unit {0}
+LeadsTo d i (Comment n) = Commented i
 LeadsTo d i (Refused r o) = Unit {0}
 LeadsTo d i Finished = i ≡ Nothing
 

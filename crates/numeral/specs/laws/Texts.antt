@@ -1,5 +1,5 @@
--- What is read is what document 01's and document 02's sentences say of texts, as statements; `proofs/Texts`, `proofs/Given` and `proofs/Places` have
--- their proofs. All are said of bytes that are begun as a number is: no others are read as one.
+-- What is read is what document 01's and document 02's sentences say of texts, as statements; `proofs/Texts`, `proofs/Plain`, `proofs/Given` and
+-- `proofs/Places` have their proofs. All are said of bytes that are begun as a number is: no others are read as one.
 use Prim.Native.Nat.{ℕ, _<_, _≤_}
 use Prim.Native.Char.{code}
 use mathlib.Core.Bool.{true, false}
@@ -33,6 +33,10 @@ pub record IsDuration (r : Reading) (xs : List ℕ) (n : ℕ) : Type 0 where
   pub within : n ≤ length xs
   pub units : Units (drop k (take n xs))
   pub ended : isAlphaNumeric (peekAt xs n) ≡ false
+
+-- no byte of either is a `[`
+abbrev pub NoBracket : Type 0
+NoBracket = (r : Reading) (xs : List ℕ) (n : ℕ) → IsNumber r xs n ⊎ IsDuration r xs n → (i : ℕ) → i < n → ¬ (peekAt xs i ≡ code "[")
 
 abbrev pub NumberGiven : Type 0
 NumberGiven = (r : Reading) (xs : List ℕ) → Begun xs → (n : ℕ) → numeralOf r xs ≡ Number n ↔ IsNumber r xs n

@@ -1,13 +1,15 @@
 -- What the crates above may know of words, as statements; `proofs/Lookup`, `proofs/Fits` and `proofs/Table` have their proofs.
-use Prim.Native.Nat.{ℕ, _^_, _<_}
+use Prim.Native.Nat.{ℕ, _<_, _≤_}
 use Prim.Native.Char.{code}
 use mathlib.Core.Bool.{true}
 use mathlib.Core.List.{List}
+use mathlib.Core.Logic.{_⊎_}
 use mathlib.Core.Path.{_≡_}
 use lib.ListN.{length, getD}
 use Rattle.scan.specs.Text.{sameText, has}
 use Rattle.token.specs.declared.Keyword.{Keyword}
 use Rattle.token.specs.declared.Keyword.the-variants.{Kind, Nothing}
+use Rattle.token.specs.Kinds.{number, land, endKind}
 use Rattle.token.specs.Words.{KindText, _names_, words, kindIn, keywordOf}
 use Rattle.token.specs.steps.WordRows.{wordTable, keywordIn}
 
@@ -15,9 +17,9 @@ use Rattle.token.specs.steps.WordRows.{wordTable, keywordIn}
 abbrev pub TableFinds : Type 0
 TableFinds = (xs : List ℕ) → keywordIn wordTable xs ≡ keywordOf xs
 
--- the kind of a word, if any, has 16 bits
+-- the kind of a word, if any, is that of numbers, or one from that of `and` to that of `end`
 abbrev pub KindFits : Keyword → Type 0
-KindFits (Kind k) = k < 2 ^ 16
+KindFits (Kind k) = (k ≡ number) ⊎ ((land ≤ k) × (k ≤ endKind))
 KindFits Nothing = Unit {0}
 
 abbrev pub KeywordFits : Type 0

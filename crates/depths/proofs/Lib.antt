@@ -1,0 +1,12 @@
+pub mod Levels
+pub mod Closed
+pub mod Spans
+pub mod Partners
+pub mod Pairs
+pub mod Since
+pub mod Flags
+pub mod Passed
+pub mod Modes
+pub mod Rows
+pub mod Walk
+pub mod Depths

@@ -1,0 +1,4 @@
+pub mod Pairs
+pub mod Modes
+pub mod Rows
+pub mod Depths
