@@ -1,4 +1,6 @@
 // Decimal texts, by the grammar of Rust's f64, and their values where these are exact; the number that every reader of numbers answers with.
+#![tactic(auto)]
+
 pub mod short;
 mod tens;
 
@@ -17,7 +19,7 @@ use scan::byte::Class;
 use scan::{byte, sign};
 
 // How a number was written.
-#[derive(Drop)]
+#[derive(Clone, Copy)]
 pub enum Notation {
     Decimal,
     Hex,
@@ -25,14 +27,14 @@ pub enum Notation {
 }
 
 // A number: its value, and how it was written.
-#[derive(Drop)]
+#[derive(Clone, Copy)]
 pub struct Number {
     pub value: f64,
     pub notation: Notation,
 }
 
 // What a text is: no decimal; infinity or NaN by name; a decimal in the exact range, or a negative or positive one outside it.
-#[derive(Drop)]
+#[derive(Clone, Copy)]
 pub enum Decimal {
     NotDecimal,
     Named(Number),
@@ -67,7 +69,7 @@ pub fn bits_of(value: f64) -> u64
 }
 
 // Where the digits of a text's parts begin and end.
-#[derive(Drop)]
+#[derive(Clone, Copy)]
 struct Parts {
     whole_from: usize,
     whole_to: usize,

@@ -13,14 +13,14 @@ const MOST_SHORT: usize = 15;
 const MOST_RAISED: usize = MOST_EXPONENT - MOST_SHORT;
 
 // What digits amount to, and where they end.
-#[derive(Drop)]
+#[derive(Clone, Copy)]
 struct Digits {
     value: u64,
     end: usize,
 }
 
 // What is told of a text in one walk: its value, that it is no decimal, or nothing.
-#[derive(Drop)]
+#[derive(Clone, Copy)]
 enum Short {
     Value(f64),
     NotDecimal,

@@ -26,7 +26,7 @@ const DECIMAL_BASE: u64 = 10;
 const ZERO: [u8; 2] = *b"0s";
 
 // How many there are of each unit.
-#[derive(Drop)]
+#[derive(Clone, Copy)]
 struct Counts {
     years: u64,
     weeks: u64,

@@ -1,4 +1,6 @@
 // Durations: a number of seconds, or parts with units, in a text of at most 256 bytes.
+#![tactic(auto)]
+
 pub mod display;
 pub mod span;
 pub mod units;
@@ -31,14 +33,14 @@ pub const OUT_OF_RANGE: usize = 54;
 pub const OVERSIZED_PART: usize = 55;
 
 // What becomes of such a part: it counts as nothing, as in the Rust, or the text is refused.
-#[derive(Drop)]
+#[derive(Clone, Copy)]
 pub enum Oversized {
     Ignored,
     Refused,
 }
 
 // How long a text's duration is, or why it is none.
-#[derive(Drop)]
+#[derive(Clone, Copy)]
 pub enum Timing {
     Lasts(Duration),
     Refused(Refusal),

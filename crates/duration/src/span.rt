@@ -7,7 +7,7 @@ ghost use Rattle.duration.specs.Spans.{is_zero, from_secs, duration_at, least_ti
 ghost use Rattle.duration.specs.Unit.{nanos_aSecond};
 
 // A duration: seconds, and nanoseconds of which a second has less than a billion.
-#[derive(Drop)]
+#[derive(Clone, Copy)]
 pub struct Duration {
     pub secs: u64,
     pub nanos: u32,
@@ -42,14 +42,14 @@ pub fn is_zero(duration: Duration) -> bool
 }
 
 // A duration, or none where the seconds are negative, too many or no number.
-#[derive(Drop)]
+#[derive(Clone, Copy)]
 pub enum Conversion {
     Lasts(Duration),
     Refused,
 }
 
 // A float by its digits: digits / 2 ^ shift.
-#[derive(Drop)]
+#[derive(Clone, Copy)]
 struct Dyadic {
     digits: u64,
     shift: u64,

@@ -9,14 +9,14 @@ use decimal::Notation;
 use scan::byte::Class;
 
 // What a unit text amounts to, if it is one, and whether a part of it is oversized, which counts as nothing.
-#[derive(Drop)]
+#[derive(Clone, Copy)]
 pub enum Units {
     Sum { lasts: Duration, oversized: bool },
     NotUnits,
 }
 
 // How far a text was read, what the parts before amount to, and whether one of them is above the greatest number that counts.
-#[derive(Drop)]
+#[derive(Clone, Copy)]
 struct Progress {
     at: usize,
     secs: u64,

@@ -1,5 +1,7 @@
 // Lexing a query, in a reading, to four lent lists. A pass reads it into lists of the lexer's own, so that nothing lent is written before the
 // query is measured; where all lexemes had room there they are copied, and otherwise a second pass writes them. A refused query writes nothing.
+#![tactic(auto)]
+
 ghost use Rattle.std.specs.Prelude.{◌≡◌, ◌++◌, ◌≤◌, min, length, set, take, drop};
 ghost use Rattle.utf8.specs.Answers.{text_limit};
 ghost use Rattle.token.specs.steps.WordRows.{word_table};
@@ -15,21 +17,21 @@ use token::kinds;
 use utf8::{Admission, ByteOffset, Reading, Refusal};
 
 // How many lexemes a query has, or why it has none.
-#[derive(Drop)]
+#[derive(Clone, Copy)]
 pub enum Lexing {
     Count(usize),
     Refused(Refusal),
 }
 
 // How far a text was read: to a place, with so many lexemes before it; or why it is refused, and where.
-#[derive(Drop)]
+#[derive(Clone, Copy)]
 enum Run {
     To { at: usize, count: usize },
     Refused { number: usize, at: ByteOffset },
 }
 
 // A lexeme: its kind, its first byte, how many it has, and its depth.
-#[derive(Drop)]
+#[derive(Clone, Copy)]
 struct Lexeme {
     kind: u16,
     start: ByteOffset,

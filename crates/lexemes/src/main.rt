@@ -1,4 +1,6 @@
 // Prints the lexemes of the query on standard input, a line each, or the one line of its refusal.
+#![tactic(auto)]
+
 ghost use Rattle.std.specs.Prelude.{◌≡◌};
 ghost use Rattle.io.specs.Counts.{IsPrefixLen};
 ghost use Rattle.writing.specs.Put.{put_at, past_at};

@@ -1,5 +1,7 @@
 // What the program prints of a query, lexed in the crate reading: a line for each lexeme, or one for the refusal. A text is written whole where
 // it fits, and else not at all.
+#![tactic(auto)]
+
 ghost use Rattle.std.specs.Prelude.{◌≡◌, ◌+◌, ◌≤◌, length};
 ghost use Rattle.writing.specs.Put.{put_at, past_at};
 ghost use Rattle.writing.specs.Decimal.{most_digits};

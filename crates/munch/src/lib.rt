@@ -1,5 +1,7 @@
 // One step of reading a query: what the bytes that are left begin with, by the mode that those before have led to, in a reading.
 // Document 01's rows that refuse it are numbered in `refusals`.
+#![tactic(auto)]
+
 mod lead;
 mod refusals;
 mod second;
@@ -23,7 +25,7 @@ pub const BYTES: usize = 256;
 
 // What is open inside a query's parentheses: nothing, braces, or brackets; of these, whether their colon was seen, and whether they were just
 // opened.
-#[derive(Drop)]
+#[derive(Clone, Copy)]
 pub enum Inside {
     Nothing,
     Braces,
@@ -31,14 +33,14 @@ pub enum Inside {
 }
 
 // How many parentheses are open, and what is in them.
-#[derive(Drop)]
+#[derive(Clone, Copy)]
 pub struct Mode {
     pub depth: usize,
     pub inside: Inside,
 }
 
 // What the bytes that are left begin with: a lexeme, a byte of white space, a comment, what is refused and where, or nothing.
-#[derive(Drop)]
+#[derive(Clone, Copy)]
 pub enum Step {
     Lexeme {
         kind: u16,

@@ -9,7 +9,7 @@ use token::{Keyword, kinds};
 
 // `or` before a space in braces, any other word in braces; outside braces a word of the table that is no fill word, a fill word with `(`
 // next, white space aside, and without; a word with a colon, and any other.
-#[derive(Drop)]
+#[derive(Clone, Copy)]
 pub enum Rule {
     Or,
     InBraces,

@@ -1,4 +1,6 @@
 // Numbers: decimal, hexadecimal or octal, in a text of at most 256 bytes, white space aside and in any case of its letters.
+#![tactic(auto)]
+
 mod separators;
 
 ghost use Rattle.std.specs.Prelude.{◌≡◌, ◌+◌, ◌<◌, ◌≤◌, true, length, pos, ◌≢◌};
@@ -29,14 +31,14 @@ pub const NOT_A_NUMBER: usize = 60;
 pub const OUTSIDE_I64: usize = 61;
 
 // A number, or why there is none.
-#[derive(Drop)]
+#[derive(Clone, Copy)]
 pub enum Parsing {
     Value(Number),
     Refused(Refusal),
 }
 
 // An integer by its own sign and its magnitude, if it is one.
-#[derive(Drop)]
+#[derive(Clone, Copy)]
 enum Integer {
     Whole(bool, u64),
     NotInteger,

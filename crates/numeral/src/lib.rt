@@ -1,5 +1,7 @@
 // Numbers and durations in a query: where the one or the other ends that bytes begin with. What it says is read by `number`, and by
 // `duration`.
+#![tactic(auto)]
+
 ghost use Rattle.std.specs.Prelude.{◌≡◌, drop};
 ghost use Rattle.numeral.specs.Numeral.{between_digits, behind_prefix, is_hex, fraction_end, exponent_end, mantissa_end, number_end, is_unit, stop_of, turn_of, duration_from, taken, numeral_of};
 
@@ -9,7 +11,7 @@ use scan::{byte, separated, sign};
 use utf8::Reading;
 
 // What bytes begin with: a number or a duration of so many bytes, or neither, where so many were taken.
-#[derive(Drop)]
+#[derive(Clone, Copy)]
 pub enum Numeral {
     Number(usize),
     Duration(usize),
@@ -28,7 +30,7 @@ pub fn taken(n: Numeral) -> usize
 }
 
 // What a duration was read through to: a unit, a unit and an s, or digits.
-#[derive(Drop)]
+#[derive(Clone, Copy)]
 pub enum Part {
     Unit,
     UnitS,
@@ -36,7 +38,7 @@ pub enum Part {
 }
 
 // What a byte does to a duration: it goes on with it, or stands behind its end, or is not to stand there.
-#[derive(Drop)]
+#[derive(Clone, Copy)]
 pub enum Turn {
     On(Part),
     Ends,

@@ -1,1 +1,2 @@
 // What proofs of every subject go by; there is no code.
+#![tactic(auto)]

@@ -1,5 +1,7 @@
 // Strings and comments in a query: where the one or the other ends, by the bytes behind the sign that opens it. What a string says is read
 // by `string`.
+#![tactic(auto)]
+
 ghost use Rattle.std.specs.Prelude.{◌≡◌};
 ghost use Rattle.quoted.specs.Quoted.{is_escape, is_raw, raw_from, escaped_of, quoted_of, comment_end};
 
@@ -7,7 +9,7 @@ use scan::byte::Class;
 use utf8::Reading;
 
 // How the bytes behind a string's opening sign go on: so many belong to it, with its closing sign; or why they do not, and where.
-#[derive(Drop)]
+#[derive(Clone, Copy)]
 pub enum Quoted {
     Closed(usize),
     Refused { number: usize, at: usize },

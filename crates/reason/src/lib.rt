@@ -1,5 +1,7 @@
 // Why a word of a query has its kind, by the number of its lexeme: document 02, L10. One pass over the query, with the step that lexing has, looks for the
 // lexeme and goes on to the end, since a refused query has no lexemes.
+#![tactic(auto)]
+
 ghost use Rattle.std.specs.Prelude.{◌≡◌, ◌≤◌, length};
 ghost use Rattle.utf8.specs.Answers.{text_limit};
 ghost use Rattle.token.specs.steps.WordRows.{word_table};
@@ -21,7 +23,7 @@ const NO_SUCH_LEXEME: usize = 72;
 const NOT_A_WORD: usize = 74;
 
 // One of seven reasons, numbered from 1 in 02's order, or why there is none.
-#[derive(Drop)]
+#[derive(Clone, Copy)]
 pub enum Reasoning {
     Reason(usize),
     Refused(Refusal),
@@ -43,21 +45,21 @@ pub const WITH_COLON: usize = 6;
 pub const PLAIN: usize = 7;
 
 // A word's rule, or a lexeme that is no word.
-#[derive(Drop)]
+#[derive(Clone, Copy)]
 enum Wording {
     Word(Rule),
     Other,
 }
 
 // Where a lexeme begins, and what is open there; EOF begins nowhere, since no step makes it.
-#[derive(Drop)]
+#[derive(Clone, Copy)]
 enum Found {
     There { at: usize, mode: Mode },
     Nowhere,
 }
 
 // How a text was read: how many lexemes it has, and where the one looked for begins; or why it is refused, and where.
-#[derive(Drop)]
+#[derive(Clone, Copy)]
 enum Sought {
     Ended { count: usize, found: Found },
     Refused { number: usize, at: ByteOffset },

@@ -27,7 +27,7 @@ const VALUE_OF_A: usize = 10;
 const CASE: usize = 32;
 
 // The classes of bytes.
-#[derive(Drop)]
+#[derive(Clone, Copy)]
 pub enum Class {
     Space,
     Alpha,

@@ -1,4 +1,6 @@
 // Texts of bytes: where a run of a class ends, whether two texts are one, and whether a byte stands in a text.
+#![tactic(auto)]
+
 pub mod byte;
 pub mod separated;
 pub mod sign;

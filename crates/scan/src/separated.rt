@@ -13,7 +13,7 @@ pub const SEPARATOR: u8 = b'_';
 const SEEN: usize = SEPARATOR as usize;
 
 // Where separators may stand: nowhere, between two digits, or also before the first.
-#[derive(Drop)]
+#[derive(Clone, Copy)]
 pub enum Separators {
     Never,
     Between,

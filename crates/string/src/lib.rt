@@ -1,5 +1,7 @@
 // String literals: where the text of one stands, and that text. What is to be written is measured first, so that a refused call writes
 // nothing.
+#![tactic(auto)]
+
 pub mod escape;
 pub mod tile;
 
@@ -24,7 +26,7 @@ pub const BAD_LITERAL: usize = 40;
 
 // Where the text of a literal stands: behind the first sign of the literal itself, so many bytes, or at the front of the text buffer;
 // or why there is none.
-#[derive(Drop)]
+#[derive(Clone, Copy)]
 pub enum Unquoting {
     Inner(usize),
     Written(usize),
@@ -33,14 +35,14 @@ pub enum Unquoting {
 
 // What a literal, or its content, comes to: a text of so many bytes, which are its own where it has no escape; or it goes wrong at an
 // offset of it.
-#[derive(Drop)]
+#[derive(Clone, Copy)]
 pub enum Extent {
     Text { escaped: bool, size: usize },
     Bad { at: usize },
 }
 
 // A tile that gives one byte: that byte, and how many bytes the tile has; none where it has 0.
-#[derive(Drop)]
+#[derive(Clone, Copy)]
 pub struct Single {
     pub value: u8,
     pub size: usize,

@@ -9,7 +9,7 @@ use utf8::{ByteOffset, Character, encode};
 
 // How a tile is written: as it is, as a letter or a sign behind a backslash, as `\xhh`, as three octal digits, or as `\uhhhh` or
 // `\Uhhhhhhhh`.
-#[derive(Drop)]
+#[derive(Clone, Copy)]
 pub enum Form {
     Plain,
     Letter,
@@ -19,14 +19,14 @@ pub enum Form {
 }
 
 // A tile: how it is written, what it stands for and how many bytes it has; or none, since the literal is bad there.
-#[derive(Drop)]
+#[derive(Clone, Copy)]
 pub enum Tile {
     Piece { form: Form, value: u32, size: usize },
     Bad,
 }
 
 // What digits amount to.
-#[derive(Drop)]
+#[derive(Clone, Copy)]
 pub enum Amount {
     Value(u32),
     NotDigits,

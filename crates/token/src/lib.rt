@@ -1,5 +1,7 @@
 // Token names and words: the kinds of lexemes, the classes of kinds, the text that a kind is shown as, the words that have a kind of
 // their own, and labels. A kind is a number of document 01; every other number has no class and is shown as an unknown token.
+#![tactic(auto)]
+
 pub mod kinds;
 
 ghost use Rattle.std.specs.Prelude.{◌≡◌, map, ◌≤◌, ◌<◌, length};
@@ -261,7 +263,7 @@ const WORDS: [u8; WORD_TABLE] = *b"\
     \x1b\x08\x09\x0a\x0b\x0c\x0d\x0e\x19\x10\x0d\x20\x13\x14\x15\x16";
 
 // The kind that a word has of its own, if any.
-#[derive(Drop)]
+#[derive(Clone, Copy)]
 pub enum Keyword {
     Kind(u16),
     Nothing,

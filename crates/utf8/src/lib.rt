@@ -1,5 +1,7 @@
 // UTF-8 text (RFC 3629): whether bytes are text, the character at an offset, and the number of characters before one; and the places
 // and refusals that every reader answers with. The bytes of a code point are written by `encode`.
+#![tactic(auto)]
+
 pub mod encode;
 
 ghost use Rattle.std.specs.Prelude.{◌≡◌, true, ◌≤◌, length, take};
@@ -14,22 +16,22 @@ ghost use Rattle.utf8.specs.laws.Ascii.{is_ascii};
 use scan::byte;
 
 // How many bytes come before a place.
-#[derive(Drop)]
+#[derive(Clone, Copy)]
 pub struct ByteOffset(pub usize);
 
 // How many characters of a text begin before a place.
-#[derive(Drop)]
+#[derive(Clone, Copy)]
 pub struct CharNumber(pub usize);
 
 // A place in a text, by bytes and by characters.
-#[derive(Drop)]
+#[derive(Clone, Copy)]
 pub struct Place {
     pub byte: ByteOffset,
     pub character: CharNumber,
 }
 
 // Why a reader gives no result: the documents' number, and where.
-#[derive(Drop)]
+#[derive(Clone, Copy)]
 pub struct Refusal {
     pub number: usize,
     pub place: Place,
@@ -49,28 +51,28 @@ pub const NO_ROOM: usize = 3;
 pub const NO_REFUSAL: usize = 0;
 
 // Whether bytes are UTF-8: how many characters they are, or where the longest well-formed prefix ends.
-#[derive(Drop)]
+#[derive(Clone, Copy)]
 pub enum Validity {
     Valid(CharNumber),
     Invalid(Place),
 }
 
 // A text that a reader takes up, or its refusal.
-#[derive(Drop)]
+#[derive(Clone, Copy)]
 pub enum Admission {
     Admitted(CharNumber),
     Refused(Refusal),
 }
 
 // How many bytes of a text were written to a lent buffer, or why none were.
-#[derive(Drop)]
+#[derive(Clone, Copy)]
 pub enum Writing {
     Written(usize),
     Refused(Refusal),
 }
 
 // What the bytes from an offset on begin with: a character, nothing since there are none, or no character.
-#[derive(Drop)]
+#[derive(Clone, Copy)]
 pub enum Character {
     Scalar { code: u32, size: usize },
     Nothing,
@@ -78,7 +80,7 @@ pub enum Character {
 }
 
 // Whose rules a text is read by where they differ: those of the Rust, or those that Prometheus documents.
-#[derive(Drop)]
+#[derive(Clone, Copy)]
 pub enum Reading {
     Crate,
     Documented,

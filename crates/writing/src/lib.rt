@@ -1,5 +1,7 @@
 // Writing behind each other: a text, or the decimal digits of a number, at a place of a lent list. It is written whole where it
 // fits, and else not at all; the answer is the place past it, for what comes next.
+#![tactic(auto)]
+
 ghost use Rattle.std.specs.Prelude.{◌≡◌, ◌<◌, ◌≤◌, length, drop};
 ghost use Rattle.writing.specs.Decimal.{decimal_base, digit_for, most_digits, decimal_text};
 ghost use Rattle.writing.specs.Put.{put_at, past_at};
