@@ -1,10 +1,10 @@
 -- Reading a text of a set greedily. Where no text of a second set begins with a byte that the first could have gone on with, reading the one and
 -- then the other is greedy again (`then-greedy`): a shorter first text leaves nothing for the second. A text put together may be cut where its parts
 -- may (`then-cut`), since a cut falls into one of them.
-use Prim.Native.Nat.{ℕ, zero, suc, ◌+◌, ◌-◌, ◌<◌, ◌≤◌}
+use Prim.Native.Nat.{ℕ, zero, suc, ◌+◌, ◌<◌, ◌≤◌}
 use native.Mathlib.Nat.{zero-add, suc-add, not-suc-le-zero}
 use native.Mathlib.Omega.{arith}
-use mathlib.Core.Bool.{Bool, true, false, cond, ◌||◌, or-true, true≢false}
+use mathlib.Core.Bool.{Bool, true, false, ◌||◌, or-true, true≢false}
 use mathlib.Core.List.{List, [], ◌∷◌, ◌++◌, append-nil, append_assoc}
 use mathlib.Core.Logic.{◌⊎◌, inl, inr, ⊎_elim}
 use mathlib.Core.Path.{◌≡◌, refl, sym, ap, ap₂, subst, ◌∙◌}
@@ -15,7 +15,7 @@ use lib.ListN.{length, get_or, take, drop, length-append, length-drop, take-appe
 use Rattle.proving.proofs.Choice.{either}
 use Rattle.scan.specs.Byte.{end, peek_at}
 use Rattle.scan.specs.Separated.{separator}
-use Rattle.scan.specs.Language.{Empty, Then, Optional, nothing, marked, Longest}
+use Rattle.scan.specs.Language.{Then, Optional, nothing, marked, Longest}
 use Rattle.scan.specs.laws.Language.{Greedy, GreedyLongest, LongestOne, optionally, then_takes, EmptyGreedy, OptionalGreedy, ThenGreedy, Cut, EmptyCut, OptionalCut, ThenCut, SplitTwice}
 
 pub greedy_longest : GreedyLongest
