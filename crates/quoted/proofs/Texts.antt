@@ -1,6 +1,6 @@
 -- Reading goes through the content of a string piece by piece (`content-read`), and what it comes to then is the sign, an escape that is none, or the
 -- end (`way`). So each answer is given exactly when the bytes are so put together.
-use Prim.Native.Nat.{ℕ, zero, suc, ◌+◌, ◌≤◌}
+use Prim.Native.Nat.{ℕ, ◌+◌}
 use native.Mathlib.Nat.{add-zero, zero-add}
 use native.Mathlib.Omega.{arith}
 use mathlib.Core.Bool.{Bool, true, false, cond, true≢false}
@@ -9,10 +9,10 @@ use mathlib.Core.Path.{◌≡◌, refl, sym, ap, ap₂, subst, ◌∙◌}
 use lib.Dec.{eqb}
 use lib.Seq.{take-append_seam, length-take-le}
 use lib.ListN.{length, take, drop, length-append, take-append-drop}
-use borrow.Author.Tests.{eq-eqb, ne_eqb, eqb-true, eqb-false}
+use borrow.Author.Tests.{ne_eqb, eqb-true, eqb-false}
 use Rattle.proving.proofs.Choice.{told}
 use Rattle.scan.specs.Byte.{backslash, backquote, is_quote}
-use Rattle.scan.specs.Language.{One, one, Then}
+use Rattle.scan.specs.Language.{One, one}
 use Rattle.utf8.specs.declared.Reading.{Reading}
 use Rattle.utf8.specs.declared.Reading.TheVariants.{Crate, Documented}
 use Rattle.quoted.specs.declared.Quoted.{Quoted}
