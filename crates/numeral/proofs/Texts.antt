@@ -22,7 +22,7 @@ use Rattle.scan.specs.Byte.{end, peek_at, is_within, is_digit, is_hex_digit, is_
 use Rattle.scan.specs.Language.{Optional, nothing, marked}
 use Rattle.scan.specs.Separated.{separator, separated_length, separated_run, separated_end}
 use Rattle.scan.specs.Sign.{is_sign, past_sign}
-use Rattle.scan.specs.laws.Separated.{Opens, front, behind, SeparatedDigits}
+use Rattle.scan.specs.laws.Separated.{Opens, front, SeparatedDigits}
 use Rattle.scan.proofs.byte.Classes.{end_in_none}
 use Rattle.scan.proofs.Edges.{class_ascii}
 use Rattle.scan.specs.laws.Language.{Greedy, optionally, then_takes, Cut}

@@ -14,7 +14,7 @@ use Rattle.utf8.specs.declared.Reading.{Reading}
 use Rattle.utf8.specs.declared.Reading.TheVariants.{Crate, Documented}
 use Rattle.numeral.specs.declared.Part.TheVariants.{Unit}
 use Rattle.numeral.specs.declared.Numeral.{Numeral}
-use Rattle.numeral.specs.declared.Numeral.TheVariants.{Number, Duration, Neither}
+use Rattle.numeral.specs.declared.Numeral.TheVariants.{Number, Neither}
 use Rattle.numeral.specs.Texts.{Begun}
 use Rattle.numeral.specs.Numeral.{is_hex, is_first_unit, duration_from, taken, numeral_of}
 
