@@ -36,7 +36,6 @@ use Rattle.munch.specs.declared.Inside.{Inside}
 use Rattle.munch.specs.declared.Inside.TheVariants.{Nothing, Braces, Brackets}
 use Rattle.munch.specs.declared.Mode.{Mode}
 use Rattle.munch.specs.declared.Step.{Step}
-use Rattle.munch.specs.declared.Step.TheVariants.{Refused}
 use Rattle.munch.specs.Munch.{if_next, number_by, number_step, dot_step, quoted_by, quoted_step, comment_step, word_step, equals_step, bang_step, compare_step, right_paren_step, end_step, brace_word, brace_equals, brace_bang, colon_step, outside_table, brace_table, bracket_table, step_in, munched}
 use Rattle.munch.specs.laws.Step.{OfLexeme}
 use Rattle.munch.specs.laws.Text.{TextOf, quoted, left, right, bare, LexemeText}
