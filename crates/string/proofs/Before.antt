@@ -3,24 +3,22 @@
 use Prim.Native.Nat.{ℕ, zero, suc, ◌+◌, ◌*◌, ◌-◌, ◌<◌, ◌≤◌}
 use native.Mathlib.Nat.{add-zero, sub-zero, zero-sub, suc-sub-suc}
 use native.Mathlib.Omega.{arith}
-use mathlib.Core.Bool.{Bool, true, false, cond, true≢false}
+use mathlib.Core.Bool.{Bool, true, false, cond}
 use mathlib.Core.List.{List, [], ◌∷◌, ◌++◌}
-use mathlib.Core.Logic.{◌⊎◌, inl, inr}
+use mathlib.Core.Logic.{inl, inr}
 use mathlib.Core.Option.{Option, none, some}
 use mathlib.Core.Path.{◌≡◌, refl, sym, ap, subst, ◌∙◌}
 use lib.Dec.{eqb}
 use lib.ListN.{length, take, drop, length-take, length-append, drop_of_length-le}
 use lib.Seq.{get_or-take, get_or-drop, take-nil, take-take, take-append-add, length-take-le}
 use borrow.Author.Tests.{lt-ltb}
-use Rattle.scan.specs.Byte.{end, peek_at, backslash, is_digit_in, digit_of}
+use Rattle.scan.specs.Byte.{end, peek_at, digit_of}
 use Rattle.scan.specs.Text.{Stands}
 use Rattle.scan.proofs.byte.Classes.{below_not}
 use Rattle.proving.proofs.Choice.{told}
 use Rattle.proving.proofs.Tests.{denied}
-use Rattle.utf8.specs.Table.{char_length}
 use Rattle.utf8.specs.Text.{WellFormed, char_number}
 use Rattle.utf8.specs.Answers.{character_at, text_limit}
-use Rattle.utf8.specs.laws.Ascii.{is_ascii}
 use Rattle.utf8.specs.laws.Refusals.{Taken}
 use Rattle.utf8.specs.laws.Characters.{One}
 use Rattle.utf8.proofs.Texts.{character_one, by_characters}
@@ -28,7 +26,7 @@ use Rattle.utf8.proofs.Laws.{text_join}
 use Rattle.utf8.proofs.Ascii.{ascii_text}
 use Rattle.utf8.proofs.Cuts.{text_cut, boundary}
 use Rattle.string.specs.declared.tile.Form.{Form}
-use Rattle.string.specs.declared.tile.Form.TheVariants.{Letter, Hex, Octal, Point}
+use Rattle.string.specs.declared.tile.Form.TheVariants.{Hex, Octal, Point}
 use Rattle.string.specs.declared.tile.Amount.{Amount}
 use Rattle.string.specs.declared.tile.Amount.TheVariants.{Value, NotDigits}
 use Rattle.string.specs.declared.tile.Tile.{Tile}
@@ -36,8 +34,8 @@ use Rattle.string.specs.declared.tile.Tile.TheVariants.{Piece, Bad}
 use Rattle.string.specs.Letters.{letter_value}
 use Rattle.string.specs.Tile.{amount_from, is_allowed, numbered_as, numbered, lettered_or, escape_of, begins_escape, plain_of, tile_of}
 use Rattle.string.specs.Tiles.{tiles_of, has_bad}
-use Rattle.string.specs.Literal.{line_feed, sign_of, inner_of}
-use Rattle.string.specs.laws.Refusals.{BadLiteral, ReadsTo, start, tile, Newline, Enclosed, ReadBefore, GoodBefore}
+use Rattle.string.specs.Literal.{line_feed, inner_of}
+use Rattle.string.specs.laws.Refusals.{BadLiteral, ReadsTo, start, tile, Newline, Enclosed, GoodBefore}
 use Rattle.string.proofs.tile.Digits.{here, turn}
 use Rattle.string.proofs.tile.Tiles.{FairTile, each_fair}
 use Rattle.string.proofs.tile.Bad.{plain_none}

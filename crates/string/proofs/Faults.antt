@@ -1,28 +1,25 @@
 -- Where a literal goes wrong, by document 02's six cases: each tells which of them it is by the tests, and the offset that these lead to (`tells`),
 -- so no two hold; and a bad literal is so in one of them (`faults-bad`).
-use Prim.Native.Nat.{ℕ, zero, suc, ◌-◌, ◌<◌, ◌≤◌}
+use Prim.Native.Nat.{ℕ, zero, suc, ◌-◌, ◌<◌}
 use native.Mathlib.Decide.{dec_lt, ℕ_discrete}
 use native.Mathlib.Omega.{arith}
-use mathlib.Core.Bool.{Bool, true, false, cond, not, true≢false}
+use mathlib.Core.Bool.{true, cond, not, true≢false}
 use mathlib.Core.List.{List, [], ◌∷◌}
 use mathlib.Core.Logic.{◌⊎◌, inl, inr}
 use mathlib.Core.Option.{Option, some, get_or}
 use mathlib.Core.Path.{◌≡◌, refl, sym, ap, ◌∙◌}
 use lib.Dec.{eqb, ltb}
-use lib.ListN.{length, drop, length-drop}
-use borrow.Author.Tests.{lt-ltb, le-ltb, eq-eqb, ne_eqb, eqb-true, eqb-false}
+use lib.ListN.{length, drop}
+use borrow.Author.Tests.{lt-ltb, le-ltb, eq-eqb, ne_eqb}
 use Rattle.scan.specs.Byte.{peek_at, backslash, backquote, double_quote, single_quote, is_quote}
 use Rattle.scan.specs.Text.{has, Stands}
 use Rattle.scan.proofs.Stands.{tests_has}
 use Rattle.proving.proofs.Tests.{Tests, affirmed, decided, tests_or, tests_and, tests_not, tests_eq}
 use Rattle.utf8.specs.Text.{WellFormed}
-use Rattle.string.specs.declared.tile.Tile.TheVariants.{Bad}
-use Rattle.string.specs.Tile.{tile_of}
-use Rattle.string.specs.Tiles.{tiles_of, has_bad, good_size}
+use Rattle.string.specs.Tiles.{tiles_of, good_size}
 use Rattle.string.specs.Literal.{line_feed, sign_of, inner_of, has_newline, first_of, fault_of}
-use Rattle.string.specs.laws.Tile.{EscapeBegun}
-use Rattle.string.specs.laws.Refusals.{TooShort, SignsDiffer, NoQuoteSign, Newline, BadAmong, BareSign, BadEscape, BadLiteral, Fault, short, differ, no_sign, newline, bare_sign, bad_escape, Enclosed, Inside, FirstIn, FaultAt, FaultsBad, OneFault, FaultWithin}
-use Rattle.string.proofs.Literals.{quote_ascii, inner_few, inner_well, encloses}
+use Rattle.string.specs.laws.Refusals.{SignsDiffer, NoQuoteSign, Newline, BadAmong, BareSign, BadEscape, BadLiteral, Fault, short, differ, no_sign, newline, bare_sign, bad_escape, Enclosed, FirstIn, FaultAt, FaultsBad, OneFault, FaultWithin}
+use Rattle.string.proofs.Literals.{inner_few, inner_well, encloses}
 use Rattle.string.proofs.There.{tests_bad, ends_there, bare_bad, escape_bad, bad_there}
 
 -- where a byte stands, it stands for the first time

@@ -5,7 +5,7 @@ use native.Mathlib.Decide.{dec_lt, ℕ_discrete}
 use native.Mathlib.Omega.{arith}
 use mathlib.Core.Bool.{Bool, true, false, cond, ◌||◌, not}
 use mathlib.Core.List.{List}
-use mathlib.Core.Logic.{◌↔◌, ◌⊎◌, inl, inr}
+use mathlib.Core.Logic.{◌↔◌}
 use mathlib.Core.Option.{Option, none, some, get_or}
 use mathlib.Core.Path.{◌≡◌, refl, sym, ap, subst, ◌∙◌}
 use lib.Dec.{eqb, ltb}
@@ -24,7 +24,7 @@ use Rattle.string.specs.declared.Unquoting.{Unquoting}
 use Rattle.string.specs.declared.Unquoting.TheVariants.{Inner, Written, Refused}
 use Rattle.string.specs.Tiles.{tiles_of, has_bad}
 use Rattle.string.specs.Literal.{sign_of, inner_of, has_newline, fault_of, is_fault, is_bad_literal, has_escape, unquoted, extent_of, bad_literal, unquoting_of}
-use Rattle.string.specs.laws.Refusals.{TooShort, SignsDiffer, NoQuoteSign, BadLiteral, Fault, FaultAt, WithEscape, UnquotingGiven}
+use Rattle.string.specs.laws.Refusals.{BadLiteral, Fault, FaultAt, WithEscape, UnquotingGiven}
 use Rattle.string.proofs.Literals.{good_none}
 use Rattle.string.proofs.There.{tests_bad}
 use Rattle.string.proofs.Faults.{tests_quote, tests_newline, tells, faults_bad}

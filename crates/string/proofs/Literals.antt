@@ -27,8 +27,8 @@ use Rattle.utf8.proofs.Cuts.{text_cut, boundary}
 use Rattle.string.specs.declared.Extent.{Extent}
 use Rattle.string.specs.declared.Extent.TheVariants as extent
 use Rattle.string.specs.declared.Unquoting.TheVariants.{Refused}
-use Rattle.string.specs.Tiles.{tiles_of, has_bad, good_size}
-use Rattle.string.specs.Literal.{line_feed, sign_of, inner_of, has_newline, first_of, fault_of, is_fault, is_bad_literal, has_escape, unquoted, extent_as, extent_of, unquoting_by, unquoting_of}
+use Rattle.string.specs.Tiles.{tiles_of, has_bad}
+use Rattle.string.specs.Literal.{line_feed, sign_of, inner_of, has_newline, first_of, fault_of, is_fault, is_bad_literal, has_escape, extent_as, extent_of, unquoting_by, unquoting_of}
 use Rattle.string.specs.steps.Measure.{tiles_extent, content_extent, behind_sign, fault_in, left_in}
 use Rattle.string.proofs.Contents.{good_within}
 use Rattle.string.proofs.Plain.{unescaped}

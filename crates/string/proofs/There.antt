@@ -22,10 +22,10 @@ use Rattle.string.specs.Tile.{tile_of}
 use Rattle.string.specs.Tiles.{tile_size, tiles_of, is_bad, has_bad, good_size}
 use Rattle.string.specs.laws.Tile.{IsEscape, EscapeBegun}
 use Rattle.string.specs.laws.Refusals.{BadAmong, ReadsTo, start, tile, BareSign, BadEscape, BadThere}
-use Rattle.string.proofs.tile.Tiles.{Fair, FairTile, each_fair}
+use Rattle.string.proofs.tile.Tiles.{FairTile, each_fair}
 use Rattle.string.proofs.tile.Behind.{TextAfter, text_behind}
 use Rattle.string.proofs.tile.Bad.{bad_when}
-use Rattle.string.proofs.Contents.{tiles_none, first_bad, bad_here, bad_behind, good_behind, by_tiles}
+use Rattle.string.proofs.Contents.{tiles_none, bad_here, bad_behind, good_behind, by_tiles}
 
 pub tests_bad : (ts : List Tile) → Tests (has_bad ts) (BadAmong ts)
 unfolding has_bad
