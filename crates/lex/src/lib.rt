@@ -49,7 +49,7 @@ fn put(
     lexeme: Lexeme,
 )
     requires alike { Alike kinds.old starts.old lengths.old depths.old }
-    requires start_le_text_limit { (lexeme.start.0 ≤ text_limit) × (lexeme.length ≤ text_limit) × (lexeme.depth ≤ text_limit) }
+    requires small { (lexeme.start.0 ≤ text_limit) × (lexeme.length ≤ text_limit) × (lexeme.depth ≤ text_limit) }
     ensures kinds_after { kinds.new ≡ set kinds.old i lexeme.kind }
     ensures starts_after { starts.new ≡ set starts.old i lexeme.start.0 }
     ensures lengths_after { lengths.new ≡ set lengths.old i lexeme.length }
@@ -144,11 +144,11 @@ fn opened(
     from: usize,
     first: usize,
 ) -> Run
-    requires leads_value_1 { leads.now ≡ lead_table }
-    requires leads_value_2 { length query.now ≤ text_limit }
-    requires leads_value_3 { Alike kinds.old starts.old lengths.old depths.old }
-    requires opens_1 { Opens next.inside }
-    requires opens_2 { (from ≤ length query.now) × (first ≤ from) × (next.depth ≤ from) }
+    requires table { leads.now ≡ lead_table }
+    requires limited { length query.now ≤ text_limit }
+    requires alike { Alike kinds.old starts.old lengths.old depths.old }
+    requires opens { Opens next.inside }
+    requires placed { (from ≤ length query.now) × (first ≤ from) × (next.depth ≤ from) }
     ensures reached { Reached query.now from result }
     ensures leads { Leads (state kinds.old starts.old lengths.old depths.old first (outcome_at reading query.now from next)) (state_behind reading query.now kinds.new starts.new lengths.new depths.new next.depth result) }
 {
@@ -202,9 +202,9 @@ fn pass(
     lengths: &mut [u32],
     depths: &mut [u32],
 ) -> Run
-    requires fact_1 { (leads.now ≡ lead_table) × (words.now ≡ word_table) }
-    requires fact_2 { length query.now ≤ text_limit }
-    requires fact_3 { Alike kinds.old starts.old lengths.old depths.old }
+    requires tables { (leads.now ≡ lead_table) × (words.now ≡ word_table) }
+    requires limited { length query.now ≤ text_limit }
+    requires alike { Alike kinds.old starts.old lengths.old depths.old }
     ensures value { result ≡ tally_of reading query.now }
     ensures kinds_after { kinds.new ≡ filled reading kind_of query.now kinds.old }
     ensures starts_after { starts.new ≡ filled reading starts_at query.now starts.old }
@@ -321,8 +321,8 @@ fn copy(
     lengths: &mut [u32],
     depths: &mut [u32],
 )
-    requires n_in_bounds { (n ≤ length ks.now) × (n ≤ length ss.now) × (n ≤ length ls.now) × (n ≤ length ds.now) }
-    requires n_in_bounds_2 { (n ≤ length kinds.old) × (n ≤ length starts.old) × (n ≤ length lengths.old) × (n ≤ length depths.old) }
+    requires filled { (n ≤ length ks.now) × (n ≤ length ss.now) × (n ≤ length ls.now) × (n ≤ length ds.now) }
+    requires room { (n ≤ length kinds.old) × (n ≤ length starts.old) × (n ≤ length lengths.old) × (n ≤ length depths.old) }
     ensures kinds_after { kinds.new ≡ take n ks.now ++ drop n kinds.old }
     ensures starts_after { starts.new ≡ take n ss.now ++ drop n starts.old }
     ensures lengths_after { lengths.new ≡ take n ls.now ++ drop n lengths.old }
@@ -350,10 +350,10 @@ fn write(
     lengths: &mut [u32],
     depths: &mut [u32],
 )
-    requires leads_value_1 { (leads.now ≡ lead_table) × (words.now ≡ word_table) }
-    requires leads_value_2 { length query.now ≤ text_limit }
-    requires leads_value_3 { n ≡ length (entries_of reading query.now) }
-    requires n_in_bounds { (n ≤ length kinds.old) × (n ≤ length starts.old) × (n ≤ length lengths.old) × (n ≤ length depths.old) }
+    requires tables { (leads.now ≡ lead_table) × (words.now ≡ word_table) }
+    requires limited { length query.now ≤ text_limit }
+    requires counted { n ≡ length (entries_of reading query.now) }
+    requires room { (n ≤ length kinds.old) × (n ≤ length starts.old) × (n ≤ length lengths.old) × (n ≤ length depths.old) }
     ensures kinds_after { kinds.new ≡ listed reading kind_of query.now kinds.old }
     ensures starts_after { starts.new ≡ listed reading starts_at query.now starts.old }
     ensures lengths_after { lengths.new ≡ listed reading length_of query.now lengths.old }
@@ -384,8 +384,8 @@ fn lex_text(
     lengths: &mut [u32],
     depths: &mut [u32],
 ) -> Lexing
-    requires fact_1 { length query.now ≤ text_limit }
-    requires fact_2 { Alike ks.old ss.old ls.old ds.old }
+    requires limited { length query.now ≤ text_limit }
+    requires alike { Alike ks.old ss.old ls.old ds.old }
     ensures value { result ≡ roomed (shortest (length kinds.old) (length starts.old) (length lengths.old) (length depths.old)) (answer_in query.now (tally_of reading query.now)) }
     ensures kinds_after { kinds.new ≡ left_after result (listed reading kind_of query.now kinds.old) kinds.old }
     ensures starts_after { starts.new ≡ left_after result (listed reading starts_at query.now starts.old) starts.old }
