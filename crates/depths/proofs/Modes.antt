@@ -61,6 +61,7 @@ is_brackets m = go m.inside refl
 comment_past : (i : Inside) → Commented i → (i ≡ past i) × (in_brackets i ≡ false)
 comment_past Nothing h = (refl, refl)
 comment_past Braces h = (refl, refl)
+comment_past (Brackets _ _) h = elim h [ ]
 
 one_paren : (k : ℕ) → count_of left_paren (k ∷ []) ≤ 1
 one_paren k = either (λ n. n ≤ 1) (eqb k left_paren) (λ e. omega arith) (λ e. omega arith)
