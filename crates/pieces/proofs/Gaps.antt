@@ -5,7 +5,7 @@ use Prim.Native.Char.{code}
 use native.Mathlib.Decide.{dec_lt}
 use native.Mathlib.Omega.{arith}
 use mathlib.Core.Bool.{Bool, true, false, ◌&&◌, ◌||◌, not, true≢false}
-use mathlib.Core.List.{List, ◌∷◌}
+use mathlib.Core.List.{List, [], ◌∷◌}
 use mathlib.Core.Logic.{◌⊎◌, inl, inr}
 use mathlib.Core.Path.{◌≡◌, refl, sym, ap, subst, ◌∙◌}
 use lib.Dec.{eqb}
@@ -141,11 +141,14 @@ module _ (r : Reading) (q : List ℕ) where
   none_between : (a : ℕ) → Bares a a
   none_between a i f g = absurd (omega (arith, f, g))
 
+  at_end : {c : Bool} {a : ℕ} {rs : List Piece} → a ≡ length q → Tiled r q c a rs → gaps_in [] ≡ gaps_in rs
+  at_end e (none c) = refl
+  at_end e (then_lexeme c k _ n rs s x u) = absurd (omega (arith, e, s, within rs u))
+  at_end e (then_white c _ to rs v u) = absurd (omega (arith, e, v.some, within rs u))
+  at_end e (then_comment _ to rs v u) = absurd (omega (arith, e, longer v, within rs u))
+
   level : {b c : Bool} {a : ℕ} {ps rs : List Piece} → Tiled r q b a ps → Tiled r q c a rs → More (left_of a a) → gaps_in ps ≡ gaps_in rs
-  level (none b) (none c) more = refl
-  level (none b) (then_lexeme c k _ n rs s x u) more = absurd (omega (arith, s, within rs u))
-  level (none b) (then_white c _ to rs v u) more = absurd (omega (arith, v.some, within rs u))
-  level (none b) (then_comment _ to rs v u) more = absurd (omega (arith, longer v, within rs u))
+  level (none b) u more = at_end refl u
   level (then_lexeme b k _ n ps s x t) (none c) more = absurd (omega (arith, s, within ps t))
   level (then_lexeme b k from n ps s x t) (then_lexeme c k' _ n' rs s' x' u) more = go (of_text from x) (of_text from x')
     where

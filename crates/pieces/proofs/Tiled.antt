@@ -78,16 +78,16 @@ module _ {r : Reading} {q : List ℕ} where
 
   pub within : {b : Bool} {at : ℕ} (ps : List Piece) → Tiled r q b at ps → at ≤ length q
   within [] t = omega (arith, last t)
-  within (p ∷ ps) t = let n = next t in omega (arith, n.1, within ps n.3)
+  within {b = b} {at = at} (p ∷ ps) t = let n = next t in omega (arith, n.1, within {b = (next t).2} ps n.3)
 
   later : {b : Bool} {at : ℕ} (ps : List Piece) → Tiled r q b at ps → (j : ℕ) → j < length ps → at ≤ (nth ps j).from
   later [] t j h = absurd (omega arith)
   later (p ∷ ps) t zero h = omega (arith, (next t).0)
-  later (p ∷ ps) t (suc j) h = let n = next t in omega (arith, n.1, later ps n.3 j (omega arith))
+  later {b = b} {at = at} (p ∷ ps) t (suc j) h = let n = next t in omega (arith, n.1, later {b = (next t).2} ps n.3 j (omega arith))
 
   pub of_one : {b : Bool} {at : ℕ} (ps : List Piece) (i : ℕ) → Tiled r q b at ps → at ≤ i → i < length q → OfOne ps i
   of_one [] i t a h = absurd (omega (arith, last t))
-  of_one {at = at} (p ∷ ps) i t a h = go (next t) (dec_lt i p.to) (λ n l. of_one ps i n.3 l h)
+  of_one {b = b} {at = at} (p ∷ ps) i t a h = go (next t) (dec_lt i p.to) (λ n l. of_one {b = n.2} ps i n.3 l h)
     where
       Next : Type 0
       Next = (p.from ≡ at) × (at < p.to) × (c : Bool) × Tiled r q c p.to ps
