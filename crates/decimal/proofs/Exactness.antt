@@ -131,7 +131,7 @@ is_zero_holds xs e = numerator_is xs ∙ ap (λ (n : ℕ). n * 10 ^ raised xs) e
 
 pub scaled : (xs : List ℕ) → (significand xs ≡ 0 → ⊥) → Scaled xs (significand xs) (raised xs) (reduced xs)
 scaled xs n =
-    record { value = ap (λ (m : ℕ). m * denominator xs) (sym (numerator_is xs)); not-by-ten = λ e. go (is_zeros (digits_of xs)) refl e }
+    record { value = ap (λ (m : ℕ). m * denominator xs) (sym (numerator_is xs)); not_by_ten = λ e. go (is_zeros (digits_of xs)) refl e }
   where
     go : (b : Bool) → is_zeros (digits_of xs) ≡ b → significand xs % 10 ≡ 0 → ⊥
     go true z e = n (all_trimmed 0 (digits_of xs) z)

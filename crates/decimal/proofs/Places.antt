@@ -46,11 +46,11 @@ module _ (xs : List ℕ) where
 
 -- parts of a text in their order
 pub record Ordered (xs : List ℕ) (p : Parts) : Type 0 where
-  pub whole : p.whole_from_text ≤ p.whole_to_text
-  pub whole_in_holds : p.whole_to_text ≤ length xs
+  pub whole : p.whole_from ≤ p.whole_to
+  pub whole_in_holds : p.whole_to ≤ length xs
   pub fraction : p.fraction_from ≤ p.fraction_to
   pub fraction_in_holds : p.fraction_to ≤ length xs
-  pub apart : p.whole_to_text ≤ p.fraction_from
+  pub apart : p.whole_to ≤ p.fraction_from
   pub exponent : p.exponent_from ≤ p.exponent_to
   pub exponent_in : p.exponent_to ≤ length xs
 
@@ -64,7 +64,7 @@ ordered xs p e = subst (Ordered xs) (sym e) all
 -- the digits that lie in them
 module _ (xs : List ℕ) (p : Parts) where
   abbrev pub whole_in : List ℕ
-  whole_in = between xs p.whole_from_text p.whole_to_text
+  whole_in = between xs p.whole_from p.whole_to
 
   abbrev pub fraction_in : List ℕ
   fraction_in = between xs p.fraction_from p.fraction_to
@@ -73,14 +73,14 @@ module _ (xs : List ℕ) (p : Parts) where
   behind_in = p.fraction_to - p.fraction_from
 
   module _ (e : p ≡ parts_of xs) where
-    pub whole_long : length whole_in ≡ p.whole_to_text - p.whole_from_text
-    whole_long = let o = ordered xs p e in between_long xs p.whole_from_text p.whole_to_text o.whole o.whole_in_holds
+    pub whole_long : length whole_in ≡ p.whole_to - p.whole_from
+    whole_long = let o = ordered xs p e in between_long xs p.whole_from p.whole_to o.whole o.whole_in_holds
 
     pub fraction_long : length fraction_in ≡ behind_in
     fraction_long = let o = ordered xs p e in between_long xs p.fraction_from p.fraction_to o.fraction o.fraction_in_holds
 
     pub digits_are : whole_in ++ fraction_in ≡ digits_of xs
-    digits_are = ap (λ (q : Parts). between xs q.whole_from_text q.whole_to_text ++ between xs q.fraction_from q.fraction_to) e
+    digits_are = ap (λ (q : Parts). between xs q.whole_from q.whole_to ++ between xs q.fraction_from q.fraction_to) e
 
     pub digits_few : length (digits_of xs) ≤ length xs
     digits_few =

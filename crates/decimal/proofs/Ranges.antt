@@ -95,8 +95,8 @@ module _ (xs : List ℕ) where
   Lowered e = (w : ℕ) × At N D 0 e w
 
   found : Some Raised most_exponent ⊎ Some Lowered most_exponent → ExactRange xs
-  found (inl (e, l, (w, a))) = (w, e, 0, record { value = a.0; not-by-ten = a.1 }, (a.2, (omega arith, omega arith)))
-  found (inr (e, l, (w, a))) = (w, 0, e, record { value = a.0; not-by-ten = a.1 }, (a.2, (omega arith, omega arith)))
+  found (inl (e, l, (w, a))) = (w, e, 0, record { value = a.0; not_by_ten = a.1 }, (a.2, (omega arith, omega arith)))
+  found (inr (e, l, (w, a))) = (w, 0, e, record { value = a.0; not_by_ten = a.1 }, (a.2, (omega arith, omega arith)))
 
   pub met : ExactRange xs → Some Raised most_exponent ⊎ Some Lowered most_exponent
   met (w, u, d, p, i) = go (dec_le d u)

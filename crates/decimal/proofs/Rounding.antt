@@ -66,9 +66,9 @@ one_rounding xs n d z = range (in_exact xs n d)
 
     go : Some (Raised xs) most_exponent ⊎ Some (Lowered xs) most_exponent → OnceRounded xs n
     go (inl (e, l, (w, a))) =
-        (w, e, a.2, l, whole w a.2, ten_held e l, inl (record { value = a.0; not-by-ten = a.1 }, is ∙ product xs w e l a.2 a.0))
+        (w, e, a.2, l, whole w a.2, ten_held e l, inl (record { value = a.0; not_by_ten = a.1 }, is ∙ product xs w e l a.2 a.0))
     go (inr (e, l, (w, a))) =
-        (w, e, a.2, l, whole w a.2, ten_held e l, inr (record { value = a.0; not-by-ten = a.1 }, is ∙ quotient xs w e l a.2 a.0))
+        (w, e, a.2, l, whole w a.2, ten_held e l, inr (record { value = a.0; not_by_ten = a.1 }, is ∙ quotient xs w e l a.2 a.0))
 
     range : InExact xs → OnceRounded xs n
     range (inl e) = absurd (z e)

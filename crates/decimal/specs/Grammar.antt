@@ -1,6 +1,6 @@
 -- The grammar of a decimal text: the Rust library's, of `f64::from_str`. An optional sign; `inf`, `infinity` or `nan` in any case; or digits
 -- with at most one point among them and one digit at least, and an optional exponent: `e` in either case, an optional sign, digits.
-use Rattle.std.specs.Prelude.{ℕ, suc, ◌+◌, ◌-◌, Bool, cond, ◌&&◌, ◌||◌, not, List, ◌++◌, map, eqb, ltb, length, take, drop}
+use Rattle.std.specs.Prelude.{ℕ, suc, ◌-◌, Bool, cond, ◌&&◌, ◌||◌, not, List, ◌++◌, map, eqb, ltb, length, take, drop}
 use Prim.Native.Char.{code}
 use Rattle.scan.specs.Ascii.{ascii}
 use Rattle.scan.specs.declared.byte.Class.TheVariants.{Digit}
@@ -57,7 +57,7 @@ parts_of xs = record {
 
 -- digits before the point or behind it,
 unfoldable pub has_digits : Parts → Bool
-has_digits p = ltb p.whole_from_text p.whole_to_text || ltb p.fraction_from p.fraction_to
+has_digits p = ltb p.whole_from p.whole_to || ltb p.fraction_from p.fraction_to
 
 -- digits in an exponent, where there is one,
 unfoldable pub exponent_has_digits : List ℕ → Parts → Bool

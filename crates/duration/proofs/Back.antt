@@ -1,15 +1,14 @@
 -- What is written of a duration reads back, in both readings. It is a unit text whose numbers are no greater than the days (`days-few`), so that
 -- each counts, and none is refused; it is ASCII and short; and it is no decimal, since a letter follows its first digits that no decimal has
 -- there (`no-decimal`).
-use Prim.Native.Nat.{ℕ, suc, ◌+◌, ◌*◌, ◌/◌, ◌%◌, ◌<◌, ◌≤◌}
+use Prim.Native.Nat.{ℕ, suc, ◌/◌, ◌%◌, ◌≤◌}
 use Prim.Native.Char.{code}
-use native.Mathlib.Nat.{zero-add}
 use native.Mathlib.Omega.{arith}
 use mathlib.Core.Bool.{Bool, true, false, cond, ◌&&◌, ◌||◌, not, and-false, true≢false}
-use mathlib.Core.List.{List, [], ◌∷◌, ◌++◌, map}
-use mathlib.Core.Logic.{◌⊎◌, inl, inr}
+use mathlib.Core.List.{List, [], ◌∷◌, ◌++◌}
+use mathlib.Core.Logic.{inl, inr}
 use mathlib.Core.Path.{◌≡◌, refl, sym, ap, subst, ◌∙◌}
-use lib.Dec.{eqb, leb, ltb}
+use lib.Dec.{eqb, ltb}
 use lib.ListN.{length, drop, length-append}
 use lib.Seq.{get_or-append_seam}
 use borrow.Author.Tests.{lt-ltb, eq-eqb, ne_eqb, not-true}
@@ -18,13 +17,12 @@ use Rattle.scan.specs.declared.byte.Class.TheVariants.{Digit}
 use Rattle.scan.specs.Byte.{peek_at, is_within, is_in, lowered}
 use Rattle.scan.specs.Byte as byte
 use Rattle.scan.specs.Run.{run_length, run_end}
-use Rattle.scan.specs.Sign.{is_sign, past_sign}
+use Rattle.scan.specs.Sign.{is_sign}
 use Rattle.scan.specs.Text.{same_text}
 use Rattle.scan.proofs.byte.Classes.{within_bounds}
 use Rattle.scan.proofs.Runs.{run_past, run_stops}
 use Rattle.proving.proofs.Below.{below}
 use Rattle.proving.proofs.Choice.{and_left, and_right}
-use Rattle.utf8.specs.Text.{WellFormed}
 use Rattle.utf8.specs.laws.Ascii.{is_ascii}
 use Rattle.utf8.proofs.Ascii.{ascii_text}
 use Rattle.decimal.specs.Grammar.{parts_of, whole_from, whole_to, fraction_to, exponent_to, is_named, has_digits, exponent_has_digits, is_numeral, is_infinite, is_nan}

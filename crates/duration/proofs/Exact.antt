@@ -1,6 +1,6 @@
 -- How the exact reading stands to the present one: they part where a text is refused with 55, and nowhere else (`parted`). A text with a part above
 -- 4,294,967,295 is one that counts a part as nothing, since every unit has some milliseconds (`total-less`).
-use Prim.Native.Nat.{ℕ, ◌+◌, ◌*◌, ◌<◌, ◌≤◌}
+use Prim.Native.Nat.{ℕ, ◌<◌, ◌≤◌}
 use native.Mathlib.Nat.{mul-le-mul_right}
 use native.Mathlib.Decide.{dec_lt}
 use native.Mathlib.Omega.{arith}
@@ -21,14 +21,13 @@ use Rattle.utf8.specs.Answers.{admitted}
 use Rattle.decimal.specs.declared.Decimal.{Decimal}
 use Rattle.decimal.specs.declared.Decimal.TheVariants.{NotDecimal, Named, Exact, Outside}
 use Rattle.decimal.specs.Value.{decimal_limit, decimal_of}
-use Rattle.duration.specs.declared.span.Duration.{Duration}
 use Rattle.duration.specs.declared.Oversized.TheVariants as oversized
 use Rattle.duration.specs.declared.Timing.{Timing}
 use Rattle.duration.specs.declared.Timing.TheVariants.{Lasts, Refused}
 use Rattle.duration.specs.declared.units.Units.{Units}
 use Rattle.duration.specs.declared.units.Units.TheVariants.{Sum, NotUnits}
 use Rattle.duration.specs.Unit.{Unit, units}
-use Rattle.duration.specs.Units.{sum_by, most_counted, counted, has_oversized, unit_sum, lasting, units_of}
+use Rattle.duration.specs.Units.{sum_by, most_counted, counted, has_oversized, lasting, units_of}
 use Rattle.duration.specs.Duration.{empty_text, zero_duration, oversized_part, units_read, timed_decimal, duration_read, timing_for, timing_by, timing_of, exact_timing_of}
 use Rattle.duration.specs.laws.Refusals.{Read, UnitText, SecondsAre, UnitsAre}
 use Rattle.duration.specs.laws.Spelling.{PartsOf, end, none, one, total_of, SomeAbove}

@@ -1,7 +1,7 @@
 -- What is written denotes the milliseconds again. It is a unit text, part by part (`written-spelt`): a part's number times its unit and what the
 -- rest denotes are the milliseconds, and nothing is left at the end since the last unit is one millisecond. Its numbers are no greater than how
 -- many there are of the units in the milliseconds that are left for them.
-use Prim.Native.Nat.{ℕ, ◌+◌, ◌*◌, ◌/◌, ◌%◌, ◌<◌, ◌≤◌}
+use Prim.Native.Nat.{ℕ, ◌*◌, ◌/◌, ◌%◌, ◌<◌, ◌≤◌}
 use native.Mathlib.Nat.{div-add-mod'}
 use native.Mathlib.Omega.{arith}
 use mathlib.Core.Bool.{Bool, true, false, cond}

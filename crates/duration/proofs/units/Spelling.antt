@@ -1,13 +1,12 @@
 -- What is spelled is read: behind a part there is nothing, or a digit, so that its letters end with it; and a text has no part of a unit that it
 -- was spelled without, since its first part is of a later unit, whose text is another. What is read is spelled, part by part.
-use Prim.Native.Nat.{ℕ, suc, ◌+◌, ◌-◌, ◌*◌, ◌<◌, ◌≤◌}
+use Prim.Native.Nat.{ℕ, suc, ◌+◌, ◌-◌, ◌<◌}
 use native.Mathlib.Nat.{zero-add}
 use native.Mathlib.Omega.{arith}
-use mathlib.Core.Bool.{Bool, true, false, cond, ◌&&◌, ◌||◌, true≢false}
+use mathlib.Core.Bool.{Bool, true, false, cond, ◌||◌, true≢false}
 use mathlib.Core.List.{List, [], ◌∷◌, ◌++◌}
-use mathlib.Core.Logic.{◌⊎◌, inl, inr}
 use mathlib.Core.Path.{◌≡◌, refl, sym, ap, subst, ◌∙◌}
-use lib.Dec.{eqb, ltb}
+use lib.Dec.{ltb}
 use lib.ListN.{length, take, drop, take-append-drop}
 use lib.Seq.{drop-drop, length-take-le}
 use borrow.Author.Tests.{eq-eqb, eqb-true, ltb-true}
@@ -22,7 +21,7 @@ use Rattle.proving.proofs.Tests.{Tests, tests_or, tests_lt}
 use Rattle.decimal.specs.Grammar.{between}
 use Rattle.decimal.specs.laws.Spelling.{Digits, SomeDigits}
 use Rattle.duration.specs.Unit.{Unit, units}
-use Rattle.duration.specs.Units.{digits_end, part_end, is_part, part_value, behind, sum_by, most_counted, has_oversized, is_unit_text}
+use Rattle.duration.specs.Units.{digits_end, part_end, is_part, behind, sum_by, most_counted, has_oversized, is_unit_text}
 use Rattle.duration.specs.laws.Spelling.{PartsOf, end, none, one, total_of, SomeAbove, UnitsSpelled, PartsTaken}
 use Rattle.duration.proofs.display.Parts.{digits_first, part}
 use Rattle.duration.proofs.units.Parts.{digits_within_text}

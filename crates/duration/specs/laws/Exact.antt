@@ -1,6 +1,6 @@
 -- Document 02, L13, as statements: how the exact reading stands to the present one, and that what is written reads back in both. `proofs/Exact`,
 -- `proofs/Back` and, for the bound, `proofs/Wrong` have the proofs.
-use Rattle.std.specs.Prelude.{ℕ, ◌+◌, ◌*◌, ◌/◌, ◌%◌, ◌<◌, ◌≤◌, true, false, List, ◌↔◌, ◌≡◌}
+use Rattle.std.specs.Prelude.{ℕ, ◌+◌, ◌*◌, ◌/◌, ◌%◌, ◌<◌, ◌≤◌, false, List, ◌↔◌, ◌≡◌}
 use Rattle.scan.specs.Ascii.{ascii}
 use Rattle.duration.specs.declared.span.Duration.{Duration}
 use Rattle.duration.specs.declared.Oversized.{Oversized}

@@ -1,0 +1,115 @@
+-- `duration::span::from_secs_f64` meets its contract.
+use mathlib.Core.Path.{◌≡◌, sym, ap, subst, ◌∙◌}
+use Prim.Native.Nat.{ℕ, ◌+◌, ◌*◌, ◌/◌, ◌%◌, ◌^◌, ◌<◌, ◌≤◌}
+use native.Mathlib.Nat.{zero-add, lt_of_lt_of_le, mod-lt}
+use lib.Dec.{T, lit<}
+use lib.Pow.{pow_pos, pow_mono}
+use lib.Ieee.{of_bits, le, lt}
+use lib.Ieee.Exact.{HasValue}
+use lib.Ieee.Nearest.{closest}
+use mathlib.Core.Bool.{false}
+use Rattle.duration.specs.declared.span.Conversion.TheVariants.{Lasts}
+use Rattle.duration.specs.Spans.{duration_at, from_secs, nanos_of, least_timed, two_to64}
+use Rattle.duration.proofs.span.Spans.{too_long_holds, negative, accepted, above_nought, tiny, by_value, by_parts, at_most_a_second, carry}
+use Rattle.duration.proofs.span.from_secs_f64.Goals as goal
+use Rattle.duration.proofs.span.from_secs_f64.Goals.{After-dyadic_of-p, After-nanos-then-x-2, After-pow2-b, Then-k-gt63, Then-x-2}
+
+-- ---- where both tests passed
+in_time : (c : Then-x-2) → T (lt c.args.x two_to64)
+unfolding of_bits
+in_time c = subst T (sym c.if-x.true) tt
+
+enough : (c : Then-x-2) → T (le least_timed c.args.x)
+unfolding of_bits
+enough c = subst T (sym c.if-x-2.true) tt
+
+accept : (c : Then-x-2) → Lasts (duration_at (nanos_of c.args.x)) ≡ from_secs c.args.x
+unfolding of_bits
+accept c = accepted c.args.x c.if-x.true (above_nought c.args.x (enough c))
+
+pub dyadic_of-p-requires : goal.dyadic_of-p-requires
+dyadic_of-p-requires c = record {
+  fact_1 = enough c;
+  fact_2 = in_time c;
+}
+
+-- ---- less than a second
+small : (c : Then-k-gt63) → c.dyadic_of-p.result.digits < 2 ^ c.dyadic_of-p.result.shift
+small c = lt_of_lt_of_le c.dyadic_of-p.ensures.fact_3 (pow_mono c.if-k-gt63.true)
+
+pub nanos-requires : goal.nanos-requires
+nanos-requires c = record {
+  fact_1 = small c;
+  fact_2 = c.dyadic_of-p.ensures.fact_2;
+}
+
+pub whole-requires : goal.whole-requires
+whole-requires c =
+    let p = c.dyadic_of-p.result in
+    record {
+      fact_1 = subst (λ (n : ℕ). n ≤ 1000000000) (sym c.nanos.ensures) (at_most_a_second p.digits (2 ^ p.shift) (pow_pos p.shift) (small (goal.at.whole-requires c).Then-k-gt63));
+      fact_2 = λ e. lit< tt;
+    }
+
+pub returns-then-k-gt63 : goal.returns-then-k-gt63
+returns-then-k-gt63 c =
+    let at = (goal.at.returns-then-k-gt63 c).After-dyadic_of-p in
+    let p = at.dyadic_of-p.result in
+    ap Lasts
+    (c.whole.ensures
+    ∙ ap duration_at (zero-add _ ∙ c.nanos.ensures ∙ by_value at.args.x p.digits (2 ^ p.shift) (pow_pos p.shift) at.dyadic_of-p.ensures.fact_1))
+    ∙ accept (goal.at.After-dyadic_of-p at).Then-x-2
+
+divides : (c : After-pow2-b) → 0 < c.pow2-b.result
+divides c = subst (λ (n : ℕ). 0 < n) (sym c.pow2-b.ensures) (pow_pos _)
+
+pub nanos-requires-then-x-2 : goal.nanos-requires-then-x-2
+nanos-requires-then-x-2 c =
+    let at = (goal.at.nanos-requires-then-x-2 c).After-dyadic_of-p in
+    record {
+      fact_1 = subst (λ (n : ℕ). at.dyadic_of-p.result.digits % c.pow2-b.result < n) c.pow2-b.ensures (mod-lt at.dyadic_of-p.result.digits (divides c));
+      fact_2 = at.dyadic_of-p.ensures.fact_2;
+    }
+
+-- the nanoseconds, over the divisor as the code has it
+nanos_are : (c : After-nanos-then-x-2) → c.nanos-then-x-2.result ≡ closest (c.dyadic_of-p.result.digits % c.pow2-b.result * 1000000000) c.pow2-b.result
+nanos_are c =
+    let d = c.dyadic_of-p.result.digits in
+    c.nanos-then-x-2.ensures ∙ ap (closest (d % c.pow2-b.result * 1000000000)) (sym c.pow2-b.ensures)
+
+pub whole-requires-then-x-2 : goal.whole-requires-then-x-2
+whole-requires-then-x-2 c =
+    let d = c.dyadic_of-p.result.digits in
+    let b = c.pow2-b.result in
+    let B = divides (goal.at.whole-requires-then-x-2 c).After-pow2-b in record {
+      fact_1 = subst (λ (n : ℕ). n ≤ 1000000000) (sym (nanos_are c)) (at_most_a_second (d % b) b B (mod-lt d B));
+      fact_2 = carry d b c.nanos-then-x-2.result B c.dyadic_of-p.ensures.fact_3 (nanos_are c);
+    }
+
+pub returns-then-x-2 : goal.returns-then-x-2
+returns-then-x-2 c =
+    let at = (goal.at.returns-then-x-2 c).After-dyadic_of-p in
+    let d = at.dyadic_of-p.result.digits in
+    let b = c.pow2-b.result in
+    let B = divides (goal.at.returns-then-x-2 c).After-pow2-b in
+    let v = subst (λ (n : ℕ). HasValue at.args.x false d n) (sym c.pow2-b.ensures) at.dyadic_of-p.ensures.fact_1 in
+    ap Lasts
+    (c.whole-then-x-2.ensures
+    ∙ ap duration_at (ap (λ (n : ℕ). d / b * 1000000000 + n) (nanos_are (goal.at.returns-then-x-2 c).After-nanos-then-x-2) ∙ by_parts d b B ∙ by_value at.args.x d b B v))
+    ∙ accept (goal.at.After-dyadic_of-p at).Then-x-2
+
+-- ---- none, and the refusals
+pub returns-then-x-3 : goal.returns-then-x-3
+unfolding of_bits
+returns-then-x-3 c =
+    let x = c.args.x in
+    ap (λ (n : ℕ). Lasts (duration_at n)) (sym (tiny x c.if-x.true c.if-x-2.false c.if-x-3.true))
+    ∙ accepted x c.if-x.true c.if-x-3.true
+
+pub returns-else-x-3 : goal.returns-else-x-3
+unfolding of_bits
+returns-else-x-3 c = negative c.args.x c.if-x.true c.if-x-3.false
+
+pub returns-else-x : goal.returns-else-x
+unfolding of_bits
+returns-else-x c = too_long_holds c.args.x c.if-x.false
