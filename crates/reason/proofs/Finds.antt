@@ -53,7 +53,9 @@ module _ (r : Reading) (q : List ℕ) where
           let g = goes_at r q at m _ f in
           let e : i + suc j ≡ i + 1 + j = omega arith in
           let w = more (at + n) m' (omega (arith, g.some)) (omega (arith, g.within, length-drop at q, g.some)) (lexeme at k n m m' h f) in
-          rw (steps_at r q at m _ f, ne_eqb i (i + suc j) (λ z. omega (arith, z)), e) (w j (i + 1) (le_of_suc-le-suc (rw (steps_at r q at m _ f) at l)))
+          rw (steps_at r q at m _ f, ne_eqb i (i + suc j) (λ z. omega (arith, z)))
+          (subst (λ (x : ℕ). Finds r q (found_in x (i + 1) (at + n) m' (steps_past r 0 m' (drop (at + n) q))) (get_or (entries_from r q (at + n) m') j (eof 0))) (sym e)
+          (w j (i + 1) (le_of_suc-le-suc (rw (steps_at r q at m _ f) at l))))
       go (Space m') f j i l =
           let g = goes_at r q at m _ f in
           let w = more (at + 1) m' (omega arith) (omega (arith, g.within, length-drop at q)) (space at m m' h f) in

@@ -14,7 +14,6 @@ use Rattle.utf8.specs.Table.{fits, size_in, char_length}
 use Rattle.utf8.specs.Code.{code_of}
 use Rattle.utf8.specs.Text.{chars_past, size_of, begun_in, char_number}
 use Rattle.utf8.specs.Answers.{place, validity_of, admitted, at_start}
-use Rattle.token.specs.Kinds.{number}
 use Rattle.token.specs.Words.{words, kind_in, keyword_of}
 use Rattle.numeral.specs.Numeral.{is_hex, fraction_end, exponent_end, number_end, is_unit, numeral_of, duration_from, turn_of, stop_of}
 use Rattle.quoted.specs.Quoted.{is_escape, quoted_from, is_raw, raw_from, comment_end}

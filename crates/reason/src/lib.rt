@@ -88,8 +88,8 @@ fn search(
     reading: Reading,
     wanted: usize,
 ) -> Sought
-    requires fact_1 { (leads.now ≡ lead_table) × (words.now ≡ word_table) }
-    requires fact_2 { length query.now ≤ text_limit }
+    requires tables { (leads.now ≡ lead_table) × (words.now ≡ word_table) }
+    requires limited { length query.now ≤ text_limit }
     ensures value { result ≡ searched reading wanted query.now }
     ensures within { Within query.now result }
 {
