@@ -60,6 +60,7 @@ returns-then-k-gt63 c =
     ∙ ap duration_at (zero-add _ ∙ c.nanos.ensures ∙ by_value at.args.x p.digits (2 ^ p.shift) (pow_pos p.shift) at.dyadic_of-p.ensures.fact_1))
     ∙ accept (goal.at.After-dyadic_of-p at).Then-x-2
 
+-- ---- a second or more
 divides : (c : After-pow2-b) → 0 < c.pow2-b.result
 divides c = subst (λ (n : ℕ). 0 < n) (sym c.pow2-b.ensures) (pow_pos _)
 
