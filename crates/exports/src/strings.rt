@@ -31,8 +31,8 @@ pub extern "C" fn simmerpath_escape_string(text: &[u8], out: &mut [u8]) -> u64
 
 // What is told of a text that was not written: how many bytes of it stand in the literal itself, or its refusal.
 fn unwritten_code(u: Unquoting) -> u64
-    requires by_index { (n : ℕ) → u ≡ Written n → ⊥ }
-    requires by_index_2 { (n : ℕ) → u ≡ Inner n → n < inner_from }
+    requires unwritten { (n : ℕ) → u ≡ Written n → ⊥ }
+    requires inner_fits { (n : ℕ) → u ≡ Inner n → n < inner_from }
     ensures { result ≡ unquote_code u }
 {
     let Unquoting::Inner(n) = u else {
