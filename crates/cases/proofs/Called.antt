@@ -29,7 +29,7 @@ use Rattle.string.proofs.unquote_string.Reads as unquote_reads
 use Rattle.string.proofs.part.Kinds as part
 use Rattle.string.proofs.part.Reads as part_reads
 use Rattle.duration.specs.declared.span.Duration.{Duration}
-use Rattle.duration.specs.Unit.{nanos_aSecond}
+use Rattle.duration.specs.Unit.{nanos_a_second}
 use Rattle.duration.specs.declared.Timing.{Timing}
 use Rattle.duration.specs.Duration.{timing_of}
 use Rattle.duration.proofs.parse_duration.Kinds as parse
@@ -83,7 +83,7 @@ Called (lexes q ks) = (c : LexCall Crate q) → length ks ≤ room_in c → (c.r
 Called (refuses q r p) = (c : LexCall Crate q) → c.result ≡ lexing.Refused (refused_at q r p)
 Called (literal r xs ys) = (d : List ℕ) → length ys ≤ length d → Unquoted r xs ys d
 Called (timed xs t) = (c : Timed xs) → c.result ≡ t
-Called (written d ys) = (room : ℕ) (c : Displayed d room) → length ys ≤ room → d.nanos < nanos_aSecond → (c.result ≡ Written (length ys)) × (take (length ys) c.exit.1.0.now ≡ ys)
+Called (written d ys) = (room : ℕ) (c : Displayed d room) → length ys ≤ room → d.nanos < nanos_a_second → (c.result ≡ Written (length ys)) × (take (length ys) c.exit.1.0.now ≡ ys)
 
 lexes_called : (q ks : List ℕ) → Shown (lexes q ks) → Called (lexes q ks)
 unfolding lexed

@@ -2,7 +2,7 @@
 use mathlib.Core.List.{List, [], ◌∷◌, ◌++◌}
 use mathlib.Core.Path.{◌≡◌, refl}
 use lib.Count.{count_trailing_zeros}
-use lib.Ieee.{round, size, span, climb, units as floatUnits, odd, lt, le}
+use lib.Ieee.{round, size, span, climb, units as float_units, odd, lt, le}
 use Rattle.scan.specs.Ascii.{ascii}
 use Rattle.scan.specs.Run.{run_length}
 use Rattle.scan.specs.Separated.{separated_length}
@@ -46,11 +46,11 @@ unfolding timing_by duration_read admitted validity_of chars_past size_of char_l
 timed_zero = refl
 
 timed_none : timing_of (ascii "00") ≡ Lasts (elapsed 0 0)
-unfolding timing_by duration_read admitted validity_of chars_past size_of char_length size_in fits code_of is_within same_text decimal_of decimal_in is_infinite is_nan is_numeral has_digits exponent_has_digits is_sign lowered is_in run_length digit_of value_from numeral_read is_in_exact is_exact_range is_some is_scaled round size span climb floatUnits odd count_trailing_zeros lt le
+unfolding timing_by duration_read admitted validity_of chars_past size_of char_length size_in fits code_of is_within same_text decimal_of decimal_in is_infinite is_nan is_numeral has_digits exponent_has_digits is_sign lowered is_in run_length digit_of value_from numeral_read is_in_exact is_exact_range is_some is_scaled round size span climb float_units odd count_trailing_zeros lt le
 timed_none = refl
 
 timed_decimal_holds : timing_of (ascii "0.0009765625") ≡ Lasts (elapsed 0 976562)
-unfolding timing_by duration_read admitted validity_of chars_past size_of char_length size_in fits code_of is_within same_text decimal_of decimal_in is_infinite is_nan is_numeral has_digits exponent_has_digits is_sign lowered is_in run_length digit_of value_from numeral_read is_in_exact is_exact_range is_some is_scaled round size span climb floatUnits odd count_trailing_zeros lt le
+unfolding timing_by duration_read admitted validity_of chars_past size_of char_length size_in fits code_of is_within same_text decimal_of decimal_in is_infinite is_nan is_numeral has_digits exponent_has_digits is_sign lowered is_in run_length digit_of value_from numeral_read is_in_exact is_exact_range is_some is_scaled round size span climb float_units odd count_trailing_zeros lt le
 timed_decimal_holds = refl
 
 timed_units : timing_of (ascii "1d5000000000ms") ≡ Lasts (days 1)

@@ -30,7 +30,7 @@ use Rattle.decimal.specs.laws.Decimal.{Infinite, Nan, Numeric, Spelled, InExact,
 use Rattle.decimal.proofs.Given.{decimal_given}
 use Rattle.decimal.proofs.Ranges.{exact_told}
 use Rattle.duration.specs.declared.span.Duration.{Duration}
-use Rattle.duration.specs.Unit.{second, nanos_aMilli}
+use Rattle.duration.specs.Unit.{second, nanos_a_milli}
 use Rattle.duration.specs.Unit as unit
 use Rattle.duration.specs.Spans.{is_zero, two_to64, nanos_of, duration_at}
 use Rattle.duration.specs.Units.{has_oversized, is_unit_text, unit_sum, lasting, units_of}
@@ -59,7 +59,7 @@ module _ (xs : List ℕ) where
   some_sum n = go (ℕ_discrete (unit_sum xs / second) 0)
     where
       go : Dec (unit_sum xs / second ≡ 0) → is_zero (lasting (unit_sum xs)) ≡ false
-      go (yes z) = rw (z, ne_eqb (unit_sum xs % second * nanos_aMilli) 0 (λ e. n (omega arith)))
+      go (yes z) = rw (z, ne_eqb (unit_sum xs % second * nanos_a_milli) 0 (λ e. n (omega arith)))
       go (no z) = rw (ne_eqb (unit_sum xs / second) 0 z)
 
   module _ (o : Oversized) where

@@ -4,7 +4,7 @@ use Prim.Native.Nat.{ℕ}
 use mathlib.Core.List.{List, []}
 use mathlib.Core.Path.{◌≡◌, refl, ap, ◌∙◌}
 use lib.Count.{count_trailing_zeros}
-use lib.Ieee.{round, size, span, climb, units as floatUnits, odd, lt, le}
+use lib.Ieee.{round, size, span, climb, units as float_units, odd, lt, le}
 use Rattle.scan.specs.Ascii.{ascii}
 use Rattle.scan.specs.Byte.{is_within, digit_of, lowered, is_in, is_alpha}
 use Rattle.proving.proofs.One.{Answers}
@@ -41,7 +41,7 @@ abbrev parse_duration_gives : List ℕ → Timing → Type 0
 parse_duration_gives s v = Answers parse_duration.ps parse_duration.r parse_duration_reads.Post (λ κs a. a.0.now ≡ s) (λ κs. v)
 
 parse_duration_at : (s : List ℕ) → parse_duration_gives s (timing_of s)
-unfolding timing_by duration_read admitted validity_of chars_past size_of char_length size_in fits code_of is_within same_text decimal_of decimal_in is_infinite is_nan is_numeral has_digits exponent_has_digits is_sign lowered is_in run_length digit_of value_from numeral_read is_in_exact is_exact_range is_some is_scaled round size span climb floatUnits odd count_trailing_zeros lt le units_of is_unit_text behind sum_by has_oversized is_part counted is_alpha
+unfolding timing_by duration_read admitted validity_of chars_past size_of char_length size_in fits code_of is_within same_text decimal_of decimal_in is_infinite is_nan is_numeral has_digits exponent_has_digits is_sign lowered is_in run_length digit_of value_from numeral_read is_in_exact is_exact_range is_some is_scaled round size span climb float_units odd count_trailing_zeros lt le units_of is_unit_text behind sum_by has_oversized is_part counted is_alpha
 parse_duration_at s κs a x e p h = p ∙ ap timing_of h
 
 pub empty_text_is_refused_with_fifty : parse_duration_gives [] (Refused (at_start 50))

@@ -7,12 +7,12 @@ use Rattle.utf8.specs.Writing.{fitted}
 use Rattle.writing.specs.Decimal.{decimal_text}
 use Rattle.duration.specs.declared.span.Duration.{Duration}
 use Rattle.duration.specs.Duration.{out_of_range}
-use Rattle.duration.specs.Unit.{Unit, units, second, day, nanos_aMilli, nanos_aSecond}
+use Rattle.duration.specs.Unit.{Unit, units, second, day, nanos_a_milli, nanos_a_second}
 use Rattle.duration.specs.Spans.{is_zero}
 
 -- "drop what is under a millisecond (999,999 ns writes nothing)"
 abbrev pub millis_of : Duration → ℕ
-millis_of d = d.secs * second + d.nanos / nanos_aMilli
+millis_of d = d.secs * second + d.nanos / nanos_a_milli
 
 -- "years, then weeks, only where nothing remains; then d h m s ms": a unit longer than a day is left out where something remains
 abbrev pub is_left_out : Unit → ℕ → Bool
@@ -39,4 +39,4 @@ duration_text d = cond (is_zero d) (ascii "0s") (written units (millis_of d))
 
 -- "Writing refuses nanoseconds of 1,000,000,000 and over with 54, then only 3."
 unfoldable pub displaying_of : ℕ → Duration → Writing
-displaying_of room d = cond (leb nanos_aSecond d.nanos) (Refused out_of_range) (fitted room (duration_text d))
+displaying_of room d = cond (leb nanos_a_second d.nanos) (Refused out_of_range) (fitted room (duration_text d))

@@ -4,7 +4,7 @@ use Rattle.std.specs.Float.{fin}
 use Rattle.std.specs.Float.Ieee.{lt, le}
 use Rattle.std.specs.Float.Ieee.Nearest.{closest}
 use Rattle.std.specs.Float.Ieee.Positive.{num, den}
-use Rattle.duration.specs.Unit.{nanos_aSecond}
+use Rattle.duration.specs.Unit.{nanos_a_second}
 use Rattle.duration.specs.declared.span.Duration.{Duration}
 use Rattle.duration.specs.declared.span.Conversion.{Conversion}
 use Rattle.duration.specs.declared.span.Conversion.TheVariants.{Lasts, Refused}
@@ -18,10 +18,10 @@ two_to64 = fin false 1 (pos 64)
 
 -- the nanoseconds nearest to x seconds, a tie to the even number: x is num x / den x
 abbrev pub nanos_of : Float → ℕ
-nanos_of x = closest (num x * nanos_aSecond) (den x)
+nanos_of x = closest (num x * nanos_a_second) (den x)
 
 abbrev pub duration_at : ℕ → Duration
-duration_at n = record { secs = n / nanos_aSecond; nanos = n % nanos_aSecond }
+duration_at n = record { secs = n / nanos_a_second; nanos = n % nanos_a_second }
 
 -- a NaN, what is below zero, and what is 2 ^ 64 or more, an infinity among them, are refused
 abbrev pub from_secs : Float → Conversion

@@ -26,11 +26,11 @@ abbrev pub year : ℕ
 year = 365 * day
 
 -- how many nanoseconds a millisecond has
-abbrev pub nanos_aMilli : ℕ
-nanos_aMilli = 1000000
+abbrev pub nanos_a_milli : ℕ
+nanos_a_milli = 1000000
 
-abbrev pub nanos_aSecond : ℕ
-nanos_aSecond = second * nanos_aMilli
+abbrev pub nanos_a_second : ℕ
+nanos_a_second = second * nanos_a_milli
 
 -- a unit: its text, and its length in milliseconds
 pub record Unit : Type 0 where

@@ -7,7 +7,7 @@ use Rattle.scan.specs.Byte.{is_in}
 use Rattle.scan.specs.Run.{run_end}
 use Rattle.scan.specs.Text.{same_text}
 use Rattle.scan.specs.Digits.{value_of}
-use Rattle.duration.specs.Unit.{Unit, units, second, nanos_aMilli}
+use Rattle.duration.specs.Unit.{Unit, units, second, nanos_a_milli}
 use Rattle.decimal.specs.Grammar.{between}
 use Rattle.duration.specs.declared.span.Duration.{Duration}
 use Rattle.duration.specs.declared.units.Units.{Units}
@@ -62,7 +62,7 @@ unit_sum xs = sum_by counted units xs
 
 -- so many milliseconds as a duration
 abbrev pub lasting : ℕ → Duration
-lasting ms = record { secs = ms / second; nanos = ms % second * nanos_aMilli }
+lasting ms = record { secs = ms / second; nanos = ms % second * nanos_a_milli }
 
 unfoldable pub units_of : List ℕ → Units
 units_of xs = cond (is_unit_text xs) (Sum (lasting (unit_sum xs)) (has_oversized units xs)) NotUnits

@@ -3,7 +3,7 @@ ghost use Rattle.std.specs.Prelude.{◌≡◌, ◌+◌, ◌*◌, ◌≤◌, ◌<
 ghost use Rattle.std.proofs.lemmas.List.Edits.{sets};
 ghost use Rattle.utf8.specs.Writing.{left_by};
 ghost use Rattle.writing.specs.Decimal.{decimal_text};
-ghost use Rattle.duration.specs.Unit.{units, day, nanos_aSecond};
+ghost use Rattle.duration.specs.Unit.{units, day, nanos_a_second};
 ghost use Rattle.duration.specs.Display.{count_text, written, millis_of, duration_text, displaying_of};
 ghost use Rattle.duration.specs.steps.Display.{Stored, whole_of, longest_unit, longest_part, chained, sizes, texts_of};
 
@@ -50,7 +50,7 @@ fn whole(days: u64, rest: u64, size: u64) -> u64
 
 // How many there are of each unit in a duration, of which what is under a millisecond is dropped.
 fn counts_of(duration: Duration) -> Counts
-    requires { duration.nanos < nanos_aSecond }
+    requires { duration.nanos < nanos_a_second }
     ensures { chained (texts_of result) ≡ written units (millis_of duration) }
 {
     let all = duration.secs / SECONDS_A_DAY;

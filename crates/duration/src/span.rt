@@ -4,7 +4,7 @@ ghost use Rattle.std.specs.Float.Ieee.{le, lt};
 ghost use Rattle.std.specs.Float.Ieee.Exact.{HasValue};
 ghost use Rattle.std.specs.Float.Ieee.Nearest.{closest};
 ghost use Rattle.duration.specs.Spans.{is_zero, from_secs, duration_at, least_timed, two_to64};
-ghost use Rattle.duration.specs.Unit.{nanos_aSecond};
+ghost use Rattle.duration.specs.Unit.{nanos_a_second};
 
 // A duration: seconds, and nanoseconds of which a second has less than a billion.
 #[derive(Clone, Copy)]
@@ -86,8 +86,8 @@ fn pow2(k: u64) -> u64
 
 // a / b to the nearest whole number, a tie to the even one.
 fn closest_div(a: u64, b: u64) -> u64
-    requires fact_1 { 0 < b }
-    requires fact_2 { b ≤ 2 ^ 63 }
+    requires some { 0 < b }
+    requires few { b ≤ 2 ^ 63 }
     ensures { result ≡ closest a b }
 {
     let q = a / b;
@@ -103,9 +103,9 @@ fn closest_div(a: u64, b: u64) -> u64
 
 // f / 2 ^ k seconds, less than one, in nanoseconds.
 fn nanos(f: u64, k: u64) -> u64
-    requires fact_1 { f < 2 ^ k }
-    requires fact_2 { k ≤ 94 }
-    ensures { result ≡ closest (f * nanos_aSecond) (2 ^ k) }
+    requires proper { f < 2 ^ k }
+    requires shift_fits { k ≤ 94 }
+    ensures { result ≡ closest (f * nanos_a_second) (2 ^ k) }
 {
     if f == 0 {
         return 0;
@@ -126,11 +126,11 @@ fn nanos(f: u64, k: u64) -> u64
 
 // The digits and the exponent of x.
 fn dyadic_of(x: f64) -> Dyadic
-    requires fact_1 { T (le least_timed x) }
-    requires fact_2 { T (lt x two_to64) }
-    ensures fact_1 { HasValue x false result.digits (2 ^ result.shift) }
-    ensures fact_2 { result.shift ≤ 94 }
-    ensures fact_3 { result.digits < 2 ^ 64 }
+    requires timed { T (le least_timed x) }
+    requires below { T (lt x two_to64) }
+    ensures value { HasValue x false result.digits (2 ^ result.shift) }
+    ensures shift_fits { result.shift ≤ 94 }
+    ensures digits_fit { result.digits < 2 ^ 64 }
 {
     let bits = f64::to_bits(x);
     Dyadic {
@@ -163,9 +163,9 @@ pub fn from_secs_f64(x: f64) -> Conversion
 
 // s seconds and n nanoseconds, of which there may be a whole second.
 fn whole(s: u64, n: u64) -> Duration
-    requires fact_1 { n ≤ nanos_aSecond }
-    requires fact_2 { (n ≡ nanos_aSecond → s + 1 < 2 ^ 64) }
-    ensures { result ≡ duration_at (s * nanos_aSecond + n) }
+    requires within_second { n ≤ nanos_a_second }
+    requires fits { (n ≡ nanos_a_second → s + 1 < 2 ^ 64) }
+    ensures { result ≡ duration_at (s * nanos_a_second + n) }
 {
     if n == Duration::NANOS_A_SECOND {
         Duration {

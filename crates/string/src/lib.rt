@@ -316,8 +316,8 @@ fn read_tiles(inner: &[u8], sign: u8, reading: Reading, text: &mut [u8]) -> Exte
 
 // What the content between two signs comes to; a text with escapes is written where it has room.
 fn read_content(inner: &[u8], sign: u8, reading: Reading, text: &mut [u8]) -> Extent
-    requires fact_1 { sign < 0x80 }
-    requires fact_2 { WellFormed inner.now }
+    requires ascii_sign { sign < 0x80 }
+    requires well_formed { WellFormed inner.now }
     ensures value { result ≡ content_extent reading sign inner.now }
     ensures text_after { text.new ≡ left_in result (bytes_of reading (tiles_of sign inner.now)) text.old }
 {

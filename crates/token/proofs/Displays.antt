@@ -1,4 +1,4 @@
--- Laws of the table of texts, by one test that the check computes: each kind is below `pastKinds` and another than each that follows, and
+-- Laws of the table of texts, by one test that the check computes: each kind is below `past_kinds` and another than each that follows, and
 -- each text is short.
 use Prim.Native.Nat.{ℕ, ◌≤◌}
 use native.Mathlib.Omega.{arith}

@@ -1,5 +1,5 @@
 -- The kinds of lexemes, each once: document 01, "Kinds", in its order, under the Rust's names without their `T_`; where such a name is taken here, or
--- says nothing by itself, it is longer: `eofKind`, `modulo`, `atSign`, `countKind`, `endKind`.
+-- says nothing by itself, it is longer: `eof_kind`, `modulo`, `at_sign`, `count_kind`, `end_kind`.
 use Rattle.std.specs.Prelude.{ℕ}
 
 -- "EOF 0, IDENTIFIER 1, METRIC_IDENTIFIER 2, STRING 3, NUMBER 4, DURATION 5, .."

@@ -1,5 +1,5 @@
--- The table by a character's first byte. Of the rows at most one has bounds for a first byte, and `sizeBy`, `lowSecond` and
--- `highSecond` say which: for the bytes that can begin a character by one test that the check computes, and past those no row has any.
+-- The table by a character's first byte. Of the rows at most one has bounds for a first byte, and `size_by`, `low_second` and
+-- `high_second` say which: for the bytes that can begin a character by one test that the check computes, and past those no row has any.
 use Prim.Native.Nat.{ℕ, zero, suc, ◌<◌, ◌≤◌}
 use native.Mathlib.Omega.{arith}
 use native.Mathlib.Decide.{dec_lt}

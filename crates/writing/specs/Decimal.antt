@@ -5,7 +5,7 @@ use Prim.Native.Char.{code}
 abbrev pub decimal_base : ℕ
 decimal_base = 10
 
--- the digit that stands for a number below ten: `digitOf` of crate scan turned round
+-- the digit that stands for a number below ten: `digit_of` of crate scan turned round
 unfoldable pub digit_for : ℕ → ℕ
 digit_for d = code "0" + d
 

@@ -16,7 +16,7 @@ use Rattle.scan.specs.Run.{run_length}
 use Rattle.scan.specs.Text.{same_text}
 use Rattle.scan.specs.Digits.{value_from, value_of}
 use Rattle.proving.proofs.Choice.{and_left, and_right}
-use Rattle.duration.specs.Unit.{Unit, units, second, nanos_aMilli}
+use Rattle.duration.specs.Unit.{Unit, units, second, nanos_a_milli}
 use Rattle.duration.specs.Spans.{is_zero}
 use Rattle.writing.specs.Decimal.{decimal_text}
 use Rattle.writing.proofs.ReadBack.{digits_some, digits_all, decimal_value}
@@ -109,5 +109,5 @@ denotes d = go (is_zero d) refl
 pub denotes_again : DenotesAgain
 denotes_again d h e =
     let s : millis_of d / second ≡ d.secs = omega arith in
-    let n : millis_of d % second * nanos_aMilli ≡ d.nanos = omega arith in
+    let n : millis_of d % second * nanos_a_milli ≡ d.nanos = omega arith in
     rw (denotes d).1 (ap₂ (λ (a b : ℕ). record { secs = a; nanos = b }) s n)

@@ -13,7 +13,7 @@ use Rattle.utf8.specs.laws.Refusals.{NoRoom}
 use Rattle.duration.specs.declared.span.Duration.{Duration}
 use Rattle.utf8.specs.declared.Writing.{Writing}
 use Rattle.utf8.specs.declared.Writing.TheVariants.{Written, Refused}
-use Rattle.duration.specs.Unit.{nanos_aSecond}
+use Rattle.duration.specs.Unit.{nanos_a_second}
 use Rattle.duration.specs.Duration.{out_of_range}
 use Rattle.duration.specs.Display.{duration_text, displaying_of}
 use Rattle.duration.specs.laws.Display.{OverRange, DisplayingGiven}
@@ -56,7 +56,7 @@ module _ (room : ℕ) (d : Duration) where
 
   only : (w : Row) → displaying_of room d ≡ given w → Holds w
   only w e =
-      let v = some (dec_le nanos_aSecond d.nanos) (dec_lt room (length (duration_text d))) in
+      let v = some (dec_le nanos_a_second d.nanos) (dec_lt room (length (duration_text d))) in
       exactly row_of given back Holds v.0 v.1 (gives v.0 v.1) w e
 
 pub displaying_given : DisplayingGiven

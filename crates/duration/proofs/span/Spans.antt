@@ -1,4 +1,4 @@
--- `fromSecs` at each of the tests that the code makes, and the whole seconds and the rest by any fraction that x equals.
+-- `from_secs` at each of the tests that the code makes, and the whole seconds and the rest by any fraction that x equals.
 --
 use mathlib.Core.Path.{◌≡◌, refl, sym, ap, ap₂, ◌∙◌, subst}
 use mathlib.Core.Logic.{⊎_elim}

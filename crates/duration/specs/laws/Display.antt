@@ -6,14 +6,14 @@ use Rattle.utf8.specs.declared.Writing.TheVariants.{Written, Refused}
 use Rattle.utf8.specs.Answers.{no_room}
 use Rattle.utf8.specs.laws.Refusals.{NoRoom}
 use Rattle.duration.specs.declared.span.Duration.{Duration}
-use Rattle.duration.specs.Unit.{units, nanos_aMilli, nanos_aSecond}
+use Rattle.duration.specs.Unit.{units, nanos_a_milli, nanos_a_second}
 use Rattle.duration.specs.Units.{behind, sum_by, lasting}
 use Rattle.duration.specs.Duration.{out_of_range}
 use Rattle.duration.specs.Display.{millis_of, duration_text, displaying_of}
 
 -- 54 "nanoseconds over range in writing"
 abbrev pub OverRange : Duration → Type 0
-OverRange d = nanos_aSecond ≤ d.nanos
+OverRange d = nanos_a_second ≤ d.nanos
 
 abbrev pub DisplayingGiven : Type 0
 DisplayingGiven =
@@ -35,7 +35,7 @@ abbrev pub longest_text : ℕ
 longest_text = 30
 
 abbrev pub TextFew : Type 0
-TextFew = (d : Duration) → d.secs < 2 ^ 64 → d.nanos < nanos_aSecond → length (duration_text d) ≤ longest_text
+TextFew = (d : Duration) → d.secs < 2 ^ 64 → d.nanos < nanos_a_second → length (duration_text d) ≤ longest_text
 
 -- every text that is written is a unit text, and its parts amount to the duration's milliseconds, counting each number for what it is
 abbrev pub Denotes : Type 0
@@ -43,4 +43,4 @@ Denotes = (d : Duration) → (behind units (duration_text d) ≡ []) × (sum_by 
 
 -- so it denotes the duration again, where that is a whole number of milliseconds; what is read of it is said in `laws/Exact`
 abbrev pub DenotesAgain : Type 0
-DenotesAgain = (d : Duration) → d.nanos < nanos_aSecond → d.nanos % nanos_aMilli ≡ 0 → lasting (sum_by (λ v. v) units (duration_text d)) ≡ d
+DenotesAgain = (d : Duration) → d.nanos < nanos_a_second → d.nanos % nanos_a_milli ≡ 0 → lasting (sum_by (λ v. v) units (duration_text d)) ≡ d

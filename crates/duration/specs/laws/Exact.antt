@@ -5,7 +5,7 @@ use Rattle.scan.specs.Ascii.{ascii}
 use Rattle.duration.specs.declared.span.Duration.{Duration}
 use Rattle.duration.specs.declared.Oversized.{Oversized}
 use Rattle.duration.specs.declared.Timing.TheVariants.{Lasts, Refused}
-use Rattle.duration.specs.Unit.{units, second, day, nanos_aMilli, nanos_aSecond}
+use Rattle.duration.specs.Unit.{units, second, day, nanos_a_milli, nanos_a_second}
 use Rattle.duration.specs.Spans.{is_zero}
 use Rattle.duration.specs.Units.{sum_by, most_counted, unit_sum, lasting}
 use Rattle.duration.specs.Duration.{zero_duration, oversized_part, timing_by, timing_of, exact_timing_of}
@@ -32,8 +32,8 @@ AllCounted = (xs : List ℕ) (d : Duration) → UnitText xs → exact_timing_of 
 
 -- "a duration of whole milliseconds, above zero and with at most 4,294,967,295 whole days", whose nanoseconds are in range, so that 54 is not given
 pub record Recoverable (d : Duration) : Type 0 where
-  pub in_range : d.nanos < nanos_aSecond
-  pub whole : d.nanos % nanos_aMilli ≡ 0
+  pub in_range : d.nanos < nanos_a_second
+  pub whole : d.nanos % nanos_a_milli ≡ 0
   pub some : is_zero d ≡ false
   pub few_days : d.secs / (day / second) ≤ most_counted
 

@@ -3,7 +3,7 @@ use mathlib.Core.Path.{sym, ◌∙◌}
 use Rattle.proving.proofs.One.{OneAnswer}
 use Rattle.scan.proofs.byte.peek.Kinds as peek
 use Rattle.scan.proofs.byte.peek.Reads as peek_reads
-use Rattle.scan.proofs.byte.is_within.Kinds as is_Within
+use Rattle.scan.proofs.byte.is_within.Kinds as is_within_kinds
 use Rattle.scan.proofs.byte.is_within.Reads as is_within_reads
 use Rattle.scan.proofs.byte.is_space.Kinds as is_space
 use Rattle.scan.proofs.byte.is_space.Reads as is_space_reads
@@ -23,7 +23,7 @@ use Rattle.scan.proofs.byte.lowered.Kinds as lowered
 use Rattle.scan.proofs.byte.lowered.Reads as lowered_reads
 use Rattle.scan.proofs.byte.is_alpha_numeric.Kinds as is_alpha_numeric
 use Rattle.scan.proofs.byte.is_alpha_numeric.Reads as is_alpha_numeric_reads
-use Rattle.scan.proofs.byte.is_word.Kinds as is_Is_word
+use Rattle.scan.proofs.byte.is_word.Kinds as is_word_kinds
 use Rattle.scan.proofs.byte.is_word.Reads as is_word_reads
 use Rattle.scan.proofs.byte.is_line.Kinds as is_line
 use Rattle.scan.proofs.byte.is_line.Reads as is_line_reads
@@ -33,7 +33,7 @@ use Rattle.scan.proofs.byte.is_in.Reads as is_in_reads
 pub same_peek : OneAnswer peek.ps peek.r peek_reads.Post
 same_peek κs a x y e f p q = p ∙ sym q
 
-pub same_is_within : OneAnswer is_Within.ps is_Within.r is_within_reads.Post
+pub same_is_within : OneAnswer is_within_kinds.ps is_within_kinds.r is_within_reads.Post
 same_is_within κs a x y e f p q = p ∙ sym q
 
 pub same_is_space : OneAnswer is_space.ps is_space.r is_space_reads.Post
@@ -60,7 +60,7 @@ same_lowered κs a x y e f p q = p ∙ sym q
 pub same_is_alpha_numeric : OneAnswer is_alpha_numeric.ps is_alpha_numeric.r is_alpha_numeric_reads.Post
 same_is_alpha_numeric κs a x y e f p q = p ∙ sym q
 
-pub same_is_word : OneAnswer is_Is_word.ps is_Is_word.r is_word_reads.Post
+pub same_is_word : OneAnswer is_word_kinds.ps is_word_kinds.r is_word_reads.Post
 same_is_word κs a x y e f p q = p ∙ sym q
 
 pub same_is_line : OneAnswer is_line.ps is_line.r is_line_reads.Post

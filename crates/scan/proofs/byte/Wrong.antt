@@ -12,7 +12,7 @@ use Rattle.scan.specs.Byte.{peek_at, is_within, is_space, is_alpha, is_digit, is
 use Rattle.proving.proofs.One.{Answers}
 use Rattle.scan.proofs.byte.peek.Kinds as peek
 use Rattle.scan.proofs.byte.peek.Reads as peek_reads
-use Rattle.scan.proofs.byte.is_within.Kinds as is_Within
+use Rattle.scan.proofs.byte.is_within.Kinds as is_within_kinds
 use Rattle.scan.proofs.byte.is_within.Reads as is_within_reads
 use Rattle.scan.proofs.byte.is_space.Kinds as is_space_kinds
 use Rattle.scan.proofs.byte.is_space.Reads as is_space_reads
@@ -32,7 +32,7 @@ use Rattle.scan.proofs.byte.lowered.Kinds as lowered
 use Rattle.scan.proofs.byte.lowered.Reads as lowered_reads
 use Rattle.scan.proofs.byte.is_alpha_numeric.Kinds as is_alpha_numeric_kinds
 use Rattle.scan.proofs.byte.is_alpha_numeric.Reads as is_alpha_numeric_reads
-use Rattle.scan.proofs.byte.is_word.Kinds as is_Is_word
+use Rattle.scan.proofs.byte.is_word.Kinds as is_word_kinds
 use Rattle.scan.proofs.byte.is_word.Reads as is_word_reads
 use Rattle.scan.proofs.byte.is_line.Kinds as is_line_kinds
 use Rattle.scan.proofs.byte.is_line.Reads as is_line_reads
@@ -53,7 +53,7 @@ peek_moves = peek_gives_at _ _
 
 abbrev is_within_gives : ℕ → ℕ → ℕ → Bool → Type 0
 is_within_gives lo hi c v =
-    Answers is_Within.ps is_Within.r is_within_reads.Post (λ κs a. (a.0 ≡ lo) × (a.1.0 ≡ hi) × (a.1.1.0 ≡ c)) (λ κs. v)
+    Answers is_within_kinds.ps is_within_kinds.r is_within_reads.Post (λ κs a. (a.0 ≡ lo) × (a.1.0 ≡ hi) × (a.1.1.0 ≡ c)) (λ κs. v)
 
 is_within_at : (lo hi c : ℕ) → is_within_gives lo hi c (is_within lo hi c)
 is_within_at lo hi c κs a x e p h = cc (p, h.0, h.1, h.2)
@@ -185,7 +185,7 @@ unfolding is_alpha_numeric is_alpha is_within
 letter_goes_on_with_a_label = is_alpha_numeric_at _
 
 abbrev is_word_gives : ℕ → Bool → Type 0
-is_word_gives c v = Answers is_Is_word.ps is_Is_word.r is_word_reads.Post (λ κs a. a.0 ≡ c) (λ κs. v)
+is_word_gives c v = Answers is_word_kinds.ps is_word_kinds.r is_word_reads.Post (λ κs a. a.0 ≡ c) (λ κs. v)
 
 is_word_at : (c : ℕ) → is_word_gives c (is_word c)
 is_word_at c κs a x e p h = p ∙ ap is_word h

@@ -18,7 +18,7 @@ pub returns-then-has_newline : goal.returns-then-has_newline
 returns-then-has_newline c =
     let a = (goal.at.returns-then-has_newline c).Start in
     record {
-      value = ap (λ (k : ℕ). Bad k) c.first_of-at.ensures ∙ literals.newline a.args.reading a.args.sign a.requires.fact_1 a.args.inner.now (sym c.has_newline.ensures ∙ c.if-has_newline.true);
+      value = ap (λ (k : ℕ). Bad k) c.first_of-at.ensures ∙ literals.newline a.args.reading a.args.sign a.requires.ascii_sign a.args.inner.now (sym c.has_newline.ensures ∙ c.if-has_newline.true);
       text_after = refl;
     }
 
@@ -40,14 +40,14 @@ module _ (c : Else-has_newline) where
   none = sym c.has_newline.ensures ∙ c.if-has_newline.false
 
   measured_is : has_escape q ys ≡ true → tiles_extent r (tiles_of q ys) ≡ content_extent r q ys
-  measured_is = literals.measured_is r q a.requires.fact_1 ys none
+  measured_is = literals.measured_is r q a.requires.ascii_sign ys none
 
   module _ (s : has_escape q ys ≡ false) where
     sign_inside : has q ys ≡ true → Bad (first_of q ys) ≡ content_extent r q ys
-    sign_inside = literals.sign_inside r q a.requires.fact_1 ys none s a.requires.fact_2
+    sign_inside = literals.sign_inside r q a.requires.ascii_sign ys none s a.requires.well_formed
 
     as_it_stands : has q ys ≡ false → Text false (length ys) ≡ content_extent r q ys
-    as_it_stands = literals.as_it_stands r q a.requires.fact_1 ys none s a.requires.fact_2
+    as_it_stands = literals.as_it_stands r q a.requires.ascii_sign ys none s a.requires.well_formed
 
 pub returns-then-has_escape : goal.returns-then-has_escape
 returns-then-has_escape c =

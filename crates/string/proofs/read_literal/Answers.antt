@@ -87,8 +87,8 @@ read_content-requires c =
     let l = lit d in
     let t = two (o (i d)) in
     rw (literals.sign_is l t, literals.cut_is l t) record {
-      fact_1 = literals.sign_ascii l (enclosed d);
-      fact_2 = literals.inner_well l (enclosed d) (a (o (i d))).requires;
+      ascii_sign = literals.sign_ascii l (enclosed d);
+      well_formed = literals.inner_well l (enclosed d) (a (o (i d))).requires;
     }
 
 -- what the content comes to

@@ -1,6 +1,6 @@
 -- The table of words as the code has it, to be lent: rows of the padded word, its length and its kind, one after the other, and behind them slots, in
 -- which each word finds the number of its row. It is compared with that row alone. That by the table of `words` the search finds what
--- `keywordOf` says is a law (`specs/laws/Words`).
+-- `keyword_of` says is a law (`specs/laws/Words`).
 use Rattle.std.specs.Prelude.{ℕ, zero, suc, ◌+◌, ◌-◌, ◌*◌, ◌%◌, Bool, cond, ◌&&◌, ◌||◌, List, [], ◌∷◌, ◌++◌, map, eqb, ltb, length, get_or, take, drop}
 use Rattle.scan.specs.Ascii.{ascii}
 use Rattle.scan.specs.Byte.{lowered}

@@ -23,7 +23,7 @@ CodesText = (xs : List ℕ) → WellFormed xs → AllScalar (codes_of xs) × (te
 abbrev pub TextBytes : Type 0
 TextBytes = (xs : List ℕ) → WellFormed xs → Bytes xs
 
--- the prefix that `prefixEnd` ends is well-formed, and no longer one is
+-- the prefix that `prefix_end` ends is well-formed, and no longer one is
 abbrev pub Longest : Type 0
 Longest =
     (xs : List ℕ) → WellFormed (take (prefix_end xs) xs) × ((n : ℕ) → n ≤ length xs → WellFormed (take n xs) → n ≤ prefix_end xs)

@@ -3,7 +3,7 @@ use mathlib.Core.Path.{◌≡◌, refl, sym, ap, ◌∙◌}
 use native.Mathlib.Omega.{arith}
 use Prim.Native.Nat.{◌+◌, ◌-◌, ◌*◌, ◌/◌, ◌%◌}
 use lib.ListN.{drop}
-use Rattle.duration.specs.Unit.{unit, units, second, day, week, year, nanos_aMilli}
+use Rattle.duration.specs.Unit.{unit, units, second, day, week, year, nanos_a_milli}
 use Rattle.duration.specs.Display.{millis_of}
 use Rattle.duration.specs.steps.Display.{whole_of}
 use Rattle.duration.proofs.display.Days.{whole_unit, below_weeks}
@@ -18,7 +18,7 @@ returns c =
     let all = d.secs / (day / second) in
     let left = all - years * (year / day) in
     let days = left - weeks * (week / day) in
-    let under = d.secs % (day / second) * second + d.nanos / nanos_aMilli in
+    let under = d.secs % (day / second) * second + d.nanos / nanos_a_milli in
     let start : ms ≡ all * day + under = omega arith in
     let behind : ms - years * year ≡ left * day + under = omega (arith, c.whole-years.ensures.1) in
     let below : ms - years * year - weeks * week ≡ days * day + under = omega (arith, c.whole-weeks.ensures.1, behind) in

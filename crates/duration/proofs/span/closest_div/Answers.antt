@@ -13,7 +13,7 @@ halved : (a b : ℕ) → 2 ≤ b → a / b * 2 ≤ a
 halved a b h = le_trans (mul-le-mul_left (a / b) h) (div-mul-le_self a b)
 
 pub overflow_mul-r : goal.overflow_mul-r
-overflow_mul-r c = omega (arith, mod-lt c.args.a c.requires.fact_1)
+overflow_mul-r c = omega (arith, mod-lt c.args.a c.requires.some)
 
 pub returns-then-r-b : goal.returns-then-r-b
 returns-then-r-b c = below_half c.args.a c.args.b c.if-r-b.true
@@ -21,7 +21,7 @@ returns-then-r-b c = below_half c.args.a c.args.b c.if-r-b.true
 pub overflow_add-result : goal.overflow_add-result
 overflow_add-result c =
     let start = (goal.at.overflow_add-result c).Start in
-    let r = mod-lt start.args.a start.requires.fact_1 in
+    let r = mod-lt start.args.a start.requires.some in
     omega (arith, halved start.args.a start.args.b (omega arith))
 
 pub returns-then-b-r : goal.returns-then-b-r

@@ -22,18 +22,18 @@ no_nan (inf s) h = tt
 no_nan (fin s m e) h = tt
 
 pub float_to_bits-bits : goal.float_to_bits-bits
-float_to_bits-bits c = no_nan c.args.x c.requires.fact_2
+float_to_bits-bits c = no_nan c.args.x c.requires.below
 
 pub overflow_add-result : goal.overflow_add-result
-overflow_add-result c = omega (arith, masked_lt c.args.x (held c) c.requires.fact_1 c.requires.fact_2)
+overflow_add-result c = omega (arith, masked_lt c.args.x (held c) c.requires.timed c.requires.below)
 
 pub overflow_sub-result : goal.overflow_sub-result
-overflow_sub-result c = exponent_le c.args.x (held c) c.requires.fact_1 c.requires.fact_2
+overflow_sub-result c = exponent_le c.args.x (held c) c.requires.timed c.requires.below
 
 pub returns : goal.returns
 returns c =
     record {
-      fact_1 = value c.args.x (held c) c.requires.fact_1 c.requires.fact_2;
-      fact_2 = shift_le c.args.x (held c) c.requires.fact_1 c.requires.fact_2;
-      fact_3 = mod-lt _ (pow_pos 64);
+      value = value c.args.x (held c) c.requires.timed c.requires.below;
+      shift_fits = shift_le c.args.x (held c) c.requires.timed c.requires.below;
+      digits_fit = mod-lt _ (pow_pos 64);
     }

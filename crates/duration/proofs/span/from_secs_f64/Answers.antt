@@ -29,26 +29,26 @@ accept c = accepted c.args.x c.if-x.true (above_nought c.args.x (enough c))
 
 pub dyadic_of-p-requires : goal.dyadic_of-p-requires
 dyadic_of-p-requires c = record {
-  fact_1 = enough c;
-  fact_2 = in_time c;
+  timed = enough c;
+  below = in_time c;
 }
 
 -- ---- less than a second
 small : (c : Then-k-gt63) → c.dyadic_of-p.result.digits < 2 ^ c.dyadic_of-p.result.shift
-small c = lt_of_lt_of_le c.dyadic_of-p.ensures.fact_3 (pow_mono c.if-k-gt63.true)
+small c = lt_of_lt_of_le c.dyadic_of-p.ensures.digits_fit (pow_mono c.if-k-gt63.true)
 
 pub nanos-requires : goal.nanos-requires
 nanos-requires c = record {
-  fact_1 = small c;
-  fact_2 = c.dyadic_of-p.ensures.fact_2;
+  proper = small c;
+  shift_fits = c.dyadic_of-p.ensures.shift_fits;
 }
 
 pub whole-requires : goal.whole-requires
 whole-requires c =
     let p = c.dyadic_of-p.result in
     record {
-      fact_1 = subst (λ (n : ℕ). n ≤ 1000000000) (sym c.nanos.ensures) (at_most_a_second p.digits (2 ^ p.shift) (pow_pos p.shift) (small (goal.at.whole-requires c).Then-k-gt63));
-      fact_2 = λ e. lit< tt;
+      within_second = subst (λ (n : ℕ). n ≤ 1000000000) (sym c.nanos.ensures) (at_most_a_second p.digits (2 ^ p.shift) (pow_pos p.shift) (small (goal.at.whole-requires c).Then-k-gt63));
+      fits = λ e. lit< tt;
     }
 
 pub returns-then-k-gt63 : goal.returns-then-k-gt63
@@ -57,7 +57,7 @@ returns-then-k-gt63 c =
     let p = at.dyadic_of-p.result in
     ap Lasts
     (c.whole.ensures
-    ∙ ap duration_at (zero-add _ ∙ c.nanos.ensures ∙ by_value at.args.x p.digits (2 ^ p.shift) (pow_pos p.shift) at.dyadic_of-p.ensures.fact_1))
+    ∙ ap duration_at (zero-add _ ∙ c.nanos.ensures ∙ by_value at.args.x p.digits (2 ^ p.shift) (pow_pos p.shift) at.dyadic_of-p.ensures.value))
     ∙ accept (goal.at.After-dyadic_of-p at).Then-x-2
 
 -- ---- a second or more
@@ -68,8 +68,8 @@ pub nanos-requires-then-x-2 : goal.nanos-requires-then-x-2
 nanos-requires-then-x-2 c =
     let at = (goal.at.nanos-requires-then-x-2 c).After-dyadic_of-p in
     record {
-      fact_1 = subst (λ (n : ℕ). at.dyadic_of-p.result.digits % c.pow2-b.result < n) c.pow2-b.ensures (mod-lt at.dyadic_of-p.result.digits (divides c));
-      fact_2 = at.dyadic_of-p.ensures.fact_2;
+      proper = subst (λ (n : ℕ). at.dyadic_of-p.result.digits % c.pow2-b.result < n) c.pow2-b.ensures (mod-lt at.dyadic_of-p.result.digits (divides c));
+      shift_fits = at.dyadic_of-p.ensures.shift_fits;
     }
 
 -- the nanoseconds, over the divisor as the code has it
@@ -83,8 +83,8 @@ whole-requires-then-x-2 c =
     let d = c.dyadic_of-p.result.digits in
     let b = c.pow2-b.result in
     let B = divides (goal.at.whole-requires-then-x-2 c).After-pow2-b in record {
-      fact_1 = subst (λ (n : ℕ). n ≤ 1000000000) (sym (nanos_are c)) (at_most_a_second (d % b) b B (mod-lt d B));
-      fact_2 = carry d b c.nanos-then-x-2.result B c.dyadic_of-p.ensures.fact_3 (nanos_are c);
+      within_second = subst (λ (n : ℕ). n ≤ 1000000000) (sym (nanos_are c)) (at_most_a_second (d % b) b B (mod-lt d B));
+      fits = carry d b c.nanos-then-x-2.result B c.dyadic_of-p.ensures.digits_fit (nanos_are c);
     }
 
 pub returns-then-x-2 : goal.returns-then-x-2
@@ -93,7 +93,7 @@ returns-then-x-2 c =
     let d = at.dyadic_of-p.result.digits in
     let b = c.pow2-b.result in
     let B = divides (goal.at.returns-then-x-2 c).After-pow2-b in
-    let v = subst (λ (n : ℕ). HasValue at.args.x false d n) (sym c.pow2-b.ensures) at.dyadic_of-p.ensures.fact_1 in
+    let v = subst (λ (n : ℕ). HasValue at.args.x false d n) (sym c.pow2-b.ensures) at.dyadic_of-p.ensures.value in
     ap Lasts
     (c.whole-then-x-2.ensures
     ∙ ap duration_at (ap (λ (n : ℕ). d / b * 1000000000 + n) (nanos_are (goal.at.returns-then-x-2 c).After-nanos-then-x-2) ∙ by_parts d b B ∙ by_value at.args.x d b B v))

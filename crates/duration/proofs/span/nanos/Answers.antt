@@ -10,29 +10,29 @@ use Rattle.duration.proofs.span.nanos.Goals as goal
 use Rattle.duration.proofs.span.nanos.Goals.{Start}
 
 record Divisor (r : ℕ) : Type 0 where
-  fact_1 : 0 < r
-  fact_2 : r ≤ 2 ^ 63
+  some : 0 < r
+  few : r ≤ 2 ^ 63
 
 divisor : (r k : ℕ) → k ≤ 63 → r ≡ 2 ^ k → Divisor r
-divisor r k h e = record { fact_1 = subst (λ (n : ℕ). 0 < n) (sym e) (pow_pos k); fact_2 = subst (λ (n : ℕ). n ≤ 2 ^ 63) (sym e) (pow_mono h) }
+divisor r k h e = record { some = subst (λ (n : ℕ). 0 < n) (sym e) (pow_pos k); few = subst (λ (n : ℕ). n ≤ 2 ^ 63) (sym e) (pow_mono h) }
 
 pub returns-then-f-eq0 : goal.returns-then-f-eq0
 returns-then-f-eq0 c = let a = c.args in omega (arith, closest_le (a.f * 1000000000) (2 ^ a.k) 0 (pow_pos a.k) (omega arith))
 
 pub overflow_mul-f : goal.overflow_mul-f
-overflow_mul-f c = let s = (goal.at.overflow_mul-f c).Start in let h : s.args.f < 2 ^ 32 = lt_of_lt_of_le s.requires.fact_1 (pow_mono c.if-k-le32.true) in omega arith
+overflow_mul-f c = let s = (goal.at.overflow_mul-f c).Start in let h : s.args.f < 2 ^ 32 = lt_of_lt_of_le s.requires.proper (pow_mono c.if-k-le32.true) in omega arith
 
 pub closest_div-requires : goal.closest_div-requires
-closest_div-requires c = let d = divisor c.pow2.result _ (omega arith) c.pow2.ensures in record { fact_1 = d.fact_1; fact_2 = d.fact_2 }
+closest_div-requires c = let d = divisor c.pow2.result _ (omega arith) c.pow2.ensures in record { some = d.some; few = d.few }
 
 pub returns-then-k-le32 : goal.returns-then-k-le32
 returns-then-k-le32 c = c.closest_div.ensures ∙ ap (closest (c.args.f * 1000000000)) c.pow2.ensures
 
 pub closest_div-requires-then-p-eq0 : goal.closest_div-requires-then-p-eq0
-closest_div-requires-then-p-eq0 c = let d = divisor c.pow2-b.result _ (omega arith) c.pow2-b.ensures in record { fact_1 = d.fact_1; fact_2 = d.fact_2 }
+closest_div-requires-then-p-eq0 c = let d = divisor c.pow2-b.result _ (omega arith) c.pow2-b.ensures in record { some = d.some; few = d.few }
 
 pub closest_div-requires-else-p-eq0 : goal.closest_div-requires-else-p-eq0
-closest_div-requires-else-p-eq0 c = let d = divisor c.pow2-b.result _ (omega arith) c.pow2-b.ensures in record { fact_1 = d.fact_1; fact_2 = d.fact_2 }
+closest_div-requires-else-p-eq0 c = let d = divisor c.pow2-b.result _ (omega arith) c.pow2-b.ensures in record { some = d.some; few = d.few }
 
 pub returns-then-p-eq0 : goal.returns-then-p-eq0
 returns-then-p-eq0 c =

@@ -9,7 +9,7 @@ abbrev span : ℕ → ℕ → Duration
 span s n = record { secs = s; nanos = n }
 
 pub overflow_add-result : goal.overflow_add-result
-overflow_add-result c = record { fits = c.requires.fact_2 c.if-n-eq-NANOS_A_SECOND.true }
+overflow_add-result c = record { fits = c.requires.fits c.if-n-eq-NANOS_A_SECOND.true }
 
 pub returns-then-n-eq-NANOS_A_SECOND : goal.returns-then-n-eq-NANOS_A_SECOND
 returns-then-n-eq-NANOS_A_SECOND c = ap₂ span (omega arith) (omega arith)
