@@ -40,14 +40,21 @@ fn link() {
 }
 
 /// The folder of the archive, and the command that makes it.
-fn archives() -> (PathBuf, &'static str) {
-    let (folder, command) = match &*variable("CARGO_CFG_TARGET_ARCH") {
-        "x86_64" => ("staticlib", "rt staticlib exports"),
-        _ => ("native", "tools/native-archive exports"),
+fn archives() -> (PathBuf, String) {
+    let processor = variable("CARGO_CFG_TARGET_ARCH");
+    let (folder, command) = match &*processor {
+        "x86_64" => (
+            "../../crates/exports/out".into(),
+            "cd crates/exports && rt lib --cpu x86-64".into(),
+        ),
+        other => (
+            format!("../../target/{other}"),
+            format!("tools/native-archive exports {other}"),
+        ),
     };
     println!("cargo:rerun-if-env-changed=SIMMERPATH_ARCHIVES");
     let named = env::var_os("SIMMERPATH_ARCHIVES").map(PathBuf::from);
-    let folder = named.unwrap_or_else(|| Path::new("../../target").join(folder));
+    let folder = named.unwrap_or_else(|| folder.into());
     (
         Path::new(&variable("CARGO_MANIFEST_DIR")).join(folder),
         command,

@@ -1,19 +1,20 @@
 // Prints the lexemes of the query on standard input, a line each, or the one line of its refusal.
 #![tactic(auto)]
 
-ghost use Rattle.std.specs.Prelude.{◌≡◌};
-ghost use Rattle.io.specs.Counts.{IsPrefixLen};
+ghost use Rattle.std.specs.Prelude.{◌≡◌, ◌≤◌, length, take};
 ghost use Rattle.writing.specs.Put.{put_at, past_at};
 ghost use Rattle.listing.specs.Listing.{printed};
 
-use libc::{STDIN_FILENO, STDOUT_FILENO};
+use std::io;
+use std::io::{Read, Write};
 
 // One byte more than is taken is read, to know that an input is too long.
 const MOST_READ: usize = listing::INPUT_LIMIT + 1;
 
 // Writes what is printed of a query at the front of `out` where it fits, and says how long that is.
 fn list(query: &[u8], out: &mut [u8]) -> usize
-    ensures prefix_len { IsPrefixLen result out.new }
+    ensures in_bounds { result ≤ length out.new }
+    ensures prefix_len { result ≡ length (take result out.new) }
     ensures value { result ≡ past_at out.old 0 (printed query.now) }
     ensures out_after { out.new ≡ put_at out.old 0 (printed query.now) }
 {
@@ -21,10 +22,10 @@ fn list(query: &[u8], out: &mut [u8]) -> usize
 }
 
 // Reads the query, and prints what is to be said of it.
-fn main() {
-    let mut input = [0u8; MOST_READ];
-    let n = io::read_full(STDIN_FILENO, &mut input);
+fn main(rt: HostRuntime) -> io::Result<()> {
+    let mut input = Vec::new(rt.alloc());
+    rt.stdin().take(MOST_READ as u64).read_to_end(&mut input)?;
     let mut text = [0u8; listing::ROOM];
-    let end = list(&input[..n], &mut text);
-    io::write_all(STDOUT_FILENO, &text[..end]);
+    let end = list(&input, &mut text);
+    rt.stdout().write_all(&text[..end])
 }
