@@ -23,9 +23,17 @@ fn list(query: &[u8], out: &mut [u8]) -> usize
 
 // Reads the query, and prints what is to be said of it.
 fn main(rt: HostRuntime) -> io::Result<()> {
-    let mut input = Vec::new(rt.alloc());
-    rt.stdin().take(MOST_READ as u64).read_to_end(&mut input)?;
+    let mut input = [0u8; MOST_READ];
+    let mut stdin = rt.stdin();
+    let mut n = 0;
+    for _ in 0..MOST_READ {
+        let read = stdin.read(&mut input[n..])?;
+        if read == 0 {
+            break;
+        }
+        n += read;
+    }
     let mut text = [0u8; listing::ROOM];
-    let end = list(&input, &mut text);
+    let end = list(&input[..n], &mut text);
     rt.stdout().write_all(&text[..end])
 }
