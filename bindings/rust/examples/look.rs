@@ -5,7 +5,7 @@
 //! is accepted: why the word has its kind.
 
 use simmerpath::token::*;
-use simmerpath::{pieces, word_reason, Error, Lexeme, Piece, Reading};
+use simmerpath::{word_reason, Error, Lexeme, Reading};
 use std::env;
 use std::io::{self, BufRead, Write};
 use std::process::ExitCode;
@@ -119,10 +119,16 @@ fn show_all(options: &Options) -> io::Result<()> {
     out.flush()
 }
 
-/// A query with its pieces in their colours.
+/// A query with its lexemes in their colours, and what stands between them in that of a comment.
 fn accepted(query: &str, lexemes: &[Lexeme], coloured: bool) -> String {
-    let shown = |piece: Piece| painted(piece.text(query), piece_colour(&piece), coloured);
-    pieces(query, lexemes).map(shown).collect::<String>() + "\n"
+    let mut shown = String::new();
+    let mut end = 0;
+    for lexeme in lexemes {
+        shown += &painted(&query[end..lexeme.start], COMMENT, coloured);
+        shown += &painted(lexeme.text(query), colour(lexeme), coloured);
+        end = lexeme.range().end;
+    }
+    shown + "\n"
 }
 
 /// A line for each word of a query: why it has its kind; nothing where that is not asked for.
@@ -143,14 +149,6 @@ fn refused(query: &str, error: Error, coloured: bool) -> String {
     let reason = painted(&format!("{caret}{error}"), REFUSAL, coloured);
     let indent = " ".repeat(error.character());
     format!("{}\n{indent}{reason}\n", visible(query))
-}
-
-/// The colour of a piece. White space has that of a comment, for the pictures in it.
-fn piece_colour(piece: &Piece) -> &'static str {
-    match piece {
-        Piece::Lexeme(lexeme) => colour(lexeme),
-        Piece::Space(_) | Piece::Comment(_) => COMMENT,
-    }
 }
 
 /// The colour of a lexeme.
