@@ -1,5 +1,5 @@
 -- The five wrong programs that document 01 names under "What the promises owe", each at a named input: what it would answer, or leave in the lists,
--- contradicts the promise of `lexer`, since a call that keeps it gives the lexemes of the table (`all-called`).
+-- contradicts the promise of `lexer`, since a call that keeps it gives the lexemes of the table (`all_called`).
 use Prim.Native.Nat.{ℕ, ◌≤◌}
 use native.Mathlib.Omega.{arith}
 use mathlib.Core.List.{List, [], ◌∷◌}

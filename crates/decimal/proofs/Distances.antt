@@ -1,5 +1,5 @@
--- No f64 is nearer. Counted in the least unit of an f64, rounding takes the nearest multiple of a power of two (`closest-near`); every f64 is
--- such a multiple, or else lies below one that the value has reached (`near-units`). The exact range lies far below where rounding overflows.
+-- No f64 is nearer. Counted in the least unit of an f64, rounding takes the nearest multiple of a power of two (`closest_near`); every f64 is
+-- such a multiple, or else lies below one that the value has reached (`near_units`). The exact range lies far below where rounding overflows.
 use Prim.Native.Nat.{ℕ, zero, suc, ◌+◌, ◌-◌, ◌*◌, ◌/◌, ◌%◌, ◌^◌, ◌≤◌, ◌<◌, compare, Ordering}
 use native.Mathlib.Decide.{dec_le, ℕ_discrete}
 use native.Mathlib.Nat.{add-mul, suc-mul, mul_assoc, mul_comm, mul_right_comm, mul-one, zero-mul, mul-pos, mul-sub, mul-le-mul, mul-le-mul_left, mul-le-mul_right, le_of_mul-le-mul_right, le-div_iff_mul-le, div-add-mod', mod-lt, pow-le-pow_right, le_of_eq, le_trans}

@@ -1,7 +1,7 @@
--- A mode tells what is open where the reading reaches it: by the steps that it is reached in. A lexeme does to the mode what its kind says (`step-does`), and is
--- the one kind more before the next place; white space and comments do nothing but that brackets are no longer just opened (`step-leads`). A lexeme has
+-- A mode tells what is open where the reading reaches it: by the steps that it is reached in. A lexeme does to the mode what its kind says (`step_does`), and is
+-- the one kind more before the next place; white space and comments do nothing but that brackets are no longer just opened (`step_leads`). A lexeme has
 -- one byte at least and opens one parenthesis at most, so that the count of them is within that of the bytes. In brackets no step but the one that opens
--- them ends in `[`: not the colon, nor white space, nor a number or a duration (`brackets-hold`, `none_apart`).
+-- them ends in `[`: not the colon, nor white space, nor a number or a duration (`brackets_hold`, `none_apart`).
 use Prim.Native.Nat.{ℕ, pred, ◌+◌, ◌≤◌, ◌<◌}
 use Prim.Native.Char.{code}
 use native.Mathlib.Omega.{arith}

@@ -1,4 +1,4 @@
--- From a place that the reading reaches to the next: the lexemes between the two, of which there is one at most, are added to those before (`entries-divided`).
+-- From a place that the reading reaches to the next: the lexemes between the two, of which there is one at most, are added to those before (`entries_divided`).
 use Prim.Native.Nat.{ℕ, ◌+◌, ◌≤◌, ◌<◌}
 use native.Mathlib.Omega.{arith}
 use mathlib.Core.List.{List, [], ◌∷◌, ◌++◌, map, append-nil}

@@ -1,4 +1,4 @@
--- The rows by what their modes tell (`mode-tells`): each stands at the offset that the reading has come to, so that what is said of the mode there is said of
+-- The rows by what their modes tell (`mode_tells`): each stands at the offset that the reading has come to, so that what is said of the mode there is said of
 -- the kinds and the byte before it. Brackets that were just opened have no colon (`unseen`).
 use Prim.Native.Nat.{ℕ, pred, ◌≤◌, ◌<◌}
 use native.Mathlib.Nat.{add-zero}

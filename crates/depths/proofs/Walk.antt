@@ -1,6 +1,6 @@
 -- Reading keeps count: `Walk` says of what comes of a query, with so many parentheses open, that each `(` opens one more and each `)` closes one, that no other
--- lexeme does, that each depth is its count, and that none is open at the end. So it is from any offset on, step by step (`step-does`): no more are open than
--- bytes were read, so that the counter's bound is not met, and reading ends only outside all (`step-goes`).
+-- lexeme does, that each depth is its count, and that none is open at the end. So it is from any offset on, step by step (`step_does`): no more are open than
+-- bytes were read, so that the counter's bound is not met, and reading ends only outside all (`step_goes`).
 use Prim.Native.Nat.{ℕ, zero, suc, ◌+◌, ◌<◌, ◌≤◌}
 use native.Mathlib.Omega.{arith}
 use mathlib.Core.Bool.{false, true≢false}

@@ -1,6 +1,6 @@
--- What is written of a duration reads back, in both readings. It is a unit text whose numbers are no greater than the days (`days-few`), so that
+-- What is written of a duration reads back, in both readings. It is a unit text whose numbers are no greater than the days (`days_few`), so that
 -- each counts, and none is refused; it is ASCII and short; and it is no decimal, since a letter follows its first digits that no decimal has
--- there (`no-decimal`).
+-- there (`no_decimal`).
 use Prim.Native.Nat.{ℕ, suc, ◌/◌, ◌%◌, ◌≤◌}
 use Prim.Native.Char.{code}
 use native.Mathlib.Omega.{arith}

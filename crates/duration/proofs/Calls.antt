@@ -1,5 +1,5 @@
 -- The round trip, said of the calls: whatever answers and contents their promises allow. What `display_duration` wrote is the text of the duration,
--- which both readings read back (`reads-again`).
+-- which both readings read back (`reads_again`).
 use Prim.Native.Nat.{ℕ, ◌≤◌}
 use native.Mathlib.Omega.{arith}
 use mathlib.Core.List.{List, ◌++◌}

@@ -1,5 +1,5 @@
 -- How the exact reading stands to the present one: they part where a text is refused with 55, and nowhere else (`parted`). A text with a part above
--- 4,294,967,295 is one that counts a part as nothing, since every unit has some milliseconds (`total-less`).
+-- 4,294,967,295 is one that counts a part as nothing, since every unit has some milliseconds (`total_less`).
 use Prim.Native.Nat.{ℕ, ◌<◌, ◌≤◌}
 use native.Mathlib.Nat.{mul-le-mul_right}
 use native.Mathlib.Decide.{dec_lt}

@@ -1,5 +1,5 @@
 -- When each answer is given: of any text one of the nine rows holds, which gives its own answer, and no two rows give the same (`exactly`).
--- The conditions of a decimal are read off its own theorem (`decimal-given`), those of unit texts off the tests.
+-- The conditions of a decimal are read off its own theorem (`decimal_given`), those of unit texts off the tests.
 use Prim.Native.Nat.{ℕ, ◌*◌, ◌/◌, ◌%◌, ◌≤◌}
 use native.Mathlib.Decide.{dec_lt, ℕ_discrete}
 use native.Mathlib.Omega.{arith}

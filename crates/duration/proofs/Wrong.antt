@@ -1,5 +1,5 @@
 -- The answer that the promise leaves at a telling input: a program that answers otherwise there, as the theorem's name says, cannot be
--- proved. `parse-duration-gives` is what the promise answers at a text, which is the definition's value there.
+-- proved. `parse_duration_gives` is what the promise answers at a text, which is the definition's value there.
 use Prim.Native.Nat.{ℕ}
 use mathlib.Core.List.{List, []}
 use mathlib.Core.Path.{◌≡◌, refl, ap, ◌∙◌}

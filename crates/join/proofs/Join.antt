@@ -1,4 +1,4 @@
--- Demand 3. What comes of the joined query is the first's lexemes and what comes of the second moved along (`read-joined`), so its lexemes and their
+-- Demand 3. What comes of the joined query is the first's lexemes and what comes of the second moved along (`read_joined`), so its lexemes and their
 -- count follow. What is before the second query is text, the newline too: so the join is text where the second query is, and else its text
 -- ends where the second query's does, moved along; and so do the character numbers of places.
 use Prim.Native.Nat.{ℕ, suc, pred, ◌+◌, ◌≤◌}

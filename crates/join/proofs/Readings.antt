@@ -1,5 +1,5 @@
 -- The reading of two queries with a newline between, the first of them accepted: the first's lexemes, and then the second's reading, moved
--- along. A step of the first is what it was before the newline came (`step-seam`), but for a comment that takes the newline in, behind which
+-- along. A step of the first is what it was before the newline came (`step_seam`), but for a comment that takes the newline in, behind which
 -- the second query begins, and for a fill word, which would be the last lexeme. At the first's end the newline is a step of white space.
 use Prim.Native.Nat.{ℕ, zero, suc, ◌+◌, ◌<◌, ◌≤◌}
 use Prim.Native.Char.{code}

@@ -1,5 +1,5 @@
 -- The lexemes of a query before a place that the reading reaches, and those behind it: by the steps that it is reached in. Each adds its lexeme, if it is one, to
--- those before (`steps-at`), and takes one byte at least (`goes_at`); what steps say from an offset on begins there or later, since offsets grow alone.
+-- those before (`steps_at`), and takes one byte at least (`goes_at`); what steps say from an offset on begins there or later, since offsets grow alone.
 use Prim.Native.Nat.{ℕ, ◌+◌, ◌≤◌}
 use native.Mathlib.Omega.{arith}
 use mathlib.Core.List.{List, [], ◌∷◌, ◌++◌, append_assoc}

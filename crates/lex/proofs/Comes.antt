@@ -1,4 +1,4 @@
--- Each lexeme of a query is a step that reading makes: by the steps of a query one at a time (`steps-at`), from an offset that it reaches on. What is left gets
+-- Each lexeme of a query is a step that reading makes: by the steps of a query one at a time (`steps_at`), from an offset that it reaches on. What is left gets
 -- shorter with each.
 use Prim.Native.Nat.{ℕ, zero, suc, ◌+◌, ◌<◌, ◌≤◌}
 use native.Mathlib.Omega.{arith}

@@ -1,4 +1,4 @@
--- The parentheses that are open behind a step, by what its lexeme does to them (`step-does`): one more at most. So a lexeme's depth is the lesser of those before
+-- The parentheses that are open behind a step, by what its lexeme does to them (`step_does`): one more at most. So a lexeme's depth is the lesser of those before
 -- it and behind it.
 use Prim.Native.Nat.{ℕ, ◌+◌, ◌≤◌, ◌<◌, min}
 use native.Mathlib.Omega.{arith}

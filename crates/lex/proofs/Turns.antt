@@ -1,4 +1,4 @@
--- A turn of a pass: the step at an offset has its share of what is still to come (`steps-at`), so that from behind it all ends as it would have from
+-- A turn of a pass: the step at an offset has its share of what is still to come (`steps_at`), so that from behind it all ends as it would have from
 -- before it; and it goes on by one byte at least, within the query (`goes_at`).
 use Prim.Native.Nat.{ℕ, ◌+◌, ◌≤◌, ◌<◌, min}
 use native.Mathlib.Omega.{arith}

@@ -1,5 +1,5 @@
 -- The program never lacks room: a query has no more lexemes than bytes, and its end and the numbers of each have the bits of their lists (lex's
--- `entries-within`), and so no lexeme and no refusal is longer than its room (`lexeme-few`, `refused-few`).
+-- `entries_within`), and so no lexeme and no refusal is longer than its room (`lexeme_few`, `refused_few`).
 use Prim.Native.Nat.{ℕ, ◌*◌, ◌≤◌}
 use native.Mathlib.Omega.{arith}
 use mathlib.Core.List.{List, [], ◌∷◌}

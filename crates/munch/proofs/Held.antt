@@ -1,4 +1,4 @@
--- What brackets hold, by the rows of their table: where a digit stands, a lexeme is a number or a duration (`number-given`, `duration-given`), and the
+-- What brackets hold, by the rows of their table: where a digit stands, a lexeme is a number or a duration (`number_given`, `duration_given`), and the
 -- others make none but the colon and the `]`.
 use Prim.Native.Nat.{ℕ}
 use mathlib.Core.Bool.{Bool, true}

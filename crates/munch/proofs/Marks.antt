@@ -1,5 +1,5 @@
 -- What a step does to what is open, by the rows of the table that is for the place: the row of a mark's byte makes its lexeme, and the others make none that
--- has a mark's kind, since a word has none (`no-mark`). White space does as the other lexemes do, and the end is come to outside.
+-- has a mark's kind, since a word has none (`no_mark`). White space does as the other lexemes do, and the end is come to outside.
 use Prim.Native.Nat.{ℕ, suc, ◌-◌}
 use Prim.Native.Char.{code}
 use native.Mathlib.Omega.{arith}

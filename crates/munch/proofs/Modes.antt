@@ -1,4 +1,4 @@
--- Where a step leads, by what it does to what is open (`does-of`).
+-- Where a step leads, by what it does to what is open (`does_of`).
 use Prim.Native.Nat.{ℕ}
 use mathlib.Core.Bool.{true}
 use mathlib.Core.List.{List}

@@ -1,5 +1,5 @@
 -- A step by the table of leads, and outside by that of the words, is the step: by the classes and the signs in the order of `lead_of`. Each class
--- has its row (`word-by-tables` has the words), a sign's row is that of its byte, and what is left is looked for in rows that the tables share.
+-- has its row (`word_by_tables` has the words), a sign's row is that of its byte, and what is left is looked for in rows that the tables share.
 use Prim.Native.Nat.{ℕ}
 use Prim.Native.Char.{code}
 use mathlib.Core.Bool.{true, false}

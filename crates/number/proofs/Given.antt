@@ -1,5 +1,5 @@
 -- When each answer is given: of any text one of the six rows holds, which gives its own answer, and no two rows give the same
--- (`exactly`). The conditions are read off the tests, and those of a decimal off its own theorem (`decimal-given`).
+-- (`exactly`). The conditions are read off the tests, and those of a decimal off its own theorem (`decimal_given`).
 use Rattle.std.proofs.Common.{◌≡◌, ℕ, ◌≤◌, Bool, true, false, cond, ◌&&◌, eqb, ◌⊎◌, ◌↔◌, List, [], ◌∷◌, length, sym, refl, ap, ◌∙◌, inl, inr, ⊎_elim, true≢false, arith}
 use Prim.Native.Char.{code}
 use native.Mathlib.Decide.{dec_lt, ℕ_discrete}

@@ -1,5 +1,5 @@
 -- The answer that the promise leaves at a telling input: a program that answers otherwise there, as the theorem's name says, cannot be
--- proved. `parse-str-radix-gives` is what the promise answers at a text, which is the definition's value there.
+-- proved. `parse_str_radix_gives` is what the promise answers at a text, which is the definition's value there.
 use Rattle.std.proofs.Common.{◌≡◌, ℕ, true, false, List, ◌∷◌, pos, ap, ◌∙◌, ap₂}
 use lib.Count.{count_trailing_zeros}
 use lib.Ieee.{Float, fin, inf, round, size, span, climb, units, odd, of_int}

@@ -1,6 +1,6 @@
 -- The query goes on with a number, a duration or neither exactly when the documents' sentences say so. All rests on the longest number text there
--- (`number-longest`) and on what is read behind it (`reading-path`): what is taken in all is the longest number text, or text that a duration begins
--- with (`taken-longest`). A longer one would have a unit behind that number text (`beyond`): if its own number is shorter, it goes on with
+-- (`number_longest`) and on what is read behind it (`reading_path`): what is taken in all is the longest number text, or text that a duration begins
+-- with (`taken_longest`). A longer one would have a unit behind that number text (`beyond`): if its own number is shorter, it goes on with
 -- digits and letters that are digits of a hex number too, and with the byte behind them as with a unit.
 use Prim.Native.Nat.{ℕ, suc, ◌+◌, ◌-◌, ◌<◌, ◌≤◌}
 use Prim.Native.Char.{code}

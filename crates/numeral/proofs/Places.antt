@@ -1,4 +1,4 @@
--- What is taken of bytes, and so where 20 stands. It is the longest number text there, or text that a duration begins with (`taken-longest`). A
+-- What is taken of bytes, and so where 20 stands. It is the longest number text there, or text that a duration begins with (`taken_longest`). A
 -- longer one would have a unit behind the longest number text (`beyond`): if its own number is shorter, it goes on with digits and letters that
 -- are digits of a hex number too, and with the byte behind them as with a unit. A text that a number begins with is a number text itself, but where it
 -- ends with a separator; so the longest such text is no longer, where no separator stands behind what is taken.

@@ -1,5 +1,5 @@
 -- A number is the longest number text that the bytes begin with: each of its parts is read greedily, and none begins with a byte that the part before
--- it could have taken (`then-greedy`). Of a hex number no exponent is read, since the byte behind its digits is no hex digit and so no e.
+-- it could have taken (`then_greedy`). Of a hex number no exponent is read, since the byte behind its digits is no hex digit and so no e.
 use Prim.Native.Nat.{ℕ, suc, ◌+◌, ◌≤◌}
 use Prim.Native.Char.{code}
 use native.Mathlib.Nat.{zero-add, add-zero}

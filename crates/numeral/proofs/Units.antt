@@ -1,6 +1,6 @@
 -- The units of a duration, byte by byte: `Path p t` says that each byte of t goes on with a duration that was read through to p, and that it may end
--- behind them. These are the texts of the grammar (`units-path`, `path-units`), and what reading takes begins one, and is the longest text there
--- that does (`reading-path`).
+-- behind them. These are the texts of the grammar (`units_path`, `path_units`), and what reading takes begins one, and is the longest text there
+-- that does (`reading_path`).
 use Prim.Native.Nat.{ℕ, suc, ◌+◌, ◌<◌, ◌≤◌}
 use Prim.Native.Char.{code}
 use native.Mathlib.Nat.{add-zero}

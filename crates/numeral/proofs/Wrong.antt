@@ -1,5 +1,5 @@
 -- The answer that the promise leaves at a telling input: a program that answers otherwise there, as the theorem's name says, cannot be
--- proved. `scan-number-gives` is what the promise answers at bytes, which is the definition's value there.
+-- proved. `scan_number_gives` is what the promise answers at bytes, which is the definition's value there.
 use Prim.Native.Nat.{ℕ}
 use mathlib.Core.List.{List}
 use mathlib.Core.Path.{◌≡◌, ap, ap₂, ◌∙◌}

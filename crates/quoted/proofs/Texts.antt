@@ -1,4 +1,4 @@
--- Reading goes through the content of a string piece by piece (`content-read`), and what it comes to then is the sign, an escape that is none, or the
+-- Reading goes through the content of a string piece by piece (`content_read`), and what it comes to then is the sign, an escape that is none, or the
 -- end (`way`). So each answer is given exactly when the bytes are so put together.
 use Prim.Native.Nat.{ℕ, ◌+◌}
 use native.Mathlib.Nat.{add-zero, zero-add}

@@ -1,4 +1,4 @@
--- Reasons and refusals are small: a refusal of lexing's is that of any room (`lexing-bounded`), and the others have no place.
+-- Reasons and refusals are small: a refusal of lexing's is that of any room (`lexing_bounded`), and the others have no place.
 use Prim.Native.Nat.{ℕ}
 use native.Mathlib.Omega.{arith}
 use mathlib.Core.List.{List}

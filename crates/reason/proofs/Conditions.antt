@@ -1,6 +1,6 @@
 -- At most one reason holds of a lexeme: the seven conditions are the ends of a tree of choices (`Way`), in braces or not, a word of the table or not, and so on,
--- and where a choice is made one way it is not made the other (`split`). A fill word is a word of the table (`fill-in-table`), and one with a colon is none
--- (`colon-in-none`).
+-- and where a choice is made one way it is not made the other (`split`). A fill word is a word of the table (`fill_in_table`), and one with a colon is none
+-- (`colon_in_none`).
 use Prim.Native.Nat.{ℕ, suc}
 use native.Mathlib.Omega.{arith}
 use mathlib.Core.List.{List}

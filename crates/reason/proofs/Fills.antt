@@ -1,5 +1,5 @@
 -- A word of the table is a fill word by its kind exactly where it is one by its text: the texts of the table are ASCII, so that a word is looked for by its bytes
--- (`by_bytes` of utf8), and in each row the kind is a fill word's where the text is one (`each-agrees`).
+-- (`by_bytes` of utf8), and in each row the kind is a fill word's where the text is one (`each_agrees`).
 use Prim.Native.Nat.{ℕ, ◌<◌}
 use mathlib.Core.Bool.{Bool, true, false, cond, not, ◌&&◌, ◌||◌, true≢false}
 use mathlib.Core.List.{List, [], ◌∷◌, map}

@@ -1,4 +1,4 @@
--- The search finds the lexeme of a number: by the steps of a query one at a time (`steps-at`), from a place that the reading reaches on. The count goes up with
+-- The search finds the lexeme of a number: by the steps of a query one at a time (`steps_at`), from a place that the reading reaches on. The count goes up with
 -- each lexeme, and each is one of the list. The last of them, EOF, is no step's, so that nothing is found for its number.
 use Prim.Native.Nat.{ℕ, zero, suc, ◌+◌, ◌<◌, ◌≤◌}
 use native.Mathlib.Nat.{add-zero, zero-add, le_of_suc-le-suc}

@@ -1,6 +1,6 @@
 -- The rule that lexing takes for a word is the condition that holds of it: where a word begins, the step is the word's (the first row of each table), so that its
 -- kind is the rule's, and each test of the rule tells its condition. Where none begins, no condition holds, since each asks for a word. What is open is told by the
--- mode that the lexeme's place is reached in (`mode-tells`).
+-- mode that the lexeme's place is reached in (`mode_tells`).
 use Prim.Native.Nat.{ℕ, suc, ◌+◌, ◌-◌, ◌≤◌, ◌<◌}
 use Prim.Native.Char.{code}
 use native.Mathlib.Decide.{dec_lt}

@@ -1,5 +1,5 @@
 -- A turn of the search: the lexeme that is looked for is the one found before, or stands from here on; and the count is that of the whole. A step is the first of
--- those from its offset on (`steps-at`), and goes on by one byte at least, within the query (`goes_at`).
+-- those from its offset on (`steps_at`), and goes on by one byte at least, within the query (`goes_at`).
 use Prim.Native.Nat.{ℕ, ◌+◌, ◌≤◌}
 use native.Mathlib.Omega.{arith}
 use mathlib.Core.List.{List}

@@ -1,6 +1,6 @@
 -- Reading a text of a set greedily. Where no text of a second set begins with a byte that the first could have gone on with, reading the one and
--- then the other is greedy again (`then-greedy`): a shorter first text leaves nothing for the second. A text put together may be cut where its parts
--- may (`then-cut`), since a cut falls into one of them.
+-- then the other is greedy again (`then_greedy`): a shorter first text leaves nothing for the second. A text put together may be cut where its parts
+-- may (`then_cut`), since a cut falls into one of them.
 use Prim.Native.Nat.{ℕ, zero, suc, ◌+◌, ◌<◌, ◌≤◌}
 use native.Mathlib.Nat.{zero-add, suc-add, not-suc-le-zero}
 use native.Mathlib.Omega.{arith}

@@ -1,5 +1,5 @@
 -- What each answer of reading a literal tells: what is not taken up is refused first, then a bad literal, then what has no room; and a
--- literal stands for no more bytes than it has (`bytes-few`).
+-- literal stands for no more bytes than it has (`bytes_few`).
 use Prim.Native.Nat.{ℕ}
 use native.Mathlib.Omega.{arith}
 use mathlib.Core.Bool.{Bool, true, false, cond}

@@ -1,5 +1,5 @@
--- What was read before a bare sign or a bad escape is good: a tile looks at no byte behind its own (`tile-front`), so those that were read are the
--- tiles of the part by itself (`reads-front`), and none is bad. It ends before an ASCII byte, so it is text.
+-- What was read before a bare sign or a bad escape is good: a tile looks at no byte behind its own (`tile_front`), so those that were read are the
+-- tiles of the part by itself (`reads_front`), and none is bad. It ends before an ASCII byte, so it is text.
 use Prim.Native.Nat.{ℕ, zero, suc, ◌+◌, ◌*◌, ◌-◌, ◌<◌, ◌≤◌}
 use native.Mathlib.Nat.{add-zero, sub-zero, zero-sub, suc-sub-suc}
 use native.Mathlib.Omega.{arith}

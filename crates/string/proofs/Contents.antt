@@ -1,5 +1,5 @@
 -- Laws of the tiles of a content, from a place on: the first of them, and those from behind it on. A tile takes some of the bytes that are
--- there and gives no more than it takes (`each-fair`), so both passes end, and what they count fits.
+-- there and gives no more than it takes (`each_fair`), so both passes end, and what they count fits.
 use Prim.Native.Nat.{ℕ, zero, suc, pred, ◌+◌, ◌-◌, ◌<◌, ◌≤◌}
 use native.Mathlib.Nat.{add-zero}
 use native.Mathlib.Omega.{arith}

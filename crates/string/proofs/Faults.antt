@@ -1,5 +1,5 @@
 -- Where a literal goes wrong, by document 02's six cases: each tells which of them it is by the tests, and the offset that these lead to (`tells`),
--- so no two hold; and a bad literal is so in one of them (`faults-bad`).
+-- so no two hold; and a bad literal is so in one of them (`faults_bad`).
 use Prim.Native.Nat.{ℕ, zero, suc, ◌-◌, ◌<◌}
 use native.Mathlib.Decide.{dec_lt, ℕ_discrete}
 use native.Mathlib.Omega.{arith}

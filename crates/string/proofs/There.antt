@@ -1,5 +1,5 @@
 -- Where the first bad tile of a text stands. Reading comes to where the good ones end (`comes`), since behind a good tile there is text
--- (`text-behind`); so the first bad one stands where a character begins, and is bad for the sign or the escape (`bad-when`). Wherever reading
+-- (`text_behind`); so the first bad one stands where a character begins, and is bad for the sign or the escape (`bad_when`). Wherever reading
 -- comes, the tiles from there on are bad where one is, and the good ones before have passed (`reads_over`).
 use Prim.Native.Nat.{ℕ, ◌+◌, ◌<◌, ◌≤◌}
 use native.Mathlib.Nat.{zero-add, add-zero, add_assoc}

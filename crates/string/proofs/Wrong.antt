@@ -1,5 +1,5 @@
 -- The answer, the content of the buffer and the text handed back that each promise leaves at a telling input: a program that does
--- otherwise there, as the theorem's name says, cannot be proved. A theorem computes with the definitions that `unquote-string-at` unfolds.
+-- otherwise there, as the theorem's name says, cannot be proved. A theorem computes with the definitions that `unquote_string_at` unfolds.
 use Prim.Native.Nat.{ℕ}
 use Prim.Native.Char.{code}
 use native.Mathlib.Omega.{arith}

@@ -1,5 +1,5 @@
 -- The laws of cuts: at a character's start bytes part into the characters before it and those from it on, and in a well-formed text a
--- character starts wherever no byte stands that goes on with one. They go by the characters of the text (`by-characters`).
+-- character starts wherever no byte stands that goes on with one. They go by the characters of the text (`by_characters`).
 use Prim.Native.Nat.{ℕ, zero, suc, ◌+◌, ◌-◌, ◌<◌, ◌≤◌, min}
 use native.Mathlib.Decide.{dec_le}
 use native.Mathlib.Nat.{add-zero}

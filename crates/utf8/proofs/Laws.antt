@@ -1,5 +1,5 @@
 -- The laws of steps, of ASCII bytes and of joins. What holds of each byte of a character is read off the table's rows by one computed
--- test; joins go by the characters of the first text (`by-characters`).
+-- test; joins go by the characters of the first text (`by_characters`).
 use Prim.Native.Nat.{ℕ, zero, suc, ◌+◌, ◌-◌, ◌<◌, ◌≤◌}
 use native.Mathlib.Nat.{zero-add}
 use native.Mathlib.Omega.{arith}

@@ -1,5 +1,5 @@
 -- Texts by their characters: any bytes are no character's start, or the bytes of one character and a rest. What holds of the first
--- and goes over from a rest to the whole holds of any bytes (`by-characters`); the laws of joins and cuts are proved by that.
+-- and goes over from a rest to the whole holds of any bytes (`by_characters`); the laws of joins and cuts are proved by that.
 use Prim.Native.Nat.{ℕ, zero, suc, ◌-◌, ◌<◌, ◌≤◌}
 use native.Mathlib.Omega.{arith}
 use mathlib.Core.Bool.{Bool, true, false, cond, ◌&&◌}

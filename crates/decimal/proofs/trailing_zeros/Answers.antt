@@ -1,4 +1,4 @@
--- Where the digits behind the point are all zeros those before it count on (`trailing-join`).
+-- Where the digits behind the point are all zeros those before it count on (`trailing_join`).
 use Prim.Native.Nat.{ℕ, ◌+◌}
 use native.Mathlib.Omega.{arith}
 use mathlib.Core.Bool.{Bool, true, false}

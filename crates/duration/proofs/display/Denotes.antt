@@ -1,4 +1,4 @@
--- What is written denotes the milliseconds again. It is a unit text, part by part (`written-spelt`): a part's number times its unit and what the
+-- What is written denotes the milliseconds again. It is a unit text, part by part (`written_spelt`): a part's number times its unit and what the
 -- rest denotes are the milliseconds, and nothing is left at the end since the last unit is one millisecond. Its numbers are no greater than how
 -- many there are of the units in the milliseconds that are left for them.
 use Prim.Native.Nat.{ℕ, ◌*◌, ◌/◌, ◌%◌, ◌<◌, ◌≤◌}

@@ -1,4 +1,4 @@
--- A text that fits is stored as it is put, and what is stored in two parts is stored one after the other (`sets-join`).
+-- A text that fits is stored as it is put, and what is stored in two parts is stored one after the other (`sets_join`).
 use Prim.Native.Nat.{ℕ, ◌+◌, ◌≤◌}
 use native.Mathlib.Omega.{arith}
 use mathlib.Core.Bool.{true, false}

@@ -1,5 +1,5 @@
 -- The answer that the promise leaves at a telling input, and the content of the buffer: a program that answers or writes otherwise there, as
--- the theorem's name says, cannot be proved. `display-duration-gives` is what the promise answers at arguments, which is the definition's value.
+-- the theorem's name says, cannot be proved. `display_duration_gives` is what the promise answers at arguments, which is the definition's value.
 use Prim.Native.Nat.{ℕ}
 use mathlib.Core.List.{List}
 use mathlib.Core.Path.{◌≡◌}

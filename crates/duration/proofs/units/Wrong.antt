@@ -1,5 +1,5 @@
 -- The answer that the promise leaves at a telling input: a program that answers otherwise there, as the theorem's name says, cannot be
--- proved. `read-units-gives` is what the promise answers at a text, which is the definition's value there.
+-- proved. `read_units_gives` is what the promise answers at a text, which is the definition's value there.
 use Prim.Native.Nat.{ℕ}
 use mathlib.Core.Bool.{true, false}
 use mathlib.Core.List.{List, []}

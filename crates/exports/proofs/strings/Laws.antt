@@ -1,5 +1,5 @@
 -- The laws of strings in `specs/laws/Codes`: an accepted answer is at most twice a text's bytes, well below bit 63, and one for a text in the
--- buffer below bit 32; a refusal is that of a text which is not taken up (`validate-kept`), or 40 at an offset of the literal, or 3, by what
+-- buffer below bit 32; a refusal is that of a text which is not taken up (`validate_kept`), or 40 at an offset of the literal, or 3, by what
 -- the answers of `string` tell.
 use Prim.Native.Nat.{◌≤◌}
 use native.Mathlib.Omega.{arith}

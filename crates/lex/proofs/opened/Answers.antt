@@ -1,5 +1,5 @@
 -- A turn has its step's share of what is still to come (`Turns`). In braces and brackets no parenthesis opens or closes, and behind a lexeme they are closed or still
--- open, with their colon or without (`step-leads`).
+-- open, with their colon or without (`step_leads`).
 use Prim.Native.Nat.{ℕ, ◌+◌, ◌≤◌}
 use native.Mathlib.Omega.{arith}
 use mathlib.Core.Bool.{Bool, true, false}

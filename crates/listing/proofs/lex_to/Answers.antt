@@ -1,4 +1,4 @@
--- The arms are those of the definition. The first entries of the four lists are the lexemes (`lists-hold`), and a refusal is short.
+-- The arms are those of the definition. The first entries of the four lists are the lexemes (`lists_hold`), and a refusal is short.
 use Rattle.listing.proofs.Puts.{puts}
 use Rattle.listing.proofs.Few.{refused_few}
 use Rattle.listing.proofs.Lexemes.{lists_hold}

@@ -1,4 +1,4 @@
--- The tables are those of document 01 (`outside-by-tables`, `braces-by-table`); the arms are those of the definition.
+-- The tables are those of document 01 (`outside_by_tables`, `braces_by_table`); the arms are those of the definition.
 use mathlib.Core.Path.{◌∙◌}
 use Rattle.munch.specs.Munch.{munched}
 use Rattle.munch.proofs.Tables.{outside_by_tables, braces_by_table}

@@ -1,4 +1,4 @@
--- The kind that a rule gives a word is the word's own (`keyword-fits` of token), or one that the rule names: so it has 16 bits, and is no mark's.
+-- The kind that a rule gives a word is the word's own (`keyword_fits` of token), or one that the rule names: so it has 16 bits, and is no mark's.
 use Prim.Native.Nat.{ℕ, ◌^◌, ◌≤◌, ◌<◌}
 use native.Mathlib.Omega.{arith}
 use mathlib.Core.Bool.{false, ◌||◌, not}

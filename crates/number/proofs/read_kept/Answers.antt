@@ -1,4 +1,4 @@
--- A text without separators is read as it is (`without-as-before`); of any other it is known whether they are placed, and it is read without them.
+-- A text without separators is read as it is (`without_as_before`); of any other it is known whether they are placed, and it is read without them.
 use Rattle.std.proofs.Common.{◌≡◌, ℕ, true, false, List, length, take, sym, ap, ◌∙◌, ap₂, arith}
 use lib.Seq.{sets, length-sets}
 use Rattle.proving.proofs.Stores.{written_front}

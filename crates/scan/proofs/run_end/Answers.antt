@@ -1,5 +1,5 @@
 -- `scan::run_end` meets its contract. The loop's invariant: the run from `from` ends where the run from `n` does.
--- A byte of the class takes the run one further (`run-goes-on`); any other, the end among them, stops it (`run-stops`).
+-- A byte of the class takes the run one further (`run_goes_on`); any other, the end among them, stops it (`run_stops`).
 use native.Mathlib.Omega.{arith}
 use Prim.Native.Nat.{ℕ, ◌<◌}
 use mathlib.Core.Bool.{true}

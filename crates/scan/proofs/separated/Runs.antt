@@ -1,5 +1,5 @@
--- Laws of a run with separators, over any test. Its first digits are a run (`digits-end`); behind them a separator with a digit behind it takes the
--- run on (`past-separator`), and anything else ends it (`no_more`). The other laws are inductions on the list.
+-- Laws of a run with separators, over any test. Its first digits are a run (`digits_end_holds`); behind them a separator with a digit behind it takes the
+-- run on (`past_separator`), and anything else ends it (`no_more`). The other laws are inductions on the list.
 use Prim.Native.Nat.{ℕ, zero, suc, ◌+◌, ◌<◌, ◌≤◌}
 use native.Mathlib.Nat.{zero-add, suc-add, add-zero, le_of_suc-le-suc, not-suc-le-zero}
 use native.Mathlib.Numerals.{add-one}

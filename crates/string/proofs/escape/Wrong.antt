@@ -1,5 +1,5 @@
 -- The answer and the content of the buffer that the promise leaves at a telling input: a program that does otherwise there, as the
--- theorem's name says, cannot be proved. A theorem computes with the definitions that `escape-string-at` unfolds.
+-- theorem's name says, cannot be proved. A theorem computes with the definitions that `escape_string_at` unfolds.
 use Prim.Native.Nat.{ℕ}
 use Prim.Native.Char.{code}
 use native.Mathlib.Omega.{arith}

@@ -1,5 +1,5 @@
 -- The answer that each promise leaves at a telling input: a program that answers otherwise there, as the theorem's name says, cannot be
--- proved. A theorem of `unquote_char` computes with the definitions that `unquote-char-at` unfolds.
+-- proved. A theorem of `unquote_char` computes with the definitions that `unquote_char_at` unfolds.
 use Prim.Native.Nat.{ℕ}
 use Prim.Native.Char.{code}
 use mathlib.Core.Bool.{Bool, true, false}

@@ -1,4 +1,4 @@
--- `token::get_keyword_token` meets its contract: the search of the table of words finds what the definition says (`table-finds`).
+-- `token::get_keyword_token` meets its contract: the search of the table of words finds what the definition says (`table_finds`).
 use mathlib.Core.List.{List}
 use mathlib.Core.Path.{ap, ◌∙◌}
 use Prim.Native.Nat.{ℕ}

@@ -1,4 +1,4 @@
--- `utf8::char_length` meets its contract: the table asks of a list what the tests ask (`char-tests`), and each way out knows what they said.
+-- `utf8::char_length` meets its contract: the table asks of a list what the tests ask (`char_tests`), and each way out knows what they said.
 use borrow.Author.Tests.{le-leb, lt-leb}
 use mathlib.Core.Path.{◌≡◌, sym, ◌∙◌}
 use Rattle.utf8.specs.Table.{char_length}

@@ -1,5 +1,5 @@
 -- The answer and the content of the buffer that each promise leaves at a telling input: a program that does otherwise there, as the
--- theorem's name says, cannot be proved. A theorem of `encode` computes with the definitions that `encode-at` unfolds.
+-- theorem's name says, cannot be proved. A theorem of `encode` computes with the definitions that `encode_at` unfolds.
 use Prim.Native.Nat.{ℕ}
 use Prim.Native.Char.{code}
 use mathlib.Core.Bool.{Bool, true, false}

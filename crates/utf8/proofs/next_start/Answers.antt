@@ -1,5 +1,5 @@
 -- `utf8::next_start` meets its contract. The loop's invariant: the characters from here stop where those of the whole text do.
--- ASCII bytes before the offset are passed (`ascii-on`), and a character that begins before it (`stop-more`); past the offset, or where none begins, they
+-- ASCII bytes before the offset are passed (`ascii_on`), and a character that begins before it (`stop_more`); past the offset, or where none begins, they
 -- stop here.
 use native.Mathlib.Omega.{arith}
 use Prim.Native.Nat.{ℕ, ◌+◌, ◌-◌, ◌<◌, ◌≤◌}

@@ -1,4 +1,4 @@
--- `utf8::validate` meets its contract: ASCII bytes are text (`ascii-places`), and others are walked through.
+-- `utf8::validate` meets its contract: ASCII bytes are text (`ascii_places`), and others are walked through.
 use mathlib.Core.Path.{sym, ◌∙◌}
 use Rattle.utf8.proofs.Ascii.{ascii_places}
 use Rattle.utf8.proofs.validate.Goals as goal

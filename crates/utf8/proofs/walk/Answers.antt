@@ -1,4 +1,4 @@
--- `utf8::walk` meets its contract: the characters that begin before the end of the bytes are all of them (`start-all`), and the
+-- `utf8::walk` meets its contract: the characters that begin before the end of the bytes are all of them (`start_all`), and the
 -- bytes are text where they end with the last.
 use Prim.Native.Nat.{ℕ}
 use mathlib.Core.List.{List}

@@ -1,5 +1,5 @@
 -- `exports::strings::simmerpath_unquote_string` meets its contract: it is what `unquote_string` says, whose length fits its bits
--- (`literal-answers`), and leaves in the buffer what that leaves.
+-- (`literal_answers`), and leaves in the buffer what that leaves.
 use Prim.Native.Nat.{ℕ}
 use native.Mathlib.Omega.{arith}
 use mathlib.Core.List.{List, [], ◌∷◌}

@@ -1,5 +1,5 @@
 -- The loop's invariant: the run from `from` ends where the run from `n` does. A byte whose lead is high enough takes the run one further
--- (`run_on`); any other stops it (`run-off`), and so does the end (`run_out`).
+-- (`run_on`); any other stops it (`run_off`), and so does the end (`run_out`).
 use native.Mathlib.Omega.{arith}
 use mathlib.Core.Path.{refl, ◌∙◌}
 use Rattle.munch.specs.steps.Leads.{is_from}

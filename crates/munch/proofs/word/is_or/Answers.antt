@@ -1,4 +1,4 @@
--- A word of two bytes is told by its letters (`or-letters`), and one of another length is not `or` (`or-other`).
+-- A word of two bytes is told by its letters (`or_letters`), and one of another length is not `or` (`or_other`).
 use Prim.Native.Char.{code}
 use mathlib.Core.Bool.{◌&&◌}
 use mathlib.Core.Path.{◌≡◌, sym, ap, ◌∙◌}

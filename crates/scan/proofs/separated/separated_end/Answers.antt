@@ -1,6 +1,6 @@
--- `scan::separated::separated_end` meets its contract. The run's first digits are a run (`ends_there`, `goes-from`). The loop's invariant: where separators may
+-- `scan::separated::separated_end` meets its contract. The run's first digits are a run (`ends_there`, `goes_from`). The loop's invariant: where separators may
 -- stand, the run goes from the place where the loop began to where it goes from `n`, and no digit stands there. A separator with a digit behind it
--- takes it on (`past-separator`); anything else ends it (`no_more`).
+-- takes it on (`past_separator`); anything else ends it (`no_more`).
 use native.Mathlib.Numerals.{add-one}
 use native.Mathlib.Omega.{arith}
 use Prim.Native.Nat.{ℕ, suc, ◌+◌, ◌<◌}
