@@ -31,7 +31,7 @@ module _ (d : ℕ) (i : Inside) (xs : List ℕ) where
       nothing (Brackets seen fresh) = inr (seen, refl)
 
   leads : (s : Step) → DoesOf xs (mode d i) s → LeadsTo d i s
-  leads (Lexeme k n m) h = behind h
+  leads (Lexeme k n m) h = behind h.0
   leads (Space m) h = h.0
   leads (Comment n) h = h.0
   leads (Refused number o) h = tt

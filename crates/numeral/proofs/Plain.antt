@@ -30,7 +30,7 @@ use Rattle.utf8.specs.declared.Reading.{Reading}
 use Rattle.utf8.specs.declared.Reading.TheVariants.{Crate}
 use Rattle.numeral.specs.Numeral.{between_digits, behind_prefix}
 use Rattle.numeral.specs.Texts.{Prefix, is_point, Mantissa, is_exponent_mark, DecimalNumber, HexNumber, NumberText, is_one_of, Repeat, Repeats, none, more, Units, DurationText}
-use Rattle.numeral.specs.laws.Texts.{IsDuration, is_apart, NoneApart}
+use Rattle.numeral.specs.laws.Texts.{IsDuration, NoBracket, is_apart, NoneApart}
 
 -- no part takes a byte
 record NoPart (c : ℕ) : Type 0 where
@@ -196,3 +196,7 @@ none_apart r xs n h i l = go (is_apart (peek_at xs i)) refl
     go : (b : Bool) → is_apart (peek_at xs i) ≡ b → is_apart (peek_at xs i) ≡ false
     go true a = absurd (⊎_elim (λ u. not_in_number r xs i a n u.0.within u.0.there l) (λ u. not_in_duration r xs i a n u l) h)
     go false a = a
+
+pub no_bracket : NoBracket
+unfolding is_apart is_space is_quote
+no_bracket r xs n h i l e = true≢false (rw e at (none_apart r xs n h i l))

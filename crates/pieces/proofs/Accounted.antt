@@ -36,7 +36,7 @@ use Rattle.munch.specs.Munch.{outside, munched}
 use Rattle.munch.specs.laws.Modes.{past, Commented, LeadsTo}
 use Rattle.munch.specs.laws.Marks.{marks, Does, opens_paren, closes_paren, opens_brace, closes_brace, opens_bracket, closes_bracket, first_colon, other}
 use Rattle.munch.proofs.Given.{rows_given}
-use Rattle.munch.proofs.Marks.{step_does, space_white, comment_is}
+use Rattle.munch.proofs.Marks.{step_does, space_white, comment_is, none_ends}
 use Rattle.munch.specs.laws.Text.{TextOf, quoted, left, right, bare}
 use Rattle.munch.proofs.Text.{lexeme_text_holds}
 use Rattle.munch.proofs.White.{white_space}
@@ -198,18 +198,6 @@ pub record Rest (r : Reading) (q : List ℕ) (i : ℕ) (m : Mode) : Type 0 where
   pub shape : Shape r q (brackets m) i pieces
   pub same : lexemes_in pieces ≡ map stands_at lexemes
 
--- a step makes no lexeme of EOF's kind
-not_end : {xs : List ℕ} {m m' : Mode} {k n : ℕ} → Does xs m k n m' → eqb k eof_kind ≡ false
-unfolding has
-not_end (opens_paren a b) = refl
-not_end (closes_paren d a b e) = refl
-not_end (opens_brace a b) = refl
-not_end (closes_brace a b) = refl
-not_end (opens_bracket a b) = refl
-not_end (closes_bracket a b) = refl
-not_end (first_colon a b) = refl
-not_end (other k n e) = ne_eqb k eof_kind (λ z. true≢false (rw z at e))
-
 module _ (r : Reading) (q : List ℕ) (bytes : Bytes q) (ended : Ends r q) where
   -- where the reading is at the end, so is the query
   at_end : (i : ℕ) → i ≤ length q → peek_at (drop i q) 0 ≡ end → i ≡ length q
@@ -236,7 +224,7 @@ module _ (r : Reading) (q : List ℕ) (bytes : Bytes q) (ended : Ends r q) where
             lexemes = entry k i n (depth_by k m') ∷ w.lexemes;
             pieces = piece (lexeme k) i (i + n) ∷ w.pieces;
             all = rw (steps_at r q i m _ f, w.all);
-            others = rw (not_end (step_does r m m' (drop i q) k n f), w.others);
+            others = rw (none_ends r m m' (drop i q) k n f, w.others);
             shape = plain _ (plain_at r m q i _ f refl) (then_lexeme (brackets m) k i n w.pieces g.some x (subst (λ (b : Bool). Tiled r q b (i + n) w.pieces) z (tiled_of w.shape)));
             same = rw w.same;
           }

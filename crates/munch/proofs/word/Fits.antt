@@ -1,18 +1,18 @@
--- The kind that a rule gives a word is the word's own (`keyword_fits` of token), or one that the rule names: so it has 16 bits, and is no mark's.
+-- The kind that a rule gives a word is the word's own (`keyword_fits` of token), or one that the rule names: so it has 16 bits, and is no mark's, nor the end's.
 use Prim.Native.Nat.{ℕ, ◌^◌, ◌≤◌, ◌<◌}
 use native.Mathlib.Omega.{arith}
 use mathlib.Core.Bool.{false, ◌||◌, not}
 use mathlib.Core.List.{List}
 use mathlib.Core.Logic.{◌⊎◌, inl, inr}
 use mathlib.Core.Path.{◌≡◌, refl}
-use lib.Dec.{ltb}
-use borrow.Author.Tests.{not-true, le-ltb}
+use lib.Dec.{eqb, ltb}
+use borrow.Author.Tests.{not-true, le-ltb, ne_eqb}
 use Rattle.scan.specs.Text.{has}
 use Rattle.proving.proofs.Below.{below}
 use Rattle.proving.proofs.Choice.{either}
 use Rattle.token.specs.declared.Keyword.{Keyword}
 use Rattle.token.specs.declared.Keyword.TheVariants.{Kind, Nothing}
-use Rattle.token.specs.Kinds.{identifier, number, land, end_kind}
+use Rattle.token.specs.Kinds.{eof_kind, identifier, number, land, end_kind}
 use Rattle.token.specs.laws.Words.{KindFits}
 use Rattle.munch.specs.declared.word.Rule.{Rule}
 use Rattle.munch.specs.Word.{is_fill, has_colon, is_called, rule_by, is_or, brace_rule, kind_by}
@@ -30,6 +30,10 @@ pub no_mark : (k : ℕ) → OfWord k → has k marks ≡ false
 unfolding has
 no_mark k (inl h) = not-true _ (rw (le-ltb k identifier h.0) at (below (λ x. ltb x identifier || not (has x marks)) 5 refl k (omega arith)))
 no_mark k (inr h) = not-true _ (rw (le-ltb k land h.0) at (below (λ x. ltb x land || not (has x marks)) 82 refl k (omega arith)))
+
+pub not_the_end : (k : ℕ) → OfWord k → eqb k eof_kind ≡ false
+not_the_end k (inl h) = ne_eqb k eof_kind (λ e. omega (arith, e, h.0))
+not_the_end k (inr h) = ne_eqb k eof_kind (λ e. omega (arith, e, h.0))
 
 -- of a rule
 abbrev Given : Rule → Type 0

@@ -1,6 +1,6 @@
 -- What a lexeme does to what is open, by its kind, and what white space, comments and the lexemes in brackets are, as statements; `proofs/Marks`,
 -- `proofs/White` and `proofs/Held` have the proofs.
-use Rattle.std.specs.Prelude.{ℕ, suc, true, false, List, [], ◌∷◌, ◌⊎◌, ◌≡◌, drop}
+use Rattle.std.specs.Prelude.{ℕ, suc, true, false, List, [], ◌∷◌, ◌⊎◌, ◌≡◌, eqb, drop}
 use Prim.Native.Char.{code}
 use Rattle.scan.specs.Byte.{peek_at, is_space}
 use Rattle.scan.specs.Text.{has}
@@ -15,12 +15,12 @@ use Rattle.munch.specs.Munch.{mode, deeper, munched}
 use Rattle.munch.specs.laws.Modes.{past}
 use Rattle.munch.specs.laws.Rows.{Outside, InBraces, InBrackets, Begins}
 
--- the kinds that open or close something, the colon of brackets, and the end
+-- the kinds that open or close something, and the colon of brackets
 abbrev pub marks : List ℕ
-marks = eof_kind ∷ left_paren ∷ right_paren ∷ left_brace ∷ right_brace ∷ left_bracket ∷ right_bracket ∷ colon ∷ []
+marks = left_paren ∷ right_paren ∷ left_brace ∷ right_brace ∷ left_bracket ∷ right_bracket ∷ colon ∷ []
 
--- by its kind and its length: each mark is its one byte and does what it is for, and the end is no step's; no other lexeme does anything, but that behind it
--- brackets are no longer just opened
+-- by its kind and its length: each mark is its one byte and does what it is for; no other lexeme does anything, but that behind it brackets are no longer
+-- just opened
 pub data Does (xs : List ℕ) (m : Mode) : ℕ → ℕ → Mode → Type 0 where
   opens_paren : Outside m → Begins (code "(") xs → Does xs m left_paren 1 (mode (deeper m.depth) Nothing)
   closes_paren : (d : ℕ) → Outside m → Begins (code ")") xs → m.depth ≡ suc d → Does xs m right_paren 1 (mode d Nothing)
@@ -33,6 +33,10 @@ pub data Does (xs : List ℕ) (m : Mode) : ℕ → ℕ → Mode → Type 0 where
 
 abbrev pub StepDoes : Type 0
 StepDoes = (r : Reading) (m m' : Mode) (xs : List ℕ) (k n : ℕ) → munched r m xs ≡ Lexeme k n m' → Does xs m k n m'
+
+-- no step's lexeme is the end
+abbrev pub NoneEnds : Type 0
+NoneEnds = (r : Reading) (m m' : Mode) (xs : List ℕ) (k n : ℕ) → munched r m xs ≡ Lexeme k n m' → eqb k eof_kind ≡ false
 
 -- white space is a white byte, and each white byte is white space, in every mode
 abbrev pub SpaceWhite : Type 0

@@ -47,7 +47,11 @@ OfLexeme P Finished = Unit {0}
 
 -- the kind of a lexeme has 16 bits
 abbrev pub Fits : Step → Type 0
-Fits = OfLexeme (λ k n. k < 2 ^ 16)
+Fits (Lexeme k n m) = k < 2 ^ 16
+Fits (Space m) = Unit {0}
+Fits (Comment n) = Unit {0}
+Fits (Refused r o) = Unit {0}
+Fits Finished = Unit {0}
 
 abbrev pub StepFits : Type 0
 StepFits = (r : Reading) (m : Mode) (xs : List ℕ) → Fits (munched r m xs)

@@ -29,6 +29,10 @@ pub record IsDuration (r : Reading) (xs : List ℕ) (n : ℕ) : Type 0 where
   pub units : Units (drop k (take n xs))
   pub ended : is_alpha_numeric (peek_at xs n) ≡ false
 
+-- no byte of either is a `[`
+abbrev pub NoBracket : Type 0
+NoBracket = (r : Reading) (xs : List ℕ) (n : ℕ) → IsNumber r xs n ⊎ IsDuration r xs n → (i : ℕ) → i < n → ¬ (peek_at xs i ≡ code "[")
+
 -- no byte of either is white space, a quote sign, a `#` or a bracket
 unfoldable pub is_apart : ℕ → Bool
 is_apart c = is_space c || (is_quote c || (eqb c (code "#") || (eqb c (code "[") || eqb c (code "]"))))
