@@ -1,63 +1,41 @@
 -- What is refused first is refused; then the text decides, which is within the limit, whatever room the lexer's own lists have.
 use native.Mathlib.Omega.{arith}
-use mathlib.Core.Path.{refl, sym, ap, ◌∙◌}
+use mathlib.Core.Path.{◌≡◌, sym, ap, ◌∙◌}
+use Prim.Native.Nat.{◌≤◌}
+use lib.ListN.{length}
 use Rattle.utf8.specs.Answers.{text_limit, not_admitted}
 use Rattle.utf8.proofs.Given.{admitted_text}
 use Rattle.lex.specs.declared.Lexing.TheVariants.{Refused}
 use Rattle.lex.specs.Lex.{measured, roomed, lexed}
+use Rattle.lex.specs.steps.Tally.{answer_in, tally_of}
 use Rattle.lex.proofs.Tallies.{tally_measured}
 use Rattle.lex.proofs.lexer.Goals as goal
+use Rattle.lex.proofs.lexer.Goals.{In-Admitted}
 
-pub returns-in_default : goal.returns-in_default
+pub returns-in_default-clause-value : goal.returns-in_default-clause-value
 unfolding lexed measured
-returns-in_default c =
+returns-in_default-clause-value c =
     let e = c.in_default.is in
-    record {
-      value = rw (← c.admit-a.ensures, e) (ap Refused (c.not_admitted.ensures ∙ ap not_admitted e));
-      kinds_after = refl;
-      starts_after = refl;
-      lengths_after = refl;
-      depths_after = refl;
-    }
+    rw (← c.admit-a.ensures, e) (ap Refused (c.not_admitted.ensures ∙ ap not_admitted e))
 
-pub lex_text-requires : goal.lex_text-requires
-lex_text-requires c =
-    let taken = admitted_text text_limit c.args.query.now _ (sym c.admit-a.ensures ∙ c.in-Admitted.is) in
-    record {
-      limited = omega (arith, taken.0);
-      alike = (refl, refl, refl);
-    }
+-- behind `admit`: the text is within the limit, and what a pass tallies is what its measure says
+module _ (c : In-Admitted) where
+  limited : length c.args.query.now ≤ text_limit
+  limited = omega (arith, (admitted_text text_limit c.args.query.now _ (sym c.admit-a.ensures ∙ c.in-Admitted.is)).0)
 
-pub returns-then-query-le-SHORT : goal.returns-then-query-le-SHORT
+  tallied : answer_in c.args.query.now (tally_of c.args.reading c.args.query.now) ≡ measured c.args.reading c.args.query.now
+  tallied = tally_measured c.args.reading c.args.query.now (sym c.admit-a.ensures ∙ c.in-Admitted.is)
+
+pub lex_text-requires-clause-limited : goal.lex_text-requires-clause-limited
+lex_text-requires-clause-limited c = limited (goal.at.lex_text-requires-clause-limited c).In-Admitted
+
+pub returns-then-query-le-SHORT-clause-value : goal.returns-then-query-le-SHORT-clause-value
 unfolding lexed
-returns-then-query-le-SHORT c =
-    let w = c.lex_text.ensures in
-    let m = tally_measured _ c.args.query.now (sym c.admit-a.ensures ∙ c.in-Admitted.is) in
-    record {
-      value = w.value ∙ ap (roomed _) m;
-      kinds_after = w.kinds_after;
-      starts_after = w.starts_after;
-      lengths_after = w.lengths_after;
-      depths_after = w.depths_after;
-    }
+returns-then-query-le-SHORT-clause-value c = c.lex_text.ensures.value ∙ ap (roomed _) (tallied (goal.at.returns-then-query-le-SHORT-clause-value c).In-Admitted)
 
-pub lex_text-requires-2 : goal.lex_text-requires-2
-lex_text-requires-2 c =
-    let taken = admitted_text text_limit c.args.query.now _ (sym c.admit-a.ensures ∙ c.in-Admitted.is) in
-    record {
-      limited = omega (arith, taken.0);
-      alike = (refl, refl, refl);
-    }
+pub lex_text-requires-2-clause-limited : goal.lex_text-requires-2-clause-limited
+lex_text-requires-2-clause-limited c = limited (goal.at.lex_text-requires-2-clause-limited c).In-Admitted
 
-pub returns : goal.returns
+pub returns-clause-value : goal.returns-clause-value
 unfolding lexed
-returns c =
-    let w = c.lex_text-2.ensures in
-    let m = tally_measured _ c.args.query.now (sym c.admit-a.ensures ∙ c.in-Admitted.is) in
-    record {
-      value = w.value ∙ ap (roomed _) m;
-      kinds_after = w.kinds_after;
-      starts_after = w.starts_after;
-      lengths_after = w.lengths_after;
-      depths_after = w.depths_after;
-    }
+returns-clause-value c = c.lex_text-2.ensures.value ∙ ap (roomed _) (tallied (goal.at.returns-clause-value c).In-Admitted)

@@ -178,18 +178,6 @@ wrote c =
       ),
     )
 
-pub shape_of-kinds-in-Nothing-inside : goal.shape_of-kinds-in-Nothing-inside
-shape_of-kinds-in-Nothing-inside c = (wrote (goal.at.shape_of-kinds-in-Nothing-inside c).After-slice_known-in-Lexeme-4-1).leads.kinds.same
-
-pub shape_of-starts-in-Nothing-inside : goal.shape_of-starts-in-Nothing-inside
-shape_of-starts-in-Nothing-inside c = (wrote (goal.at.shape_of-starts-in-Nothing-inside c).After-slice_known-in-Lexeme-4-1).leads.starts.same
-
-pub shape_of-lengths-in-Nothing-inside : goal.shape_of-lengths-in-Nothing-inside
-shape_of-lengths-in-Nothing-inside c = (wrote (goal.at.shape_of-lengths-in-Nothing-inside c).After-slice_known-in-Lexeme-4-1).leads.lengths.same
-
-pub shape_of-depths-in-Nothing-inside : goal.shape_of-depths-in-Nothing-inside
-shape_of-depths-in-Nothing-inside c = (wrote (goal.at.shape_of-depths-in-Nothing-inside c).After-slice_known-in-Lexeme-4-1).leads.depths.same
-
 pub returns-in-Nothing-inside : goal.returns-in-Nothing-inside
 returns-in-Nothing-inside c =
     let d = (goal.at.returns-in-Nothing-inside c).After-placed-lexeme in
@@ -244,32 +232,8 @@ loop-kind-preserved c =
 pub overflow_add-at-in-Refused : goal.overflow_add-at-in-Refused
 overflow_add-at-in-Refused c = let p = (goal.at.overflow_add-at-in-Refused c).After-inner_step-s in omega (arith, refused_within (stand p) (stepped p c.in-Refused.is), (start p).requires.limited)
 
-pub shape_of-kinds-in-Refused : goal.shape_of-kinds-in-Refused
-shape_of-kinds-in-Refused c = c.loop-kind.invariant.2.leads.kinds.same
-
-pub shape_of-starts-in-Refused : goal.shape_of-starts-in-Refused
-shape_of-starts-in-Refused c = c.loop-kind.invariant.2.leads.starts.same
-
-pub shape_of-lengths-in-Refused : goal.shape_of-lengths-in-Refused
-shape_of-lengths-in-Refused c = c.loop-kind.invariant.2.leads.lengths.same
-
-pub shape_of-depths-in-Refused : goal.shape_of-depths-in-Refused
-shape_of-depths-in-Refused c = c.loop-kind.invariant.2.leads.depths.same
-
 pub returns-in-Refused : goal.returns-in-Refused
 returns-in-Refused c = let p = (goal.at.returns-in-Refused c).After-inner_step-s in rw c.refused_by.ensures record { reached = tt; leads = begins p (turn_refused (stand p) (stepped p c.in-Refused.is)) }
-
-pub shape_of-kinds-in-Finished : goal.shape_of-kinds-in-Finished
-shape_of-kinds-in-Finished c = c.loop-kind.invariant.2.leads.kinds.same
-
-pub shape_of-starts-in-Finished : goal.shape_of-starts-in-Finished
-shape_of-starts-in-Finished c = c.loop-kind.invariant.2.leads.starts.same
-
-pub shape_of-lengths-in-Finished : goal.shape_of-lengths-in-Finished
-shape_of-lengths-in-Finished c = c.loop-kind.invariant.2.leads.lengths.same
-
-pub shape_of-depths-in-Finished : goal.shape_of-depths-in-Finished
-shape_of-depths-in-Finished c = c.loop-kind.invariant.2.leads.depths.same
 
 pub returns-in-Finished : goal.returns-in-Finished
 returns-in-Finished c = let p = (goal.at.returns-in-Finished c).After-inner_step-s in let l = p.loop-kind in absurd (never (braces p) l.seen l.fresh (leads_to p c.in-Finished.is))

@@ -155,18 +155,6 @@ module _ (c : After-opened-r) where
   passed : {r : Run} → c.opened-r.result ≡ r → Passed r
   passed e = subst Passed e (c.opened-r.ensures.reached, leads_on (behind put).leads c.opened-r.ensures.leads)
 
-pub shape_of-kinds-in_default : goal.shape_of-kinds-in_default
-shape_of-kinds-in_default c = (passed (goal.at.shape_of-kinds-in_default c).After-opened-r c.in_default.is).1.kinds.same
-
-pub shape_of-starts-in_default : goal.shape_of-starts-in_default
-shape_of-starts-in_default c = (passed (goal.at.shape_of-starts-in_default c).After-opened-r c.in_default.is).1.starts.same
-
-pub shape_of-lengths-in_default : goal.shape_of-lengths-in_default
-shape_of-lengths-in_default c = (passed (goal.at.shape_of-lengths-in_default c).After-opened-r c.in_default.is).1.lengths.same
-
-pub shape_of-depths-in_default : goal.shape_of-depths-in_default
-shape_of-depths-in_default c = (passed (goal.at.shape_of-depths-in_default c).After-opened-r c.in_default.is).1.depths.same
-
 pub returns-in_default : goal.returns-in_default
 returns-in_default c =
     let o = (goal.at.returns-in_default c).After-opened-r in
@@ -220,18 +208,6 @@ loop-kind-preserved c =
 pub overflow_add-at-in-Refused : goal.overflow_add-at-in-Refused
 overflow_add-at-in-Refused c = let p = (goal.at.overflow_add-at-in-Refused c).After-outside_step-s in omega (arith, refused_within (stand p) (told p c.in-Refused.is), (start p).requires.limited)
 
-pub shape_of-kinds-in-Refused : goal.shape_of-kinds-in-Refused
-shape_of-kinds-in-Refused c = c.loop-kind.invariant.2.leads.kinds.same
-
-pub shape_of-starts-in-Refused : goal.shape_of-starts-in-Refused
-shape_of-starts-in-Refused c = c.loop-kind.invariant.2.leads.starts.same
-
-pub shape_of-lengths-in-Refused : goal.shape_of-lengths-in-Refused
-shape_of-lengths-in-Refused c = c.loop-kind.invariant.2.leads.lengths.same
-
-pub shape_of-depths-in-Refused : goal.shape_of-depths-in-Refused
-shape_of-depths-in-Refused c = c.loop-kind.invariant.2.leads.depths.same
-
 pub returns-in-Refused : goal.returns-in-Refused
 returns-in-Refused c =
     let p = (goal.at.returns-in-Refused c).After-outside_step-s in
@@ -250,18 +226,6 @@ put-requires-in-Finished c =
 
 pub overflow_add-count : goal.overflow_add-count
 overflow_add-count c = let v = c.loop-kind.invariant in omega (arith, c.requires.limited)
-
-pub shape_of-kinds-in-Finished : goal.shape_of-kinds-in-Finished
-shape_of-kinds-in-Finished c = c.put-in-Finished.auto.kinds ∙ c.loop-kind.invariant.2.leads.kinds.same
-
-pub shape_of-starts-in-Finished : goal.shape_of-starts-in-Finished
-shape_of-starts-in-Finished c = c.put-in-Finished.auto.starts ∙ c.loop-kind.invariant.2.leads.starts.same
-
-pub shape_of-lengths-in-Finished : goal.shape_of-lengths-in-Finished
-shape_of-lengths-in-Finished c = c.put-in-Finished.auto.lengths ∙ c.loop-kind.invariant.2.leads.lengths.same
-
-pub shape_of-depths-in-Finished : goal.shape_of-depths-in-Finished
-shape_of-depths-in-Finished c = c.put-in-Finished.auto.depths ∙ c.loop-kind.invariant.2.leads.depths.same
 
 pub returns-in-Finished : goal.returns-in-Finished
 returns-in-Finished c =
