@@ -1,5 +1,8 @@
 -- Any two answers that the promise of a public function allows are equal.
 use mathlib.Core.Path.{sym, ◌∙◌}
+use denote.RattleType.{RattleType}
+use denote.Param.Laws.{Laws}
+use mir.Syntax.{Dict}
 use Rattle.proving.proofs.One.{OneAnswer}
 use Rattle.utf8.proofs.is_ascii.Kinds as is_ascii
 use Rattle.utf8.proofs.is_ascii.Reads as is_ascii_reads
@@ -7,10 +10,8 @@ use Rattle.utf8.proofs.validate.Kinds as validate
 use Rattle.utf8.proofs.validate.Reads as validate_reads
 use Rattle.utf8.proofs.admit.Kinds as admit
 use Rattle.utf8.proofs.admit.Reads as admit_reads
-use Rattle.utf8.proofs.not_admitted.Kinds as not_admitted
-use Rattle.utf8.proofs.not_admitted.Reads as not_admitted_reads
-use Rattle.utf8.proofs.not_written.Kinds as not_written
-use Rattle.utf8.proofs.not_written.Reads as not_written_reads
+use Rattle.utf8.proofs.refusal_of.Kinds as refusal_of
+use Rattle.utf8.proofs.refusal_of.Reads as refusal_of_reads
 use Rattle.utf8.proofs.char_number.Kinds as char_number
 use Rattle.utf8.proofs.char_number.Reads as char_number_reads
 use Rattle.utf8.proofs.refused_at.Kinds as refused_at
@@ -29,11 +30,9 @@ same_validate κs a x y e f p q = p ∙ sym q
 pub same_admit : OneAnswer admit.ps admit.r admit_reads.Post
 same_admit κs a x y e f p q = p ∙ sym q
 
-pub same_not_admitted : OneAnswer not_admitted.ps not_admitted.r not_admitted_reads.Post
-same_not_admitted κs a x y e f p q = p ∙ sym q
-
-pub same_not_written : OneAnswer not_written.ps not_written.r not_written_reads.Post
-same_not_written κs a x y e f p q = p ∙ sym q
+-- whatever the answer would have been
+pub same_refusal_of : (T : RattleType) (L : Laws T) (d : Dict) → OneAnswer (refusal_of.ps T L) (refusal_of.r T L) (refusal_of_reads.Post T L d)
+same_refusal_of T L d κs a x y e f p q = p ∙ sym q
 
 pub same_char_number : OneAnswer char_number.ps char_number.r char_number_reads.Post
 same_char_number κs a x y e f p q = p ∙ sym q

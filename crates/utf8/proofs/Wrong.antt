@@ -5,24 +5,22 @@ use Prim.Native.Char.{code}
 use mathlib.Core.Bool.{Bool, true, false}
 use mathlib.Core.List.{List, [], ◌∷◌}
 use mathlib.Core.Path.{◌≡◌, ap, ap₂, ◌∙◌}
+use Rattle.utf8.specs.declared.Place.{Place}
+use Rattle.std.specs.Prelude.{Err, Ok, Result}
 use Rattle.scan.specs.Ascii.{ascii}
 use Rattle.scan.specs.Byte.{is_within}
+use denote.RattleType.{RattleType}
+use denote.Param.Laws.{Laws}
+use mir.Syntax.{Dict}
 use Rattle.proving.proofs.One.{Answers}
 use Rattle.utf8.specs.declared.CharNumber.{CharNumber}
 use Rattle.utf8.specs.declared.Refusal.{Refusal}
-use Rattle.utf8.specs.declared.Validity.{Validity}
-use Rattle.utf8.specs.declared.Validity.TheVariants.{Valid, Invalid}
-use Rattle.utf8.specs.declared.Admission.{Admission}
-use Rattle.utf8.specs.declared.Admission.TheVariants.{Admitted, Refused}
 use Rattle.utf8.specs.declared.Character.{Character}
 use Rattle.utf8.specs.declared.Character.TheVariants.{Scalar, Nothing, IllFormed}
 use Rattle.utf8.specs.Table.{fits, size_in, char_length}
 use Rattle.utf8.specs.Code.{code_of}
 use Rattle.utf8.specs.Text.{chars_past, size_of, begun_in, char_number}
-use Rattle.utf8.specs.declared.Writing.{Writing}
-use Rattle.utf8.specs.declared.Writing.TheVariants as writing
-use Rattle.utf8.specs.Answers.{count, place, validity_of, at_start, refused_at, admitted, character_at, not_utf8, not_admitted}
-use Rattle.utf8.specs.Writing.{not_written}
+use Rattle.utf8.specs.Answers.{count, place, validity_of, at_start, refused_at, admitted, character_at, not_utf8, refusal_of}
 use Rattle.utf8.specs.laws.Ascii.{is_ascii}
 use Rattle.utf8.proofs.is_ascii.Kinds as is_ascii_kinds
 use Rattle.utf8.proofs.is_ascii.Reads as is_ascii_reads
@@ -38,10 +36,8 @@ use Rattle.utf8.proofs.refused_at.Kinds as refused_at_kinds
 use Rattle.utf8.proofs.refused_at.Reads as refused_at_reads
 use Rattle.utf8.proofs.char_at.Kinds as char_at
 use Rattle.utf8.proofs.char_at.Reads as char_at_reads
-use Rattle.utf8.proofs.not_admitted.Kinds as not_admitted_kinds
-use Rattle.utf8.proofs.not_admitted.Reads as not_admitted_reads
-use Rattle.utf8.proofs.not_written.Kinds as not_written_kinds
-use Rattle.utf8.proofs.not_written.Reads as not_written_reads
+use Rattle.utf8.proofs.refusal_of.Kinds as refusal_of_kinds
+use Rattle.utf8.proofs.refusal_of.Reads as refusal_of_reads
 
 abbrev is_ascii_gives : List ℕ → Bool → Type 0
 is_ascii_gives xs v = Answers is_ascii_kinds.ps is_ascii_kinds.r is_ascii_reads.Post (λ κs a. a.0.now ≡ xs) (λ κs. v)
@@ -55,38 +51,38 @@ last_ascii_byte_is_ascii = is_ascii_at _
 pub byte_behind_ascii_is_not : is_ascii_gives (0x80 ∷ 0x61 ∷ []) false
 byte_behind_ascii_is_not = is_ascii_at _
 
-abbrev validate_gives : List ℕ → Validity → Type 0
+abbrev validate_gives : List ℕ → Result CharNumber Place → Type 0
 validate_gives xs v = Answers validate.ps validate.r validate_reads.Post (λ κs a. a.0.now ≡ xs) (λ κs. v)
 
 validate_at : (xs : List ℕ) → validate_gives xs (validity_of xs)
 unfolding validity_of char_number begun_in chars_past size_of char_length size_in fits code_of is_within
 validate_at xs κs a x e p h = p ∙ ap validity_of h
 
-pub character_of_two_bytes_is_one : validate_gives (0xc3 ∷ 0xa9 ∷ []) (Valid (count 1))
+pub character_of_two_bytes_is_one : validate_gives (0xc3 ∷ 0xa9 ∷ []) (Ok (count 1))
 unfolding validate_at
 character_of_two_bytes_is_one = validate_at _
 
-pub first_byte_that_breaks_off_is_at_0 : validate_gives (0xff ∷ 0xff ∷ []) (Invalid (place 0 0))
+pub first_byte_that_breaks_off_is_at_0 : validate_gives (0xff ∷ 0xff ∷ []) (Err (place 0 0))
 unfolding validate_at
 first_byte_that_breaks_off_is_at_0 = validate_at _
 
-pub text_breaks_off_behind_its_last_character : validate_gives (0xc3 ∷ 0xa9 ∷ 0xff ∷ []) (Invalid (place 2 1))
+pub text_breaks_off_behind_its_last_character : validate_gives (0xc3 ∷ 0xa9 ∷ 0xff ∷ []) (Err (place 2 1))
 unfolding validate_at
 text_breaks_off_behind_its_last_character = validate_at _
 
-pub overlong_of_two_is_no_text : validate_gives (0xc0 ∷ 0x80 ∷ []) (Invalid (place 0 0))
+pub overlong_of_two_is_no_text : validate_gives (0xc0 ∷ 0x80 ∷ []) (Err (place 0 0))
 unfolding validate_at
 overlong_of_two_is_no_text = validate_at _
 
-pub overlong_of_three_is_no_text : validate_gives (0xe0 ∷ 0x80 ∷ 0x80 ∷ []) (Invalid (place 0 0))
+pub overlong_of_three_is_no_text : validate_gives (0xe0 ∷ 0x80 ∷ 0x80 ∷ []) (Err (place 0 0))
 unfolding validate_at
 overlong_of_three_is_no_text = validate_at _
 
-pub surrogate_is_no_text : validate_gives (0xed ∷ 0xa0 ∷ 0x80 ∷ []) (Invalid (place 0 0))
+pub surrogate_is_no_text : validate_gives (0xed ∷ 0xa0 ∷ 0x80 ∷ []) (Err (place 0 0))
 unfolding validate_at
 surrogate_is_no_text = validate_at _
 
-pub past_10ffff_is_no_text : validate_gives (0xf4 ∷ 0x90 ∷ 0x80 ∷ 0x80 ∷ []) (Invalid (place 0 0))
+pub past_10ffff_is_no_text : validate_gives (0xf4 ∷ 0x90 ∷ 0x80 ∷ 0x80 ∷ []) (Err (place 0 0))
 unfolding validate_at
 past_10ffff_is_no_text = validate_at _
 
@@ -103,22 +99,22 @@ pub refusal_without_a_place_is_at_0 : at_start_gives 2 (record { number = 2; pla
 refusal_without_a_place_is_at_0 = at_start_at _
 
 -- of a text and a limit
-abbrev admit_gives : List ℕ → ℕ → Admission → Type 0
+abbrev admit_gives : List ℕ → ℕ → Result CharNumber Refusal → Type 0
 admit_gives xs limit v = Answers admit.ps admit.r admit_reads.Post (λ κs a. (a.0.now ≡ xs) × (a.1.0 ≡ limit)) (λ κs. v)
 
 admit_at : (xs : List ℕ) (limit : ℕ) → admit_gives xs limit (admitted limit xs)
 unfolding admitted validate_at
 admit_at xs limit κs a x e p h = p ∙ ap₂ admitted h.1 h.0
 
-pub text_of_just_the_limit_is_admitted : admit_gives (ascii "ab") 2 (Admitted (count 2))
+pub text_of_just_the_limit_is_admitted : admit_gives (ascii "ab") 2 (Ok (count 2))
 unfolding admit_at
 text_of_just_the_limit_is_admitted = admit_at _ _
 
-pub text_past_the_limit_is_refused_as_1 : admit_gives (ascii "ab") 1 (Refused (at_start 1))
+pub text_past_the_limit_is_refused_as_1 : admit_gives (ascii "ab") 1 (Err (at_start 1))
 unfolding admit_at
 text_past_the_limit_is_refused_as_1 = admit_at _ _
 
-pub text_that_is_not_utf8_is_refused_as_2 : admit_gives (code "a" ∷ 0xff ∷ []) 2 (Refused (record { number = 2; place = place 1 1 }))
+pub text_that_is_not_utf8_is_refused_as_2 : admit_gives (code "a" ∷ 0xff ∷ []) 2 (Err (record { number = 2; place = place 1 1 }))
 unfolding admit_at
 text_that_is_not_utf8_is_refused_as_2 = admit_at _ _
 
@@ -179,26 +175,16 @@ pub character_of_two_bytes_has_eleven_bits : char_at_gives (0xdf ∷ 0xbf ∷ []
 unfolding char_at_at
 character_of_two_bytes_has_eleven_bits = char_at_at _ _
 
-abbrev not_admitted_gives : Admission → Refusal → Type 0
-not_admitted_gives t v = Answers not_admitted_kinds.ps not_admitted_kinds.r not_admitted_reads.Post (λ κs a. a.0 ≡ t) (λ κs. v)
+-- of an answer of any type
+module _ (T : RattleType) (L : Laws T) (d : Dict) where
+  abbrev refusal_of_gives : Result T.Denot Refusal → Refusal → Type 0
+  refusal_of_gives t v = Answers (refusal_of_kinds.ps T L) (refusal_of_kinds.r T L) (refusal_of_reads.Post T L d) (λ κs a. a.0 ≡ t) (λ κs. v)
 
-not_admitted_at : (t : Admission) → not_admitted_gives t (not_admitted t)
-not_admitted_at t κs a x e p h = p ∙ ap not_admitted h
+  refusal_of_at : (t : Result T.Denot Refusal) → refusal_of_gives t (refusal_of t)
+  refusal_of_at t κs a x e p h = p ∙ ap refusal_of h
 
-pub refusal_is_told_with_its_place : not_admitted_gives (Refused (not_utf8 (place 3 2))) (not_utf8 (place 3 2))
-refusal_is_told_with_its_place = not_admitted_at _
+  pub refusal_is_told_with_its_place : refusal_of_gives (Err (not_utf8 (place 3 2))) (not_utf8 (place 3 2))
+  refusal_is_told_with_its_place = refusal_of_at _
 
-pub admitted_text_has_no_refusal : not_admitted_gives (Admitted (count 1)) (at_start 0)
-admitted_text_has_no_refusal = not_admitted_at _
-
-abbrev not_written_gives : Writing → Refusal → Type 0
-not_written_gives t v = Answers not_written_kinds.ps not_written_kinds.r not_written_reads.Post (λ κs a. a.0 ≡ t) (λ κs. v)
-
-not_written_at : (t : Writing) → not_written_gives t (not_written t)
-not_written_at t κs a x e p h = p ∙ ap not_written h
-
-pub text_refused_is_told_with_its_place : not_written_gives (writing.Refused (not_utf8 (place 3 2))) (not_utf8 (place 3 2))
-text_refused_is_told_with_its_place = not_written_at _
-
-pub written_text_has_no_refusal : not_written_gives (writing.Written 1) (at_start 0)
-written_text_has_no_refusal = not_written_at _
+  pub answer_has_no_refusal : (x : T.Denot) → refusal_of_gives (Ok x) (at_start 0)
+  answer_has_no_refusal x = refusal_of_at _

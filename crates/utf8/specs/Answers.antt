@@ -1,12 +1,8 @@
 -- What the functions answer, and document 01's refusals 1 and 2, in that order.
-use Rattle.std.specs.Prelude.{ℕ, cond, List, leb, ltb, eqb, length, drop}
+use Rattle.std.specs.Prelude.{ℕ, cond, List, leb, ltb, eqb, length, drop, Err, Ok, Result}
 use Rattle.utf8.specs.declared.CharNumber.{CharNumber}
 use Rattle.utf8.specs.declared.Place.{Place}
 use Rattle.utf8.specs.declared.Refusal.{Refusal}
-use Rattle.utf8.specs.declared.Validity.{Validity}
-use Rattle.utf8.specs.declared.Validity.TheVariants.{Valid, Invalid}
-use Rattle.utf8.specs.declared.Admission.{Admission}
-use Rattle.utf8.specs.declared.Admission.TheVariants.{Admitted, Refused}
 use Rattle.utf8.specs.declared.Character.{Character}
 use Rattle.utf8.specs.declared.Character.TheVariants.{Scalar, Nothing, IllFormed}
 use Rattle.utf8.specs.Table.{char_length}
@@ -29,8 +25,8 @@ abbrev pub next_start : List ℕ → ℕ → Place
 next_start xs to = place (start_of xs (char_number xs to)) (char_number xs to)
 
 -- the number of characters, or the end of the longest well-formed prefix
-unfoldable pub validity_of : List ℕ → Validity
-validity_of xs = cond (is_well_formed xs) (Valid (count (length (chars_of xs)))) (Invalid (place_at xs (prefix_end xs)))
+unfoldable pub validity_of : List ℕ → Result CharNumber Place
+validity_of xs = cond (is_well_formed xs) (Ok (count (length (chars_of xs)))) (Err (place_at xs (prefix_end xs)))
 
 -- "query, literal and text 65,535 bytes"
 abbrev pub text_limit : ℕ
@@ -58,21 +54,17 @@ not_utf8 p = record { number = 2; place = p }
 abbrev pub no_refusal : Refusal
 no_refusal = at_start 0
 
-abbrev pub not_utf8_by : Validity → Refusal
-not_utf8_by (Valid n) = no_refusal
-not_utf8_by (Invalid p) = not_utf8 p
+abbrev pub admitted_as : Result CharNumber Place → Result CharNumber Refusal
+admitted_as (Ok n) = Ok n
+admitted_as (Err p) = Err (not_utf8 p)
 
-abbrev pub admitted_as : Validity → Admission
-admitted_as (Valid n) = Admitted n
-admitted_as (Invalid p) = Refused (not_utf8 p)
+unfoldable pub admitted : ℕ → List ℕ → Result CharNumber Refusal
+admitted limit xs = cond (ltb limit (length xs)) (Err too_long) (admitted_as (validity_of xs))
 
-unfoldable pub admitted : ℕ → List ℕ → Admission
-admitted limit xs = cond (ltb limit (length xs)) (Refused too_long) (admitted_as (validity_of xs))
-
--- why a text is not taken up
-abbrev pub not_admitted : Admission → Refusal
-not_admitted (Admitted n) = no_refusal
-not_admitted (Refused r) = r
+-- why a call has no answer
+abbrev pub refusal_of : {T : Type 0} → Result T Refusal → Refusal
+refusal_of (Ok x) = no_refusal
+refusal_of (Err r) = r
 
 -- the character that a list begins with, and the one that the bytes from an offset on begin with
 abbrev pub character_of : List ℕ → Character

@@ -5,7 +5,7 @@ ghost use Rattle.utf8.specs.Code.{is_scalar, six_bits, encoded};
 ghost use Rattle.utf8.specs.Encode.{encoding_of};
 ghost use Rattle.utf8.specs.Writing.{left_at};
 
-use crate::{ByteOffset, Writing};
+use crate::{ByteOffset, Refusal};
 
 // The refusal of a code point that is no character's, for which document 01 has no row: that of a literal with an escape of one.
 pub const NOT_SCALAR: usize = 40;
@@ -95,21 +95,21 @@ fn write_code(code: u32, out: &mut [u8], at: usize)
 }
 
 // Writes the bytes of a code point at an offset of a lent buffer; nothing where it is no character's, or else has no room.
-pub fn encode(code: u32, out: &mut [u8], at: ByteOffset) -> Writing
+pub fn encode(code: u32, out: &mut [u8], at: ByteOffset) -> Result<usize, Refusal>
     ensures value { result ≡ encoding_of code (length out.old) at.0 }
     ensures out_after { out.new ≡ left_at at.0 result (encoded code) out.old }
 {
     let from = at.0;
     if !is_scalar(code) {
-        return Writing::Refused(crate::at_start(NOT_SCALAR));
+        return Err(crate::at_start(NOT_SCALAR));
     }
     if out.len() < from {
-        return Writing::Refused(crate::at_start(crate::NO_ROOM));
+        return Err(crate::at_start(crate::NO_ROOM));
     }
     let size = encoded_size(code);
     if out.len() - from < size {
-        return Writing::Refused(crate::at_start(crate::NO_ROOM));
+        return Err(crate::at_start(crate::NO_ROOM));
     }
     write_code(code, out, from);
-    Writing::Written(size)
+    Ok(size)
 }

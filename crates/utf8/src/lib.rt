@@ -9,8 +9,7 @@ ghost use Rattle.utf8.specs.Table.{is_tail, char_length};
 ghost use Rattle.utf8.specs.steps.Lead.{size_by, low_second, high_second, with_tails};
 ghost use Rattle.utf8.specs.Text.{char_number};
 ghost use Rattle.utf8.specs.Code.{code_of};
-ghost use Rattle.utf8.specs.Answers.{count, next_start, validity_of, at_start, refused_at, not_utf8_by, admitted, not_admitted, character_at};
-ghost use Rattle.utf8.specs.Writing.{not_written};
+ghost use Rattle.utf8.specs.Answers.{count, next_start, validity_of, at_start, refused_at, admitted, refusal_of, character_at};
 ghost use Rattle.utf8.specs.laws.Ascii.{is_ascii};
 
 use scan::byte;
@@ -49,27 +48,6 @@ pub const NO_ROOM: usize = 3;
 
 // No refusal has this number.
 pub const NO_REFUSAL: usize = 0;
-
-// Whether bytes are UTF-8: how many characters they are, or where the longest well-formed prefix ends.
-#[derive(Clone, Copy)]
-pub enum Validity {
-    Valid(CharNumber),
-    Invalid(Place),
-}
-
-// A text that a reader takes up, or its refusal.
-#[derive(Clone, Copy)]
-pub enum Admission {
-    Admitted(CharNumber),
-    Refused(Refusal),
-}
-
-// How many bytes of a text were written to a lent buffer, or why none were.
-#[derive(Clone, Copy)]
-pub enum Writing {
-    Written(usize),
-    Refused(Refusal),
-}
 
 // What the bytes from an offset on begin with: a character, nothing since there are none, or no character.
 #[derive(Clone, Copy)]
@@ -222,12 +200,10 @@ pub fn is_ascii(text: &[u8]) -> bool
     ensures { result ≡ is_ascii text.now }
 {
     let mut most = 0;
-    let mut i = 0;
-    while i < text.len() {
-        if most < text[i] {
-            most = text[i];
+    for &byte in text {
+        if most < byte {
+            most = byte;
         }
-        i += 1;
     }
     most <= LAST_ASCII
 }
@@ -275,26 +251,25 @@ fn next_start(text: &[u8], to: usize) -> Place
     }
 }
 
-// Whether bytes are UTF-8 text, by its characters.
-fn walk(text: &[u8]) -> Validity
+// How many characters bytes are, or where the longest prefix ends that is UTF-8 text.
+fn walk(text: &[u8]) -> Result<CharNumber, Place>
     ensures { result ≡ validity_of text.now }
 {
     let end = next_start(text, text.len());
-    let count = end.character;
-    let byte = end.byte;
-    if byte.0 == text.len() {
-        Validity::Valid(count)
+    if end.byte.0 == text.len() {
+        Ok(end.character)
     } else {
-        Validity::Invalid(end)
+        Err(end)
     }
 }
 
-// Whether bytes are UTF-8 text. Whether they are ASCII is asked first, which is quicker for a long text.
-pub fn validate(text: &[u8]) -> Validity
+// How many characters bytes are, or where the longest prefix ends that is UTF-8 text. Whether they are ASCII is asked first, which is quicker for a
+// long text.
+pub fn validate(text: &[u8]) -> Result<CharNumber, Place>
     ensures { result ≡ validity_of text.now }
 {
     if is_ascii(text) {
-        return Validity::Valid(CharNumber(text.len()));
+        return Ok(CharNumber(text.len()));
     }
     walk(text)
 }
@@ -303,78 +278,44 @@ pub fn validate(text: &[u8]) -> Validity
 pub fn at_start(number: usize) -> Refusal
     ensures { result ≡ at_start number }
 {
-    let place = Place {
-        byte: ByteOffset(0),
-        character: CharNumber(0),
-    };
-    Refusal { number, place }
-}
-
-// Refusal 2, where the longest well-formed prefix ends.
-fn not_utf8(v: Validity) -> Refusal
-    ensures { result ≡ not_utf8_by v }
-{
-    let Validity::Invalid(place) = v else {
-        return at_start(NO_REFUSAL);
-    };
     Refusal {
-        number: NOT_UTF8,
-        place,
+        number,
+        place: Place {
+            byte: ByteOffset(0),
+            character: CharNumber(0),
+        },
     }
 }
 
-// Takes up a text of at most `limit` bytes, by its characters.
-fn admit_other(text: &[u8], limit: usize) -> Admission
+// Takes up a text of at most `limit` bytes, and says how many characters it is: refusals 1 and 2 of every reader.
+#[tactic(auto, unfolding(crate::specs::Answers::admitted))]
+pub fn admit(text: &[u8], limit: usize) -> Result<CharNumber, Refusal>
     ensures { result ≡ admitted limit text.now }
 {
     if limit < text.len() {
-        return Admission::Refused(at_start(TOO_LONG));
+        return Err(at_start(TOO_LONG));
     }
-    let v = walk(text);
-    let Validity::Valid(n) = v else {
-        return Admission::Refused(not_utf8(v));
-    };
-    Admission::Admitted(n)
-}
-
-// Takes up a text of at most `limit` bytes: refusals 1 and 2 of every reader. Whether it is ASCII is asked first, which is quicker.
-pub fn admit(text: &[u8], limit: usize) -> Admission
-    ensures { result ≡ admitted limit text.now }
-{
-    if text.len() <= limit {
-        if is_ascii(text) {
-            return Admission::Admitted(CharNumber(text.len()));
-        }
+    match validate(text) {
+        Ok(count) => Ok(count),
+        Err(place) => Err(Refusal {
+            number: NOT_UTF8,
+            place,
+        }),
     }
-    admit_other(text, limit)
 }
 
-// Why a text is not taken up; where it is, a refusal of no number.
-pub fn not_admitted(a: Admission) -> Refusal
-    ensures { result ≡ not_admitted a }
+// Why a call has no answer; where it has one, a refusal of no number.
+pub fn refusal_of<T: Drop>(answer: Result<T, Refusal>) -> Refusal
+    ensures { result ≡ refusal_of answer }
 {
-    let Admission::Refused(r) = a else {
-        return at_start(NO_REFUSAL);
-    };
-    r
-}
-
-// Why a text is not written; where it is, a refusal of no number.
-pub fn not_written(answer: Writing) -> Refusal
-    ensures { result ≡ not_written answer }
-{
-    let Writing::Refused(r) = answer else {
-        return at_start(NO_REFUSAL);
-    };
-    r
+    answer.err().unwrap_or(at_start(NO_REFUSAL))
 }
 
 // How many characters of the longest well-formed prefix begin before an offset; one that it lies inside counts.
 pub fn char_number(text: &[u8], to: ByteOffset) -> CharNumber
     ensures { result ≡ count (char_number text.now to.0) }
 {
-    let start = next_start(text, to.0);
-    start.character
+    next_start(text, to.0).character
 }
 
 // A refusal at an offset of a text.
@@ -382,8 +323,10 @@ pub fn refused_at(text: &[u8], number: usize, byte: ByteOffset) -> Refusal
     ensures { result ≡ refused_at text.now number byte.0 }
 {
     let character = char_number(text, byte);
-    let place = Place { byte, character };
-    Refusal { number, place }
+    Refusal {
+        number,
+        place: Place { byte, character },
+    }
 }
 
 // The code point of the character of n bytes that s begins with.

@@ -4,4 +4,4 @@ use Rattle.utf8.specs.declared.Place.{Place}
 use Rattle.utf8.proofs.char_number.Goals as goal
 
 pub returns : goal.returns
-returns c = ap (λ (p : Place). p.character) c.next_start-start.ensures
+returns c = ap (λ (p : Place). p.character) c.next_start.ensures

@@ -7,9 +7,9 @@ use lib.Dec.{leb}
 use lib.ListN.{length}
 use lib.Seq.{sets-eq, drop-drop}
 use borrow.Author.Tests.{le-leb}
+use Rattle.utf8.specs.declared.Refusal.{Refusal}
+use Rattle.std.specs.Prelude.{Err, Ok, Result}
 use Rattle.proving.proofs.Choice.{either}
-use Rattle.utf8.specs.declared.Writing.{Writing}
-use Rattle.utf8.specs.declared.Writing.TheVariants.{Written, Refused}
 use Rattle.utf8.specs.Code.{is_scalar, encoded}
 use Rattle.utf8.specs.Encode.{encoding_of}
 use Rattle.utf8.specs.laws.Encode.{EncodingFits, EncodingBound, WrittenSets}
@@ -23,9 +23,9 @@ pub written_sets : WrittenSets
 written_sets text d at h = rw (sets-eq text d at h) (simp (append_assoc, drop-drop))
 
 -- at most four bytes are written
-abbrev AtMostFour : Writing → Type 0
-AtMostFour (Written n) = n ≤ 4
-AtMostFour (Refused r) = Unit {0}
+abbrev AtMostFour : Result ℕ Refusal → Type 0
+AtMostFour (Ok n) = n ≤ 4
+AtMostFour (Err r) = Unit {0}
 
 at_most_four : (c room at : ℕ) → AtMostFour (encoding_of c room at)
 unfolding encoding_of

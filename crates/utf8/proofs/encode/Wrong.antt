@@ -6,11 +6,11 @@ use mathlib.Core.Bool.{Bool, true, false}
 use mathlib.Core.List.{List, [], ◌∷◌}
 use mathlib.Core.Path.{◌≡◌, ap, ◌∙◌}
 use lib.ListN.{length}
+use Rattle.utf8.specs.declared.Refusal.{Refusal}
+use Rattle.std.specs.Prelude.{Err, Ok, Result}
 use Rattle.scan.specs.Ascii.{ascii}
 use Rattle.proving.proofs.One.{Answers, Leaves}
 use Rattle.utf8.specs.Code.{is_scalar, six_bits, encoded}
-use Rattle.utf8.specs.declared.Writing.{Writing}
-use Rattle.utf8.specs.declared.Writing.TheVariants.{Written, Refused}
 use Rattle.utf8.specs.Answers.{at_start}
 use Rattle.utf8.specs.Encode.{encoding_of}
 use Rattle.utf8.specs.Writing.{left_at}
@@ -54,7 +54,7 @@ unfolding encoded
 first_past_ffff_has_four_bytes = encoded_size_at _
 
 -- of a code point, with a buffer of so many bytes, at an offset
-abbrev encode_gives : ℕ → ℕ → ℕ → Writing → Type 0
+abbrev encode_gives : ℕ → ℕ → ℕ → Result ℕ Refusal → Type 0
 encode_gives c room at v =
     Answers encode.ps encode.r encode_reads.Post (λ κs a. (a.0 ≡ c) × (length a.1.0.now ≡ room) × (a.1.1.0.0 ≡ at)) (λ κs. v)
 
@@ -62,15 +62,15 @@ encode_at : (c room at : ℕ) → encode_gives c room at (encoding_of c room at)
 unfolding encoding_of is_scalar encoded six_bits
 encode_at c room at κs a x e p h = cc (p.0, h.0, h.1, h.2)
 
-pub surrogate_is_not_written : encode_gives 0xdbff 3 0 (Refused (at_start 40))
+pub surrogate_is_not_written : encode_gives 0xdbff 3 0 (Err (at_start 40))
 unfolding encode_at
 surrogate_is_not_written = encode_at _ _ _
 
-pub room_of_just_the_length_is_enough : encode_gives 0xe9 3 1 (Written 2)
+pub room_of_just_the_length_is_enough : encode_gives 0xe9 3 1 (Ok 2)
 unfolding encode_at
 room_of_just_the_length_is_enough = encode_at _ _ _
 
-pub bytes_before_the_offset_are_no_room : encode_gives 0xe9 3 2 (Refused (at_start 3))
+pub bytes_before_the_offset_are_no_room : encode_gives 0xe9 3 2 (Err (at_start 3))
 unfolding encode_at
 bytes_before_the_offset_are_no_room = encode_at _ _ _
 

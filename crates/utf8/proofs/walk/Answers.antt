@@ -5,8 +5,8 @@ use mathlib.Core.List.{List}
 use mathlib.Core.Path.{◌≡◌, sym, ap, ◌∙◌}
 use borrow.Author.Tests.{eq-eqb, ne_eqb}
 use lib.ListN.{length}
+use Rattle.std.specs.Prelude.{Err, Ok}
 use Rattle.utf8.specs.declared.Place.{Place}
-use Rattle.utf8.specs.declared.Validity.TheVariants.{Valid, Invalid}
 use Rattle.utf8.specs.Text.{chars_of, prefix_end}
 use Rattle.utf8.specs.Answers.{place, validity_of}
 use Rattle.utf8.proofs.Texts.{number_end_holds, start_all}
@@ -23,14 +23,14 @@ module _ (c : After-next_start-end) where
   byte : c.next_start-end.result.byte.0 ≡ prefix_end text
   byte = ap (λ (p : Place). p.byte.0) ends
 
-pub returns-then-byte-text : goal.returns-then-byte-text
+pub returns-then-end-text : goal.returns-then-end-text
 unfolding validity_of
-returns-then-byte-text c =
-    let d = (goal.at.returns-then-byte-text c).After-next_start-end in
-    rw (eq-eqb (prefix_end (text d)) (length (text d)) (sym (byte d) ∙ c.if-byte-text.true)) (ap (λ (p : Place). Valid p.character) (ends d))
+returns-then-end-text c =
+    let d = (goal.at.returns-then-end-text c).After-next_start-end in
+    rw (eq-eqb (prefix_end (text d)) (length (text d)) (sym (byte d) ∙ c.if-end-text.true)) (ap (λ (p : Place). Ok p.character) (ends d))
 
-pub returns-else-byte-text : goal.returns-else-byte-text
+pub returns-else-end-text : goal.returns-else-end-text
 unfolding validity_of
-returns-else-byte-text c =
-    let d = (goal.at.returns-else-byte-text c).After-next_start-end in
-    rw (ne_eqb (prefix_end (text d)) (length (text d)) (λ e. c.if-byte-text.false (byte d ∙ e)), number_end_holds (text d)) (ap Invalid (ends d))
+returns-else-end-text c =
+    let d = (goal.at.returns-else-end-text c).After-next_start-end in
+    rw (ne_eqb (prefix_end (text d)) (length (text d)) (λ e. c.if-end-text.false (byte d ∙ e)), number_end_holds (text d)) (ap Err (ends d))

@@ -1,10 +1,9 @@
 -- What the crates above may know of ASCII bytes and characters, as statements. Their proofs stand in `proofs/Laws`, `proofs/Ascii`,
 -- `proofs/Inverse` and `proofs/Bounds`.
-use Rattle.std.specs.Prelude.{ℕ, suc, ◌≤◌, ◌<◌, Bool, true, false, cond, ◌&&◌, List, [], ◌∷◌, map, ◌≡◌, ltb, length}
+use Rattle.std.specs.Prelude.{ℕ, suc, ◌≤◌, ◌<◌, Bool, true, false, cond, ◌&&◌, List, [], ◌∷◌, map, ◌≡◌, ltb, length, Ok}
 use Rattle.scan.specs.Byte.{peek_at, lowered}
 use Rattle.scan.specs.Text.{same_text}
 use Rattle.utf8.specs.declared.Character.TheVariants.{Scalar}
-use Rattle.utf8.specs.declared.Validity.TheVariants.{Valid}
 use Rattle.utf8.specs.Table.{char_length}
 use Rattle.utf8.specs.Code.{code_of}
 use Rattle.utf8.specs.Text.{codes_of, prefix_end, WellFormed, is_well_formed, char_number}
@@ -47,7 +46,7 @@ AsciiText = (xs : List ℕ) → is_ascii xs ≡ true → WellFormed xs × (codes
 abbrev pub AsciiPlaces : Type 0
 AsciiPlaces =
     (xs : List ℕ) → is_ascii xs ≡ true →
-    (validity_of xs ≡ Valid (count (length xs))) × ((to : ℕ) → to ≤ length xs → char_number xs to ≡ to)
+    (validity_of xs ≡ Ok (count (length xs))) × ((to : ℕ) → to ≤ length xs → char_number xs to ≡ to)
 
 -- what is said of characters, and takes all that are not ASCII alike, can be read off the bytes
 abbrev pub ByBytes : Type 1

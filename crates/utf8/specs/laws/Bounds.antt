@@ -1,8 +1,7 @@
 -- How far the answers go, as statements. Their proofs stand in `proofs/Bounds` and `proofs/Texts`.
-use Rattle.std.specs.Prelude.{ℕ, ◌≤◌, ◌<◌, List, ◌≡◌, length}
+use Rattle.utf8.specs.declared.CharNumber.{CharNumber}
+use Rattle.std.specs.Prelude.{ℕ, ◌≤◌, ◌<◌, List, ◌≡◌, length, Err, Ok, Result}
 use Rattle.utf8.specs.declared.Refusal.{Refusal}
-use Rattle.utf8.specs.declared.Admission.{Admission}
-use Rattle.utf8.specs.declared.Admission.TheVariants.{Admitted, Refused}
 use Rattle.utf8.specs.declared.Character.TheVariants.{Scalar, IllFormed}
 use Rattle.utf8.specs.Text.{prefix_end, char_number}
 use Rattle.utf8.specs.Answers.{admitted, character_at}
@@ -14,9 +13,9 @@ pub record Placed (most limit : ℕ) (r : Refusal) : Type 0 where
   pub character : r.place.character.0 ≤ limit
 
 -- within a limit an admission counts no more than that, and its refusals are 1 and 2, at places no further
-abbrev pub Bounded : ℕ → Admission → Type 0
-Bounded limit (Admitted n) = n.0 ≤ limit
-Bounded limit (Refused r) = Placed 2 limit r
+abbrev pub Bounded : ℕ → Result CharNumber Refusal → Type 0
+Bounded limit (Ok n) = n.0 ≤ limit
+Bounded limit (Err r) = Placed 2 limit r
 
 abbrev pub AdmittedBound : Type 0
 AdmittedBound = (limit : ℕ) (xs : List ℕ) → Bounded limit (admitted limit xs)

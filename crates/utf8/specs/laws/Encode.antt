@@ -1,9 +1,8 @@
 -- What the crates above may know of the bytes of code points and of writing them, as statements. Their proofs stand in `proofs/Inverse`,
 -- `proofs/Ascii`, `proofs/Bounds` and `proofs/encode/Bounds`.
-use Rattle.std.specs.Prelude.{ℕ, ◌+◌, ◌≤◌, ◌<◌, true, List, [], ◌∷◌, ◌++◌, ◌≡◌, length, take}
+use Rattle.std.specs.Prelude.{ℕ, ◌+◌, ◌≤◌, ◌<◌, true, List, [], ◌∷◌, ◌++◌, ◌≡◌, length, take, Ok}
 use Rattle.std.proofs.lemmas.List.Edits.{sets}
 use Rattle.utf8.specs.declared.Character.TheVariants.{Scalar}
-use Rattle.utf8.specs.declared.Writing.TheVariants.{Written}
 use Rattle.utf8.specs.Table.{char_length}
 use Rattle.utf8.specs.Code.{code_of, is_scalar, encoded}
 use Rattle.utf8.specs.Answers.{character_of}
@@ -33,12 +32,12 @@ ByteScalar = (c : ℕ) → c ≤ 0xff → is_scalar c ≡ true
 
 -- a character that has room is written
 abbrev pub EncodingFits : Type 0
-EncodingFits = (c room at : ℕ) → is_scalar c ≡ true → at + length (encoded c) ≤ room → encoding_of c room at ≡ Written (length (encoded c))
+EncodingFits = (c room at : ℕ) → is_scalar c ≡ true → at + length (encoded c) ≤ room → encoding_of c room at ≡ Ok (length (encoded c))
 
 -- at most four bytes are
 abbrev pub EncodingBound : Type 0
-EncodingBound = (c room at n : ℕ) → encoding_of c room at ≡ Written n → n ≤ 4
+EncodingBound = (c room at n : ℕ) → encoding_of c room at ≡ Ok n → n ≤ 4
 
 -- and any text that has room is stored byte by byte
 abbrev pub WrittenSets : Type 0
-WrittenSets = (text d : List ℕ) (at : ℕ) → at + length text ≤ length d → left_at at (Written (length text)) text d ≡ sets d at text
+WrittenSets = (text d : List ℕ) (at : ℕ) → at + length text ≤ length d → left_at at (Ok (length text)) text d ≡ sets d at text

@@ -1,7 +1,6 @@
 -- Document 01's rows 1 and 2 as conditions on a text, and the statement that each refusal is given exactly when its row holds.
-use Rattle.std.specs.Prelude.{ℕ, ◌<◌, List, ◌↔◌, ◌≡◌, length}
+use Rattle.std.specs.Prelude.{ℕ, ◌<◌, List, ◌↔◌, ◌≡◌, length, Err, Ok}
 use Rattle.utf8.specs.declared.CharNumber.{CharNumber}
-use Rattle.utf8.specs.declared.Admission.TheVariants.{Admitted, Refused}
 use Rattle.utf8.specs.Text.{chars_of, prefix_end, WellFormed}
 use Rattle.utf8.specs.Answers.{count, place_at, too_long, not_utf8, admitted}
 
@@ -25,10 +24,10 @@ Taken limit xs = (¬ (TooLong limit xs)) × WellFormed xs
 abbrev pub GivenExactly : Type 0
 GivenExactly =
     (limit : ℕ) (xs : List ℕ) →
-    (admitted limit xs ≡ Refused too_long ↔ TooLong limit xs)
-    × (admitted limit xs ≡ Refused (not_utf8 (place_at xs (prefix_end xs))) ↔ (¬ (TooLong limit xs)) × NotUtf8 xs)
-    × (admitted limit xs ≡ Admitted (count (length (chars_of xs))) ↔ Taken limit xs)
+    (admitted limit xs ≡ Err too_long ↔ TooLong limit xs)
+    × (admitted limit xs ≡ Err (not_utf8 (place_at xs (prefix_end xs))) ↔ (¬ (TooLong limit xs)) × NotUtf8 xs)
+    × (admitted limit xs ≡ Ok (count (length (chars_of xs))) ↔ Taken limit xs)
 
 -- so whatever is admitted is text within the limit
 abbrev pub AdmittedText : Type 0
-AdmittedText = (limit : ℕ) (xs : List ℕ) (n : CharNumber) → admitted limit xs ≡ Admitted n → Taken limit xs
+AdmittedText = (limit : ℕ) (xs : List ℕ) (n : CharNumber) → admitted limit xs ≡ Ok n → Taken limit xs

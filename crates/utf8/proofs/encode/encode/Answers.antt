@@ -6,7 +6,7 @@ use mathlib.Core.Path.{◌≡◌, sym, ap, ◌∙◌}
 use borrow.Author.Tests.{lt-leb, leb-true}
 use lib.Dec.{leb, ltb}
 use lib.ListN.{length, take-append-drop}
-use Rattle.utf8.specs.declared.Writing.TheVariants.{Refused}
+use Rattle.std.specs.Prelude.{Err}
 use Rattle.utf8.specs.Code.{is_scalar, encoded}
 use Rattle.utf8.specs.Answers.{no_room}
 use Rattle.utf8.specs.Encode.{not_scalar, encoding_of}
@@ -17,11 +17,11 @@ use Rattle.utf8.proofs.encode.encode.Goals as goal
 use Rattle.utf8.proofs.encode.encode.Goals.{Else-not-is_scalar, Else-out-from-2, Then-not-is_scalar, Then-out-from-2}
 
 module _ (code room at : ℕ) where
-  no_scalar : is_scalar code ≡ false → encoding_of code room at ≡ Refused not_scalar
+  no_scalar : is_scalar code ≡ false → encoding_of code room at ≡ Err not_scalar
   unfolding encoding_of
   no_scalar s = rw s
 
-  lacks_room : is_scalar code ≡ true → room < at + length (encoded code) → encoding_of code room at ≡ Refused no_room
+  lacks_room : is_scalar code ≡ true → room < at + length (encoded code) → encoding_of code room at ≡ Err no_room
   unfolding encoding_of
   lacks_room s h = rw (s, lt-leb (length (encoded code)) (room - at) (omega (arith, encoded_some code)))
 
@@ -33,7 +33,7 @@ pub returns-then-not-is_scalar : goal.returns-then-not-is_scalar
 returns-then-not-is_scalar c =
     let d = (goal.at.returns-then-not-is_scalar c).Then-not-is_scalar in
     let a = d.args in record {
-      value = ap Refused c.at_start.ensures ∙ sym (no_scalar a.code (length a.out.now) a.at.0 (sym d.is_scalar.ensures ∙ d.if-not-is_scalar.true));
+      value = ap Err c.at_start.ensures ∙ sym (no_scalar a.code (length a.out.now) a.at.0 (sym d.is_scalar.ensures ∙ d.if-not-is_scalar.true));
       out_after = sym (take-append-drop a.at.0 a.out.now);
     }
 
@@ -43,7 +43,7 @@ scalar c = sym c.is_scalar.ensures ∙ c.if-not-is_scalar.false
 pub returns-then-out-from : goal.returns-then-out-from
 returns-then-out-from c =
     let a = c.args in record {
-      value = ap Refused c.at_start-then-out-from.ensures ∙ sym (lacks_room a.code (length a.out.now) a.at.0 (scalar (goal.at.returns-then-out-from c).Else-not-is_scalar) (omega (arith, encoded_some a.code)));
+      value = ap Err c.at_start-then-out-from.ensures ∙ sym (lacks_room a.code (length a.out.now) a.at.0 (scalar (goal.at.returns-then-out-from c).Else-not-is_scalar) (omega (arith, encoded_some a.code)));
       out_after = sym (take-append-drop a.at.0 a.out.now);
     }
 
@@ -51,7 +51,7 @@ pub returns-then-out-from-2 : goal.returns-then-out-from-2
 returns-then-out-from-2 c =
     let d = (goal.at.returns-then-out-from-2 c).Then-out-from-2 in
     let a = d.args in record {
-      value = ap Refused c.at_start-then-out-from-2.ensures ∙ sym (lacks_room a.code (length a.out.now) a.at.0 (scalar (goal.at.Then-out-from-2 d).Else-not-is_scalar) (omega (arith, d.encoded_size-size.ensures)));
+      value = ap Err c.at_start-then-out-from-2.ensures ∙ sym (lacks_room a.code (length a.out.now) a.at.0 (scalar (goal.at.Then-out-from-2 d).Else-not-is_scalar) (omega (arith, d.encoded_size-size.ensures)));
       out_after = sym (take-append-drop a.at.0 a.out.now);
     }
 
