@@ -11,11 +11,11 @@ use contract.Lifetimes.{Lfts}
 use borrow.Fn.Kinds.{Dens, res_t, ended_of}
 use denote.Triple.Clauses.{AtExit}
 use borrow.Author.Tests.{leb-true, le-leb}
+use Rattle.utf8.specs.declared.Refusal.{Refusal}
+use Rattle.std.specs.Prelude.{Err, Ok, Result}
 use Rattle.proving.proofs.One.{Answers, Leaves, Shows}
 use Rattle.utf8.specs.declared.Reading.{Reading}
 use Rattle.utf8.specs.declared.Reading.TheVariants.{Crate}
-use Rattle.utf8.specs.declared.Writing.{Writing}
-use Rattle.utf8.specs.declared.Writing.TheVariants.{Written}
 use Rattle.utf8.specs.Writing.{left_by}
 use Rattle.utf8.specs.Answers.{text_limit, refused_at}
 use Rattle.utf8.specs.laws.Ascii.{is_ascii}
@@ -30,7 +30,6 @@ use Rattle.string.proofs.part.Kinds as part
 use Rattle.string.proofs.part.Reads as part_reads
 use Rattle.duration.specs.declared.span.Duration.{Duration}
 use Rattle.duration.specs.Unit.{nanos_a_second}
-use Rattle.duration.specs.declared.Timing.{Timing}
 use Rattle.duration.specs.Duration.{timing_of}
 use Rattle.duration.proofs.parse_duration.Kinds as parse
 use Rattle.duration.proofs.parse_duration.Reads as parse_reads
@@ -38,7 +37,6 @@ use Rattle.duration.specs.Display.{duration_text, displaying_of}
 use Rattle.duration.proofs.display.Given.{displaying_given}
 use Rattle.duration.proofs.display.display_duration.Kinds as display
 use Rattle.duration.proofs.display.display_duration.Reads as display_reads
-use Rattle.lex.specs.declared.Lexing.TheVariants as lexing
 use Rattle.lex.specs.Lex.{roomed, lexed}
 use Rattle.calls.specs.laws.Calls.{LexCall, room_in, kinds_left}
 use Rattle.calls.proofs.Calls.{answered, writes}
@@ -79,16 +77,16 @@ pub record Unquoted (r : Reading) (xs ys d : List ℕ) : Type 0 where
 -- calls of `lexer` on the query in the crate reading are accepted in any lists that its lexemes fit, and leave their kinds there, or are refused;
 -- those on the literal hand its text back, with any buffer that it fits
 abbrev pub Called : Case → Type 0
-Called (lexes q ks) = (c : LexCall Crate q) → length ks ≤ room_in c → (c.result ≡ lexing.Count (length ks)) × (take (length ks) (kinds_left c) ≡ ks)
-Called (refuses q r p) = (c : LexCall Crate q) → c.result ≡ lexing.Refused (refused_at q r p)
+Called (lexes q ks) = (c : LexCall Crate q) → length ks ≤ room_in c → (c.result ≡ Ok (length ks)) × (take (length ks) (kinds_left c) ≡ ks)
+Called (refuses q r p) = (c : LexCall Crate q) → c.result ≡ Err (refused_at q r p)
 Called (literal r xs ys) = (d : List ℕ) → length ys ≤ length d → Unquoted r xs ys d
 Called (timed xs t) = (c : Timed xs) → c.result ≡ t
-Called (written d ys) = (room : ℕ) (c : Displayed d room) → length ys ≤ room → d.nanos < nanos_a_second → (c.result ≡ Written (length ys)) × (take (length ys) c.exit.1.0.now ≡ ys)
+Called (written d ys) = (room : ℕ) (c : Displayed d room) → length ys ≤ room → d.nanos < nanos_a_second → (c.result ≡ Ok (length ys)) × (take (length ys) c.exit.1.0.now ≡ ys)
 
 lexes_called : (q ks : List ℕ) → Shown (lexes q ks) → Called (lexes q ks)
 unfolding lexed
 lexes_called q ks s c h =
-    let e : c.result ≡ lexing.Count (length ks) = answered Crate q c ∙ rw (s.0, le-leb (length ks) (room_in c) h) in
+    let e : c.result ≡ Ok (length ks) = answered Crate q c ∙ rw (s.0, le-leb (length ks) (room_in c) h) in
     (e, (writes Crate q c (length ks) e).0 ∙ s.1)
 
 refuses_called : (q : List ℕ) (r p : ℕ) → Shown (refuses q r p) → Called (refuses q r p)
@@ -110,17 +108,17 @@ literal_called r xs ys s a l d h =
       hands = λ κs a x f p g. p ∙ cc (g.0, g.1, g.2) ∙ part_is_text r xs d e ∙ s.1;
     }
 
-timed_called : (xs : List ℕ) (t : Timing) → Shown (timed xs t) → Called (timed xs t)
+timed_called : (xs : List ℕ) (t : Result Duration Refusal) → Shown (timed xs t) → Called (timed xs t)
 timed_called xs t s c = c.post ∙ ap timing_of c.of_text ∙ s
 
 written_called : (d : Duration) (ys : List ℕ) → Shown (written d ys) → Called (written d ys)
 written_called d ys s room c h few = (answer, ap (take (length ys)) content ∙ take_at ys (drop (length ys) c.args.1.0.now) (length ys) refl)
   where
-    answer : c.result ≡ Written (length ys)
-    answer = c.post.0 ∙ ap₂ displaying_of c.in_room c.of_duration ∙ (displaying_given room d).2.1 ((λ n. omega arith), λ n. omega (arith, ap length s)) ∙ ap (λ (zs : List ℕ). Written (length zs)) s
+    answer : c.result ≡ Ok (length ys)
+    answer = c.post.0 ∙ ap₂ displaying_of c.in_room c.of_duration ∙ (displaying_given room d).2.1 ((λ n. omega arith), λ n. omega (arith, ap length s)) ∙ ap (λ (zs : List ℕ). Ok (length zs)) s
 
     content : c.exit.1.0.now ≡ ys ++ drop (length ys) c.args.1.0.now
-    content = c.post.1 ∙ ap₂ (λ (e : Writing) (zs : List ℕ). left_by e zs c.args.1.0.now) answer (ap duration_text c.of_duration ∙ s)
+    content = c.post.1 ∙ ap₂ (λ (e : Result ℕ Refusal) (zs : List ℕ). left_by e zs c.args.1.0.now) answer (ap duration_text c.of_duration ∙ s)
 
 queries_called : Each Called queries
 queries_called = let s = queries_shown in (lexes_called _ _ s.0, (lexes_called _ _ s.1.0, (lexes_called _ _ s.1.1.0, (refuses_called _ _ _ s.1.1.1.0, (lexes_called _ _ s.1.1.1.1.0, (lexes_called _ _ s.1.1.1.1.1.0, (lexes_called _ _ s.1.1.1.1.1.1.0, (refuses_called _ _ _ s.1.1.1.1.1.1.1.0, tt))))))))

@@ -3,6 +3,7 @@ use mathlib.Core.List.{List, [], ◌∷◌, ◌++◌}
 use mathlib.Core.Path.{◌≡◌, refl}
 use lib.Count.{count_trailing_zeros}
 use lib.Ieee.{round, size, span, climb, units as float_units, odd, lt, le}
+use Rattle.std.specs.Prelude.{Err, Ok}
 use Rattle.scan.specs.Ascii.{ascii}
 use Rattle.scan.specs.Run.{run_length}
 use Rattle.scan.specs.Separated.{separated_length}
@@ -20,7 +21,6 @@ use Rattle.scan.specs.Sign.{is_sign}
 use Rattle.decimal.specs.Grammar.{has_digits, exponent_has_digits, is_numeral, is_infinite, is_nan}
 use Rattle.decimal.specs.Value.{is_scaled, is_some, is_exact_range, is_in_exact, numeral_read, decimal_in, decimal_of}
 use Rattle.duration.specs.Units.{is_part, behind, sum_by, counted, has_oversized, is_unit_text, units_of}
-use Rattle.duration.specs.declared.Timing.TheVariants.{Lasts, Refused}
 use Rattle.duration.specs.Duration.{duration_read, timing_by, timing_of}
 use Rattle.writing.specs.Decimal.{digit_for, digits_within, decimal_text}
 use Rattle.duration.specs.Display.{count_text, part_text, rest_of, duration_text}
@@ -41,19 +41,19 @@ unfolding measured answer_by steps_past read_from munched step_in outside_table 
 queries_shown = ((refl, refl), ((refl, refl), ((refl, refl), (refl, ((refl, refl), ((refl, refl), ((refl, refl), (refl, tt))))))))
 
 -- the durations that are read
-timed_zero : timing_of (ascii "0") ≡ Refused (at_start 51)
+timed_zero : timing_of (ascii "0") ≡ Err (at_start 51)
 unfolding timing_by duration_read admitted validity_of chars_past size_of char_length size_in fits code_of is_within same_text
 timed_zero = refl
 
-timed_none : timing_of (ascii "00") ≡ Lasts (elapsed 0 0)
+timed_none : timing_of (ascii "00") ≡ Ok (elapsed 0 0)
 unfolding timing_by duration_read admitted validity_of chars_past size_of char_length size_in fits code_of is_within same_text decimal_of decimal_in is_infinite is_nan is_numeral has_digits exponent_has_digits is_sign lowered is_in run_length digit_of value_from numeral_read is_in_exact is_exact_range is_some is_scaled round size span climb float_units odd count_trailing_zeros lt le
 timed_none = refl
 
-timed_decimal_holds : timing_of (ascii "0.0009765625") ≡ Lasts (elapsed 0 976562)
+timed_decimal_holds : timing_of (ascii "0.0009765625") ≡ Ok (elapsed 0 976562)
 unfolding timing_by duration_read admitted validity_of chars_past size_of char_length size_in fits code_of is_within same_text decimal_of decimal_in is_infinite is_nan is_numeral has_digits exponent_has_digits is_sign lowered is_in run_length digit_of value_from numeral_read is_in_exact is_exact_range is_some is_scaled round size span climb float_units odd count_trailing_zeros lt le
 timed_decimal_holds = refl
 
-timed_units : timing_of (ascii "1d5000000000ms") ≡ Lasts (days 1)
+timed_units : timing_of (ascii "1d5000000000ms") ≡ Ok (days 1)
 unfolding timing_by duration_read admitted validity_of chars_past size_of char_length size_in fits code_of is_within same_text decimal_of decimal_in is_infinite is_nan is_numeral has_digits exponent_has_digits is_sign lowered is_in is_alpha run_length digit_of value_from units_of is_unit_text behind sum_by has_oversized is_part counted
 timed_units = refl
 

@@ -5,11 +5,10 @@ use native.Mathlib.Omega.{arith}
 use mathlib.Core.List.{List, [], ◌∷◌}
 use mathlib.Core.Path.{◌≡◌, sym, ap, ◌∙◌}
 use lib.ListN.{take, get_or}
+use Rattle.std.specs.Prelude.{Err, Ok, Result}
 use Rattle.scan.specs.Ascii.{ascii}
 use Rattle.utf8.specs.declared.Reading.TheVariants.{Crate}
 use Rattle.utf8.specs.declared.Refusal.{Refusal}
-use Rattle.lex.specs.declared.Lexing.{Lexing}
-use Rattle.lex.specs.declared.Lexing.TheVariants.{Count, Refused}
 use Rattle.calls.specs.laws.Calls.{LexCall, room_in, kinds_left}
 use Rattle.cases.specs.laws.Cases.{lexes}
 use Rattle.cases.proofs.Called.{Called, all_called}
@@ -27,18 +26,18 @@ fill_called = all_called.1.1.1.1.1.0
 or_called : Called (lexes or (8 ∷ 36 ∷ 9 ∷ 0 ∷ []))
 or_called = all_called.1.0
 
-count : Lexing → ℕ
-count (Count n) = n
-count (Refused r) = 0
+count : Result ℕ Refusal → ℕ
+count (Ok n) = n
+count (Err r) = 0
 
 module _ (c : LexCall Crate fill) (room : 4 ≤ room_in c) where
   -- "always refusing"
-  pub never_refused : (r : Refusal) → c.result ≡ Refused r → ⊥
+  pub never_refused : (r : Refusal) → c.result ≡ Err r → ⊥
   unfolding count
   never_refused r e = let z = ap count (sym (fill_called c room).0 ∙ e) in omega arith
 
   -- "a count other than the entries written"
-  pub counted_right : (n : ℕ) → c.result ≡ Count n → (n ≡ 4 → ⊥) → ⊥
+  pub counted_right : (n : ℕ) → c.result ≡ Ok n → (n ≡ 4 → ⊥) → ⊥
   unfolding count
   counted_right n e d = d (sym (ap count (sym (fill_called c room).0 ∙ e)))
 

@@ -6,11 +6,11 @@ use mathlib.Core.List.{List, map}
 use mathlib.Core.Path.{◌≡◌, refl, sym, ◌∙◌}
 use lib.ListN.{length, take, get_or, length-map}
 use borrow.Author.Tests.{ne_eqb}
+use Rattle.std.specs.Prelude.{Ok}
 use Rattle.utf8.specs.declared.Reading.{Reading}
 use Rattle.utf8.specs.Answers.{text_limit}
 use Rattle.utf8.proofs.Given.{given_exactly}
 use Rattle.token.specs.Kinds.{left_paren, right_paren}
-use Rattle.lex.specs.declared.Lexing.TheVariants.{Count}
 use Rattle.lex.specs.Outcome.{Outcome}
 use Rattle.lex.specs.Lex.{entries, entries_of, answer_by, measured, kind_of, depth_of}
 use Rattle.lex.proofs.Given.{measured_given}
@@ -47,7 +47,7 @@ along ended (suc i) h = absurd (omega arith)
 along refused i h = absurd (omega arith)
 
 -- a walk to the end closes all
-closed : {b : ℕ} {o : Outcome} (q : List ℕ) (n m : ℕ) → Walk b o → answer_by q n o ≡ Count m → count_of right_paren (kinds o) ≡ b + count_of left_paren (kinds o)
+closed : {b : ℕ} {o : Outcome} (q : List ℕ) (n m : ℕ) → Walk b o → answer_by q n o ≡ Ok m → count_of right_paren (kinds o) ≡ b + count_of left_paren (kinds o)
 unfolding answer_by
 closed q n m (opens w) e = omega (arith, closed q n m w e)
 closed q n m (closes w) e = omega (arith, closed q n m w e)
@@ -58,7 +58,7 @@ closed q n m refused e = let z : ◌≡◌ {A = ℕ} 0 1 = cc in absurd (omega a
 pub depths_counted : DepthsCounted
 depths_counted r q i l h = omega (arith, along (walked r q l) i h)
 
-query_balanced : (r : Reading) (q : List ℕ) (n : ℕ) → measured r q ≡ Count n → Balanced (map kind_of (entries_of r q)) (map depth_of (entries_of r q))
+query_balanced : (r : Reading) (q : List ℕ) (n : ℕ) → measured r q ≡ Ok n → Balanced (map kind_of (entries_of r q)) (map depth_of (entries_of r q))
 unfolding measured
 query_balanced r q n e =
     let g = (measured_given r q n).0 e in

@@ -6,36 +6,34 @@ use mathlib.Core.List.{List}
 use mathlib.Core.Path.{subst}
 use lib.Dec.{eqb}
 use lib.ListN.{length}
+use Rattle.utf8.specs.declared.Refusal.{Refusal}
+use Rattle.duration.specs.declared.span.Duration.{Duration}
+use Rattle.utf8.specs.declared.CharNumber.{CharNumber}
+use Rattle.std.specs.Prelude.{Err, None, Ok, Option, Result, Some}
 use Rattle.scan.specs.Ascii.{ascii}
 use Rattle.scan.specs.Text.{same_text}
 use Rattle.proving.proofs.Choice.{either}
-use Rattle.utf8.specs.declared.Admission.{Admission}
-use Rattle.utf8.specs.declared.Admission.TheVariants as admission
 use Rattle.utf8.specs.Answers.{admitted}
 use Rattle.utf8.specs.laws.Bounds as within
 use Rattle.utf8.proofs.Bounds.{admitted_bound}
 use Rattle.decimal.specs.declared.Decimal.{Decimal}
 use Rattle.decimal.specs.declared.Decimal.TheVariants.{NotDecimal, Named, Exact, Outside}
 use Rattle.decimal.specs.Value.{decimal_limit, decimal_of}
-use Rattle.duration.specs.declared.span.Conversion.{Conversion}
-use Rattle.duration.specs.declared.span.Conversion.TheVariants as conversion
 use Rattle.duration.specs.Spans.{is_zero, from_secs}
 use Rattle.duration.specs.declared.units.Units.{Units}
 use Rattle.duration.specs.declared.units.Units.TheVariants.{Sum, NotUnits}
 use Rattle.duration.specs.Units.{units_of}
 use Rattle.duration.specs.laws.Refusals.{TimingBound}
 use Rattle.duration.specs.declared.Oversized.{Oversized}
-use Rattle.duration.specs.declared.Timing.{Timing}
-use Rattle.duration.specs.declared.Timing.TheVariants.{Lasts, Refused}
 use Rattle.duration.specs.Duration.{converted, refuses_oversized, units_read, timed_decimal, duration_read, timing_for, timing_by}
 
-abbrev Bounded : Timing → Type 0
-Bounded (Lasts d) = Unit {0}
-Bounded (Refused r) = within.Placed 55 decimal_limit r
+abbrev Bounded : Result Duration Refusal → Type 0
+Bounded (Ok d) = Unit {0}
+Bounded (Err r) = within.Placed 55 decimal_limit r
 
-timed_bound : (t : Conversion) → Bounded (converted t)
-timed_bound (conversion.Lasts d) = tt
-timed_bound conversion.Refused = omega arith
+timed_bound : (t : Option Duration) → Bounded (converted t)
+timed_bound (Some d) = tt
+timed_bound None = omega arith
 
 units_bound : (o : Oversized) (u : Units) → Bounded (units_read o u)
 units_bound o (Sum d over) = either Bounded (refuses_oversized o && over) (λ e. omega arith) (λ e. either Bounded (is_zero d) (λ e. omega arith) (λ e. tt))
@@ -58,9 +56,9 @@ bound : (o : Oversized) (xs : List ℕ) → Bounded (timing_by o xs)
 unfolding timing_by
 bound o xs = go (admitted decimal_limit xs) (admitted_bound decimal_limit xs)
   where
-    go : (a : Admission) → within.Bounded decimal_limit a → Bounded (timing_for o a xs)
-    go (admission.Admitted n) h = read_bound o xs
-    go (admission.Refused r) h = omega (arith, h.number, h.byte, h.character)
+    go : (a : Result CharNumber Refusal) → within.Bounded decimal_limit a → Bounded (timing_for o a xs)
+    go (Ok n) h = read_bound o xs
+    go (Err r) h = omega (arith, h.number, h.byte, h.character)
 
 pub timing_bound : TimingBound
 timing_bound o xs r e = let p = subst Bounded e (bound o xs) in (p.number, p.byte, p.character)

@@ -9,12 +9,11 @@ use borrow.Fn.Kinds.{Dens, res_t, ended_of}
 use denote.Triple.Clauses.{AtExit}
 use lib.ListN.{length, take, drop}
 use lib.Seq.{take-append_seam}
-use Rattle.utf8.specs.declared.Writing.{Writing}
-use Rattle.utf8.specs.declared.Writing.TheVariants.{Written}
+use Rattle.utf8.specs.declared.Refusal.{Refusal}
+use Rattle.std.specs.Prelude.{Ok, Result}
 use Rattle.utf8.specs.Writing.{left_by}
 use Rattle.duration.specs.declared.span.Duration.{Duration}
 use Rattle.duration.specs.declared.Oversized.TheVariants as oversized
-use Rattle.duration.specs.declared.Timing.TheVariants.{Lasts}
 use Rattle.duration.specs.Display.{duration_text, displaying_of}
 use Rattle.duration.specs.Duration.{timing_of, exact_timing_of}
 use Rattle.duration.specs.laws.Display.{DisplayTells}
@@ -57,25 +56,25 @@ pub record ExactCall (xs : List ℕ) : Type 0 where
   pub of_text : args.0.now ≡ xs
 
 -- an accepted call has written the text of its duration, whatever room there was
-module _ (d : Duration) (w : Recoverable d) (room n : ℕ) (c : DisplayCall d room) (e : c.result ≡ Written n) where
+module _ (d : Duration) (w : Recoverable d) (room n : ℕ) (c : DisplayCall d room) (e : c.result ≡ Ok n) where
   whole : n ≡ length (duration_text d)
   whole = (subst (DisplayTells room d) (sym (ap₂ displaying_of c.in_room c.of_duration) ∙ sym c.post.0 ∙ e) (display_answers room d)).0
 
   front : take n c.exit.1.0.now ≡ duration_text d
   front =
       let out = c.args.1.0.now in
-      let l : c.exit.1.0.now ≡ duration_text d ++ drop n out = c.post.1 ∙ ap₂ (λ (v : Writing) (f : Duration). left_by v (duration_text f) out) e c.of_duration in
+      let l : c.exit.1.0.now ≡ duration_text d ++ drop n out = c.post.1 ∙ ap₂ (λ (v : Result ℕ Refusal) (f : Duration). left_by v (duration_text f) out) e c.of_duration in
       ap (take n) l ∙ rw whole (take-append_seam (duration_text d) (drop (length (duration_text d)) out))
 
   -- which reads back, by both
-  pub parsed : (p : ParseCall (take n c.exit.1.0.now)) → p.result ≡ Lasts d
+  pub parsed : (p : ParseCall (take n c.exit.1.0.now)) → p.result ≡ Ok d
   parsed p = p.post ∙ ap timing_of (p.of_text ∙ front) ∙ reads_again oversized.Ignored d w
 
-  pub parsed_exactly : (p : ExactCall (take n c.exit.1.0.now)) → p.result ≡ Lasts d
+  pub parsed_exactly : (p : ExactCall (take n c.exit.1.0.now)) → p.result ≡ Ok d
   parsed_exactly p = p.post ∙ ap exact_timing_of (p.of_text ∙ front) ∙ reads_again oversized.Refused d w
 
 -- and a call is accepted where there is room for the text
-pub written : (d : Duration) → Recoverable d → (room : ℕ) → length (duration_text d) ≤ room → (c : DisplayCall d room) → c.result ≡ Written (length (duration_text d))
+pub written : (d : Duration) → Recoverable d → (room : ℕ) → length (duration_text d) ≤ room → (c : DisplayCall d room) → c.result ≡ Ok (length (duration_text d))
 written d w room h c =
     c.post.0
     ∙ ap₂ displaying_of c.in_room c.of_duration

@@ -11,19 +11,19 @@ use mathlib.Core.Path.{◌≡◌, refl, sym, ap, ◌∙◌}
 use lib.Dec.{eqb}
 use lib.ListN.{length}
 use borrow.Author.Tests.{le-leb, lt-leb}
+use Rattle.utf8.specs.declared.Refusal.{Refusal}
+use Rattle.duration.specs.declared.span.Duration.{Duration}
+use Rattle.utf8.specs.declared.CharNumber.{CharNumber}
+use Rattle.std.specs.Prelude.{Err, Ok, Result}
 use Rattle.proving.proofs.Choice.{told}
 use Rattle.proving.proofs.Tests.{denied}
 use Rattle.scan.specs.Ascii.{ascii}
 use Rattle.scan.specs.Text.{same_text}
-use Rattle.utf8.specs.declared.Admission.{Admission}
-use Rattle.utf8.specs.declared.Admission.TheVariants as admission
 use Rattle.utf8.specs.Answers.{admitted}
 use Rattle.decimal.specs.declared.Decimal.{Decimal}
 use Rattle.decimal.specs.declared.Decimal.TheVariants.{NotDecimal, Named, Exact, Outside}
 use Rattle.decimal.specs.Value.{decimal_limit, decimal_of}
 use Rattle.duration.specs.declared.Oversized.TheVariants as oversized
-use Rattle.duration.specs.declared.Timing.{Timing}
-use Rattle.duration.specs.declared.Timing.TheVariants.{Lasts, Refused}
 use Rattle.duration.specs.declared.units.Units.{Units}
 use Rattle.duration.specs.declared.units.Units.TheVariants.{Sum, NotUnits}
 use Rattle.duration.specs.Unit.{Unit, units}
@@ -105,7 +105,7 @@ module _ (xs : List ℕ) (u : UnitText xs) where
 pub exact_refuses : ExactRefuses
 exact_refuses xs = (to, λ (r, u, c). (timing_given oversized.Refused xs).5.1 (r, u, (refl, over xs u c)))
   where
-    to : exact_timing_of xs ≡ Refused oversized_part → Read xs × UnitText xs × CountsNothing xs
+    to : exact_timing_of xs ≡ Err oversized_part → Read xs × UnitText xs × CountsNothing xs
     to e = let (r, u, v) = (timing_given oversized.Refused xs).5.0 e in (r, u, less xs u v.1)
 
 -- so what is accepted has no such part, and all of it counts
@@ -121,8 +121,8 @@ all_counted xs d u e = go (((timing_given oversized.Refused xs).8 d).0 e).1
         l ∙ ap lasting (c.0 counted ∙ k ∙ sym (c.0 (λ v. v)))
 
 -- the two readings, step by step
-abbrev Parted : Timing → Timing → Type 0
-Parted exact present = (exact ≡ Refused oversized_part) ⊎ (exact ≡ present)
+abbrev Parted : Result Duration Refusal → Result Duration Refusal → Type 0
+Parted exact present = (exact ≡ Err oversized_part) ⊎ (exact ≡ present)
 
 units_parted : (u : Units) → Parted (units_read oversized.Refused u) (units_read oversized.Ignored u)
 units_parted (Sum d true) = inl refl
@@ -139,14 +139,14 @@ parted : (xs : List ℕ) → Parted (exact_timing_of xs) (timing_of xs)
 unfolding timing_by duration_read
 parted xs = go (admitted decimal_limit xs)
   where
-    by : (a b : Bool) → Parted (cond a (Refused empty_text) (cond b (Refused zero_duration) (timed_decimal oversized.Refused xs (decimal_of xs)))) (cond a (Refused empty_text) (cond b (Refused zero_duration) (timed_decimal oversized.Ignored xs (decimal_of xs))))
+    by : (a b : Bool) → Parted (cond a (Err empty_text) (cond b (Err zero_duration) (timed_decimal oversized.Refused xs (decimal_of xs)))) (cond a (Err empty_text) (cond b (Err zero_duration) (timed_decimal oversized.Ignored xs (decimal_of xs))))
     by true b = inr refl
     by false true = inr refl
     by false false = decimal_parted xs (decimal_of xs)
 
-    go : (a : Admission) → Parted (timing_for oversized.Refused a xs) (timing_for oversized.Ignored a xs)
-    go (admission.Admitted n) = by (eqb (length xs) 0) (same_text xs (ascii "0"))
-    go (admission.Refused r) = inr refl
+    go : (a : Result CharNumber Refusal) → Parted (timing_for oversized.Refused a xs) (timing_for oversized.Ignored a xs)
+    go (Ok n) = by (eqb (length xs) 0) (same_text xs (ascii "0"))
+    go (Err r) = inr refl
 
 pub exact_else : ExactElse
 exact_else xs n = go (parted xs)
@@ -158,6 +158,6 @@ exact_else xs n = go (parted xs)
 pub exact_agrees : ExactAgrees
 exact_agrees xs d e = sym (exact_else xs (λ r. told tag e r (λ z. omega arith))) ∙ e
   where
-    tag : Timing → ℕ
-    tag (Lasts d) = 0
-    tag (Refused r) = 1
+    tag : Result Duration Refusal → ℕ
+    tag (Ok d) = 0
+    tag (Err r) = 1

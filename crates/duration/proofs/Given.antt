@@ -12,6 +12,8 @@ use lib.IntN.{pos}
 use lib.Ieee.{nan, inf, fin, lt, le}
 use lib.ListN.{length}
 use borrow.Author.Tests.{eq-eqb, ne_eqb}
+use Rattle.utf8.specs.declared.Refusal.{Refusal}
+use Rattle.std.specs.Prelude.{Err, Ok, Result}
 use Rattle.scan.specs.Ascii.{ascii}
 use Rattle.scan.specs.Text.{same_text}
 use Rattle.proving.proofs.Choice.{exactly}
@@ -35,8 +37,6 @@ use Rattle.duration.specs.Unit as unit
 use Rattle.duration.specs.Spans.{is_zero, two_to64, nanos_of, duration_at}
 use Rattle.duration.specs.Units.{has_oversized, is_unit_text, unit_sum, lasting, units_of}
 use Rattle.duration.specs.declared.Oversized.{Oversized}
-use Rattle.duration.specs.declared.Timing.{Timing}
-use Rattle.duration.specs.declared.Timing.TheVariants.{Lasts, Refused}
 use Rattle.duration.specs.Duration.{empty_text, zero_duration, not_duration, out_of_range, oversized_part, seconds_read, refuses_oversized, units_read, timed_decimal, duration_read, timing_by}
 use Rattle.duration.specs.laws.Refusals.{Empty, ZeroText, Read, seconds_of, InTime, UnitText, Nothing, Over, ZeroDuration, NotDuration, OutOfRange, SecondsAre, UnitsAre, TimingGiven}
 
@@ -45,10 +45,10 @@ module _ (xs : List ℕ) where
   tests_time : Tests (lt (seconds_of xs) two_to64 && le (fin false 0 (pos 0)) (seconds_of xs)) (InTime xs)
   tests_time = tests_and (itself (lt (seconds_of xs) two_to64)) (itself (le (fin false 0 (pos 0)) (seconds_of xs)))
 
-  timed : InTime xs → seconds_read (nearest_of xs) ≡ Lasts (duration_at (nanos_of (seconds_of xs)))
+  timed : InTime xs → seconds_read (nearest_of xs) ≡ Ok (duration_at (nanos_of (seconds_of xs)))
   timed i = rw (tests_time.1 i)
 
-  untimed : (InTime xs → ⊥) → seconds_read (nearest_of xs) ≡ Refused out_of_range
+  untimed : (InTime xs → ⊥) → seconds_read (nearest_of xs) ≡ Err out_of_range
   untimed n = rw (affirmed tests_time n)
 
   -- and what parts with units amount to
@@ -66,15 +66,15 @@ module _ (xs : List ℕ) where
     tests_over : Tests (refuses_oversized o && has_oversized unit.units xs) (Over o xs)
     tests_over = tests_and (itself (refuses_oversized o)) (itself (has_oversized unit.units xs))
 
-    oversized : is_unit_text xs ≡ true → Over o xs → units_read o (units_of xs) ≡ Refused oversized_part
+    oversized : is_unit_text xs ≡ true → Over o xs → units_read o (units_of xs) ≡ Err oversized_part
     unfolding units_of
     oversized e v = rw (e, tests_over.1 v)
 
-    summed : is_unit_text xs ≡ true → (Over o xs → ⊥) → units_read o (units_of xs) ≡ cond (is_zero (lasting (unit_sum xs))) (Refused zero_duration) (Lasts (lasting (unit_sum xs)))
+    summed : is_unit_text xs ≡ true → (Over o xs → ⊥) → units_read o (units_of xs) ≡ cond (is_zero (lasting (unit_sum xs))) (Err zero_duration) (Ok (lasting (unit_sum xs)))
     unfolding units_of
     summed e v = rw (e, affirmed tests_over v)
 
-    unsummed : is_unit_text xs ≡ false → units_read o (units_of xs) ≡ Refused not_duration
+    unsummed : is_unit_text xs ≡ false → units_read o (units_of xs) ≡ Err not_duration
     unfolding units_of
     unsummed e = rw e
 
@@ -89,9 +89,9 @@ data Row : Type 0 where
   beyond : Row
   lasts : Duration → Row
 
-abbrev row_of : Timing → Row
-row_of (Lasts d) = lasts d
-row_of (Refused r) =
+abbrev row_of : Result Duration Refusal → Row
+row_of (Ok d) = lasts d
+row_of (Err r) =
     cond (eqb r.number 1) long
     (cond (eqb r.number 2) broken
     (cond (eqb r.number 50) empty
@@ -112,16 +112,16 @@ module _ (o : Oversized) (xs : List ℕ) where
   Holds beyond = OutOfRange xs
   Holds (lasts d) = Read xs × (SecondsAre xs d ⊎ UnitsAre o xs d)
 
-  abbrev given : Row → Timing
-  given long = Refused too_long
-  given broken = Refused (not_utf8 (place_at xs (prefix_end xs)))
-  given empty = Refused empty_text
-  given zero = Refused zero_duration
-  given none = Refused not_duration
-  given over = Refused oversized_part
-  given outside = Refused outside_exact
-  given beyond = Refused out_of_range
-  given (lasts d) = Lasts d
+  abbrev given : Row → Result Duration Refusal
+  given long = Err too_long
+  given broken = Err (not_utf8 (place_at xs (prefix_end xs)))
+  given empty = Err empty_text
+  given zero = Err zero_duration
+  given none = Err not_duration
+  given over = Err oversized_part
+  given outside = Err outside_exact
+  given beyond = Err out_of_range
+  given (lasts d) = Ok d
 
   back : (w : Row) → row_of (given w) ≡ w
   back long = refl
@@ -151,10 +151,10 @@ module _ (o : Oversized) (xs : List ℕ) where
   units : Read xs → (Spelled xs → ⊥) → timing_by o xs ≡ units_read o (units_of xs)
   units r n = read r NotDecimal ((decimal_given xs).4.1 (λ s. n s.1))
 
-  abbrev by_zero : Bool → Timing
-  by_zero z = cond z (Refused zero_duration) (Lasts (lasting (unit_sum xs)))
+  abbrev by_zero : Bool → Result Duration Refusal
+  by_zero z = cond z (Err zero_duration) (Ok (lasting (unit_sum xs)))
 
-  zero_text : duration_read o (ascii "0") ≡ Refused zero_duration
+  zero_text : duration_read o (ascii "0") ≡ Err zero_duration
   unfolding duration_read same_text
   zero_text = refl
 
@@ -172,8 +172,8 @@ module _ (o : Oversized) (xs : List ℕ) where
   gives beyond (r, inl (inr a)) = read r (Named (plain nan)) ((decimal_given xs).1.1 (short r.0, a))
   gives beyond (r, inr (inl e)) = read r (Exact (nearest_of xs)) ((decimal_given xs).2.1 (short r.0, e.0, e.1)) ∙ untimed xs e.2
   gives beyond (r, inr (inr o)) = read r (Outside (is_minus xs 0)) ((decimal_given xs).3.1 (short r.0, o.0)) ∙ rw o.1
-  gives (lasts d) (r, inl s) = read r (Exact (nearest_of xs)) ((decimal_given xs).2.1 (short r.0, s.0, s.1)) ∙ timed xs s.2 ∙ ap Lasts (sym s.3)
-  gives (lasts d) (r, inr u) = units r u.0.0 ∙ summed xs o u.0.1 u.1 ∙ ap by_zero (some_sum xs u.2) ∙ ap Lasts (sym u.3)
+  gives (lasts d) (r, inl s) = read r (Exact (nearest_of xs)) ((decimal_given xs).2.1 (short r.0, s.0, s.1)) ∙ timed xs s.2 ∙ ap Ok (sym s.3)
+  gives (lasts d) (r, inr u) = units r u.0.0 ∙ summed xs o u.0.1 u.1 ∙ ap by_zero (some_sum xs u.2) ∙ ap Ok (sym u.3)
 
   -- which row holds of a text that is read
   decimal_row : Read xs → Numeric xs → Dec (InExact xs) → Dec (InTime xs) → Dec (is_minus xs 0 ≡ true) → (w : Row) × Holds w

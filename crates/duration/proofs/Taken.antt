@@ -9,6 +9,9 @@ use lib.IntN.{pos}
 use lib.Ieee.{fin, round, size, span, climb, units, odd}
 use lib.ListN.{length}
 use borrow.Author.Tests.{eq-eqb, ne_eqb, eqb-true, lt-ltb}
+use Rattle.utf8.specs.declared.Refusal.{Refusal}
+use Rattle.utf8.specs.declared.CharNumber.{CharNumber}
+use Rattle.std.specs.Prelude.{Err, Result}
 use Rattle.proving.proofs.Tests.{affirmed, itself}
 use Rattle.scan.specs.Ascii.{ascii}
 use Rattle.scan.specs.Byte.{is_within, digit_of, lowered, is_in}
@@ -17,7 +20,6 @@ use Rattle.scan.specs.Run.{run_length}
 use Rattle.scan.specs.Sign.{is_sign}
 use Rattle.scan.specs.Text.{same_text}
 use Rattle.scan.proofs.Same.{same_is_equal}
-use Rattle.utf8.specs.declared.Admission.{Admission}
 use Rattle.utf8.specs.Table.{fits, size_in, char_length}
 use Rattle.utf8.specs.Text.{chars_past, size_of, is_well_formed, prefix_end, codes_of}
 use Rattle.utf8.specs.Code.{code_of}
@@ -29,20 +31,19 @@ use Rattle.decimal.specs.declared.Decimal.TheVariants.{NotDecimal, Exact}
 use Rattle.decimal.specs.Grammar.{has_digits, exponent_has_digits, is_numeral, is_infinite, is_nan}
 use Rattle.decimal.specs.Value.{plain, is_in_exact, numeral_read, decimal_limit, decimal_in, decimal_of}
 use Rattle.duration.specs.declared.Oversized.{Oversized}
-use Rattle.duration.specs.declared.Timing.TheVariants.{Refused}
 use Rattle.duration.specs.Duration.{empty_text, zero_duration, timed_decimal, duration_read, timing_for, timing_by}
 
 module _ (o : Oversized) (xs : List ℕ) where
-  pub by_admission : (a : Admission) → admitted decimal_limit xs ≡ a → timing_for o a xs ≡ timing_by o xs
+  pub by_admission : (a : Result CharNumber Refusal) → admitted decimal_limit xs ≡ a → timing_for o a xs ≡ timing_by o xs
   unfolding timing_by
-  by_admission a e = ap (λ (b : Admission). timing_for o b xs) (sym e)
+  by_admission a e = ap (λ (b : Result CharNumber Refusal). timing_for o b xs) (sym e)
 
-  pub empty : length xs ≡ 0 → Refused empty_text ≡ duration_read o xs
+  pub empty : length xs ≡ 0 → Err empty_text ≡ duration_read o xs
   unfolding duration_read
   empty e = rw (eq-eqb (length xs) 0 e)
 
   module _ (n : length xs ≡ 0 → ⊥) where
-    pub zero : same_text xs (ascii "0") ≡ true → Refused zero_duration ≡ duration_read o xs
+    pub zero : same_text xs (ascii "0") ≡ true → Err zero_duration ≡ duration_read o xs
     unfolding duration_read
     zero e = rw (ne_eqb (length xs) 0 n, e)
 

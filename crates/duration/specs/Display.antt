@@ -1,8 +1,7 @@
 -- Writing a duration, by document 01.
-use Rattle.std.specs.Prelude.{ℕ, ◌+◌, ◌*◌, ◌/◌, ◌%◌, Bool, cond, ◌&&◌, not, List, [], ◌∷◌, ◌++◌, leb, ltb, eqb}
+use Rattle.utf8.specs.declared.Refusal.{Refusal}
+use Rattle.std.specs.Prelude.{ℕ, ◌+◌, ◌*◌, ◌/◌, ◌%◌, Bool, cond, ◌&&◌, not, List, [], ◌∷◌, ◌++◌, leb, ltb, eqb, Err, Result}
 use Rattle.scan.specs.Ascii.{ascii}
-use Rattle.utf8.specs.declared.Writing.{Writing}
-use Rattle.utf8.specs.declared.Writing.TheVariants.{Refused}
 use Rattle.utf8.specs.Writing.{fitted}
 use Rattle.writing.specs.Decimal.{decimal_text}
 use Rattle.duration.specs.declared.span.Duration.{Duration}
@@ -38,5 +37,5 @@ unfoldable pub duration_text : Duration → List ℕ
 duration_text d = cond (is_zero d) (ascii "0s") (written units (millis_of d))
 
 -- "Writing refuses nanoseconds of 1,000,000,000 and over with 54, then only 3."
-unfoldable pub displaying_of : ℕ → Duration → Writing
-displaying_of room d = cond (leb nanos_a_second d.nanos) (Refused out_of_range) (fitted room (duration_text d))
+unfoldable pub displaying_of : ℕ → Duration → Result ℕ Refusal
+displaying_of room d = cond (leb nanos_a_second d.nanos) (Err out_of_range) (fitted room (duration_text d))

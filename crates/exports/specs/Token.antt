@@ -1,13 +1,11 @@
 -- What the C functions over `token` answer, by cases over `token`'s answers.
-use Rattle.std.specs.Prelude.{ℕ, ◌+◌, ◌^◌, Bool, cond}
-use Rattle.token.specs.declared.Keyword.{Keyword}
-use Rattle.token.specs.declared.Keyword.TheVariants.{Kind, Nothing}
+use Rattle.std.specs.Prelude.{ℕ, ◌+◌, ◌^◌, Bool, cond, None, Option, Some}
 use Rattle.token.specs.Classes.{is_operator, is_comparison_operator, is_set_operator, is_aggregator, is_aggregator_with_param}
 
 -- the kind of a word, or a number that no kind has
-abbrev pub keyword_code : Keyword → ℕ
-keyword_code (Kind k) = k
-keyword_code Nothing = 2 ^ 16
+abbrev pub keyword_code : Option ℕ → ℕ
+keyword_code (Some k) = k
+keyword_code None = 2 ^ 16
 
 -- so much where a test says so
 abbrev pub flag : Bool → ℕ → ℕ

@@ -1,16 +1,16 @@
 -- What the C functions over `utf8` answer, and what they leave in what was lent, by cases over its answers.
-use Rattle.std.specs.Prelude.{ℕ, cond, List, ltb, length}
-use Rattle.utf8.specs.declared.Admission.{Admission}
-use Rattle.utf8.specs.declared.Admission.TheVariants.{Admitted, Refused}
+use Rattle.utf8.specs.declared.Refusal.{Refusal}
+use Rattle.utf8.specs.declared.CharNumber.{CharNumber}
+use Rattle.std.specs.Prelude.{ℕ, cond, List, ltb, length, Err, Ok, Result}
 use Rattle.utf8.specs.declared.Character.{Character}
 use Rattle.utf8.specs.declared.Character.TheVariants.{Scalar, Nothing, IllFormed}
 use Rattle.utf8.specs.Answers.{place_at, text_limit, too_long, not_utf8, character_at}
 use Rattle.exports.specs.Packed.{packed_of}
 
 -- the number of characters, or the refusal
-abbrev pub validate_code : Admission → ℕ
-validate_code (Admitted n) = n.0
-validate_code (Refused r) = packed_of r
+abbrev pub validate_code : Result CharNumber Refusal → ℕ
+validate_code (Ok n) = n.0
+validate_code (Err r) = packed_of r
 
 -- the length of the character at an offset, 0 for nothing more, or refusal 2 at the offset
 abbrev pub character_code : List ℕ → ℕ → Character → ℕ

@@ -9,11 +9,10 @@ use borrow.Author.Tests.{le-leb, lt-leb}
 use lib.Dec.{leb}
 use lib.ListN.{length, take}
 use lib.Seq.{take-take}
+use Rattle.std.specs.Prelude.{Err, Ok, Result}
 use Rattle.utf8.specs.declared.Reading.{Reading}
 use Rattle.utf8.specs.declared.Refusal.{Refusal}
 use Rattle.utf8.specs.Answers.{no_room}
-use Rattle.lex.specs.declared.Lexing.{Lexing}
-use Rattle.lex.specs.declared.Lexing.TheVariants.{Count, Refused}
 use Rattle.lex.specs.Outcome.{Entry}
 use Rattle.lex.specs.Lex.{entries_of, measured, roomed, lexed, kind_of, starts_at, length_of, depth_of}
 use Rattle.lex.proofs.Given.{measured_given, lexing_given}
@@ -24,18 +23,18 @@ use Rattle.join.specs.laws.Join.{joined, front, moved_entry, moved_behind}
 use Rattle.join.proofs.Join.{join_answer, join_entries}
 
 -- a refusal but for want of room is the measure's
-number_of : Lexing → ℕ
-number_of (Count n) = 0
-number_of (Refused r) = r.number
+number_of : Result ℕ Refusal → ℕ
+number_of (Ok n) = 0
+number_of (Err r) = r.number
 
-room_refused : (room : ℕ) (r : Refusal) (x : Lexing) → (¬ (r.number ≡ no_room.number)) → roomed room x ≡ Refused r → x ≡ Refused r
+room_refused : (room : ℕ) (r : Refusal) (x : Result ℕ Refusal) → (¬ (r.number ≡ no_room.number)) → roomed room x ≡ Err r → x ≡ Err r
 unfolding number_of
-room_refused room r (Count m) d h = go (leb m room) h
+room_refused room r (Ok m) d h = go (leb m room) h
   where
-    go : (b : Bool) → cond b (Count m) (Refused no_room) ≡ Refused r → Count m ≡ Refused r
+    go : (b : Bool) → cond b (Ok m) (Err no_room) ≡ Err r → Ok m ≡ Err r
     go true e = e
     go false e = absurd (d (sym (ap number_of e)))
-room_refused room r (Refused s) d e = e
+room_refused room r (Err s) d e = e
 
 -- numbers of lexemes that are moved along
 moved_all : (d : ℕ) (f : Entry → ℕ) (g : ℕ → ℕ) → ((e : Entry) → f (moved_entry d e) ≡ g (f e)) → (es : List Entry) → map f (map (moved_entry d) es) ≡ map g (map f es)
@@ -66,12 +65,12 @@ module _ (r : Reading) (a b : List ℕ) (n : ℕ) (j : JoinCalls r a b n) where
   answer : measured r (joined a b) ≡ moved_behind a n (measured r b)
   answer = join_answer r a b n (record { accepted = (counted r a j.first n j.accepted).0; plain = j.plain }) j.limit
 
-  module _ (k : ℕ) (h : measured r b ≡ Count k) where
-    lacks : room_in j.both < pred n + k → j.both.result ≡ Refused no_room
+  module _ (k : ℕ) (h : measured r b ≡ Ok k) where
+    lacks : room_in j.both < pred n + k → j.both.result ≡ Err no_room
     unfolding lexed
     lacks l = answered r (joined a b) j.both ∙ rw (answer, h, lt-leb (pred n + k) (room_in j.both) l)
 
-    counts : pred n + k ≤ room_in j.both → j.both.result ≡ Count (pred n + k)
+    counts : pred n + k ≤ room_in j.both → j.both.result ≡ Ok (pred n + k)
     unfolding lexed
     counts l = answered r (joined a b) j.both ∙ rw (answer, h, le-leb (pred n + k) (room_in j.both) l)
 

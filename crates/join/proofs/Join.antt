@@ -9,13 +9,13 @@ use mathlib.Core.List.{List, [], ◌∷◌, ◌++◌, map}
 use mathlib.Core.Path.{◌≡◌, refl, ap, ◌∙◌}
 use lib.ListN.{length, length-append, length-map}
 use lib.Seq.{take-append_seam}
+use Rattle.std.specs.Prelude.{Err, Ok}
 use Rattle.utf8.specs.declared.Place.{Place}
 use Rattle.utf8.specs.declared.Reading.{Reading}
 use Rattle.utf8.specs.Text.{chars_of, prefix_end, WellFormed, char_number}
 use Rattle.utf8.specs.Answers.{place, place_at, text_limit, not_utf8}
 use Rattle.utf8.proofs.Laws.{ascii_head, prefix_join, number_join}
 use Rattle.utf8.proofs.Given.{given_exactly}
-use Rattle.lex.specs.declared.Lexing.TheVariants.{Count, Refused}
 use Rattle.lex.specs.Outcome.{Entry, Outcome, reads, ends, refuses, outcome_of}
 use Rattle.lex.specs.Lex.{eof, entries, entries_of, answer_by, measured, lexed, roomed}
 use Rattle.lex.proofs.Given.{measured_given}
@@ -42,7 +42,7 @@ entries_end (ends o) a = (o, refl)
 entries_end (refuses n o) a = absurd a
 
 -- what answers a count is accepted; and what answers where one goes on in another
-answer_accepts : (q : List ℕ) (k n : ℕ) (r : Outcome) → answer_by q k r ≡ Count n → Accepts r
+answer_accepts : (q : List ℕ) (k n : ℕ) (r : Outcome) → answer_by q k r ≡ Ok n → Accepts r
 unfolding answer_by
 answer_accepts q k n (reads e r) h = answer_accepts q k n r h
 answer_accepts q k n (ends o) h = tt
@@ -97,7 +97,7 @@ module _ (r : Reading) (a b : List ℕ) (n : ℕ) (j : Joins r a n) where
   unfolding answer_by
   answer_shift k (reads e u) = answer_shift k u
   answer_shift k (ends o) = refl
-  answer_shift k (refuses number o) = ap (λ (p : Place). Refused (record { number = number; place = p })) (place_is o)
+  answer_shift k (refuses number o) = ap (λ (p : Place). Err (record { number = number; place = p })) (place_is o)
 
   -- how many lexemes the join has
   count_is : length (entries_of r (joined a b)) ≡ pred n + length (entries_of r b)
@@ -121,7 +121,7 @@ module _ (r : Reading) (a b : List ℕ) (n : ℕ) (j : Joins r a n) where
       reading_is
   answer l (no w) =
       rw ((given_exactly text_limit (joined a b)).1.1 (omega arith, λ v. w (omega (arith, long, prefix_is))), (given_exactly text_limit b).1.1 (omega (arith, long), w), prefix_is)
-      (ap (λ (p : Place). Refused (not_utf8 p)) (place_is (prefix_end b)))
+      (ap (λ (p : Place). Err (not_utf8 p)) (place_is (prefix_end b)))
 
 pub join_answer : JoinAnswer
 join_answer r a b n j l = answer r a b n j l (ℕ_discrete (prefix_end b) (length b))

@@ -12,11 +12,11 @@ use mathlib.Core.List.{List, [], ◌∷◌}
 use mathlib.Core.Path.{◌≡◌, refl, sym, ap, ◌∙◌}
 use lib.ListN.{length, take, drop, length-drop}
 use lib.Seq.{drop-length, drop-append_seam, drop-append-le, drop-append-add, drop-drop, get_or-drop}
+use Rattle.std.specs.Prelude.{Some}
 use Rattle.scan.specs.declared.byte.Class.TheVariants as class
 use Rattle.scan.specs.Byte.{end, peek_at, is_in}
 use Rattle.scan.specs.Run.{run_length, run_end}
 use Rattle.token.specs.Words.{keyword_of}
-use Rattle.token.specs.declared.Keyword.TheVariants.{Kind}
 use Rattle.token.specs.Kinds.{identifier}
 use Rattle.utf8.specs.declared.Reading.{Reading}
 use Rattle.munch.specs.Word.{is_fill}
@@ -69,7 +69,7 @@ abbrev read_at : Reading → List ℕ → ℕ → Mode → Outcome
 read_at r q at m = read_from at (steps_past r 0 m (drop at q))
 
 -- a fill word with nothing but white space behind it is the last lexeme
-fill_last : (r : Reading) (q : List ℕ) (at k n : ℕ) (m : Mode) → keyword_of (take n (drop at q)) ≡ Kind k → is_fill k ≡ true → run_end (is_in class.Space) (drop at q) n ≡ length (drop at q)
+fill_last : (r : Reading) (q : List ℕ) (at k n : ℕ) (m : Mode) → keyword_of (take n (drop at q)) ≡ Some k → is_fill k ≡ true → run_end (is_in class.Space) (drop at q) n ≡ length (drop at q)
     → LastNoFill q (entry identifier at n (depth_by identifier m) ∷ lexemes (read_at r q (at + n) m)) → ⊥
 fill_last r q at k n m w i white p =
     let s : n + run_length (is_in class.Space) (drop (at + n) q) ≡ length (drop at q) = rw drop-drop at white in

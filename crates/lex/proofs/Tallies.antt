@@ -5,8 +5,8 @@ use native.Mathlib.Omega.{arith}
 use mathlib.Core.List.{List}
 use mathlib.Core.Path.{◌≡◌, refl, ap, ◌∙◌}
 use lib.ListN.{length}
+use Rattle.std.specs.Prelude.{Ok}
 use Rattle.utf8.specs.declared.Reading.{Reading}
-use Rattle.utf8.specs.declared.Admission.TheVariants.{Admitted}
 use Rattle.utf8.specs.declared.CharNumber.{CharNumber}
 use Rattle.utf8.specs.Answers.{text_limit, admitted}
 use Rattle.lex.specs.declared.Run.TheVariants as run
@@ -34,6 +34,6 @@ pub tally_counts : (r : Reading) (q : List ℕ) (at n : ℕ) → tally_of r q �
 tally_counts r q at n h = counts (outcome_of r q) 0 at n h ∙ zero-add (length (entries_of r q))
 
 -- so a text that is admitted is measured by its tally
-pub tally_measured : (r : Reading) (q : List ℕ) {k : CharNumber} → admitted text_limit q ≡ Admitted k → answer_in q (tally_of r q) ≡ measured r q
+pub tally_measured : (r : Reading) (q : List ℕ) {k : CharNumber} → admitted text_limit q ≡ Ok k → answer_in q (tally_of r q) ≡ measured r q
 unfolding measured
 tally_measured r q e = rw e (tally_answer r q)

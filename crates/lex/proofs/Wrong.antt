@@ -6,6 +6,7 @@ use mathlib.Core.Path.{◌≡◌, ap, ◌∙◌}
 use lib.ListN.{length}
 use contract.Lifetimes.{Lfts}
 use borrow.Fn.Kinds.{Dens}
+use Rattle.std.specs.Prelude.{Err, Ok, Result}
 use Rattle.scan.specs.Ascii.{ascii}
 use Rattle.scan.specs.Byte.{is_within, is_in, is_space, is_alpha, is_alpha_numeric, is_word, is_line, is_quote, lowered}
 use Rattle.proving.proofs.One.{Answers, Leaves}
@@ -24,8 +25,6 @@ use Rattle.numeral.specs.Numeral.{is_hex, fraction_end, exponent_end, number_end
 use Rattle.quoted.specs.Quoted.{is_escape, quoted_from, is_raw, raw_from, comment_end}
 use Rattle.munch.specs.Word.{is_word_start, rule_by, kind_by}
 use Rattle.munch.specs.Munch.{number_step, quoted_step, word_step, comment_step, bang_step, right_paren_step, deeper, end_step, outside_table, brace_table, bracket_table, step_in, munched}
-use Rattle.lex.specs.declared.Lexing.{Lexing}
-use Rattle.lex.specs.declared.Lexing.TheVariants.{Count, Refused}
 use Rattle.lex.specs.Outcome.{steps_past, read_from}
 use Rattle.lex.specs.Lex.{answer_by, measured, lexed, listed, left_after, kind_of, starts_at, length_of, depth_of, shortest, not_lexed}
 use Rattle.utf8.specs.declared.Refusal.{Refusal}
@@ -42,16 +41,16 @@ unfolding lexed measured answer_by steps_past read_from munched step_in outside_
 lexing = tt
 
 -- a refusal by its number, at a byte and a character
-abbrev refused : ℕ → ℕ → ℕ → Lexing
-refused r b c = Refused (record { number = r; place = place b c })
+abbrev refused : ℕ → ℕ → ℕ → Result ℕ Refusal
+refused r b c = Err (record { number = r; place = place b c })
 
-abbrev measure_gives : Reading → List ℕ → Lexing → Type 0
+abbrev measure_gives : Reading → List ℕ → Result ℕ Refusal → Type 0
 measure_gives r q v = Answers measure.ps measure.r measure_reads.Post (λ κs a. (a.0.now ≡ q) × (a.1.0 ≡ r)) (λ κs. v)
 
 measure_at : (r : Reading) (q : List ℕ) → measure_gives r q (measured r q)
 measure_at r q κs a x e p h = cc (p, h.0, h.1)
 
-pub end_is_counted_once : measure_gives Crate (ascii "a") (Count 2)
+pub end_is_counted_once : measure_gives Crate (ascii "a") (Ok 2)
 unfolding lexing
 end_is_counted_once = measure_at _ _
 
@@ -68,7 +67,7 @@ pub separator_is_refused_in_the_crate_reading : measure_gives Crate (ascii "1_0"
 unfolding lexing
 separator_is_refused_in_the_crate_reading = measure_at _ _
 
-pub separator_is_taken_in_the_documented_reading : measure_gives Documented (ascii "[1_0]") (Count 4)
+pub separator_is_taken_in_the_documented_reading : measure_gives Documented (ascii "[1_0]") (Ok 4)
 unfolding lexing
 separator_is_taken_in_the_documented_reading = measure_at _ _
 
@@ -80,7 +79,7 @@ pub backslash_between_backquotes_is_refused_in_the_crate_reading : measure_gives
 unfolding lexing
 backslash_between_backquotes_is_refused_in_the_crate_reading = measure_at _ _
 
-pub backslash_between_backquotes_is_itself_in_the_documented_reading : measure_gives Documented (ascii "{`\\d`}") (Count 4)
+pub backslash_between_backquotes_is_itself_in_the_documented_reading : measure_gives Documented (ascii "{`\\d`}") (Ok 4)
 unfolding lexing
 backslash_between_backquotes_is_itself_in_the_documented_reading = measure_at _ _
 
@@ -92,29 +91,29 @@ Given q r ks ss ls ds κs a =
 abbrev nines : List ℕ
 nines = 9 ∷ 9 ∷ 9 ∷ []
 
-abbrev lexer_gives : Reading → List ℕ → List ℕ → List ℕ → List ℕ → List ℕ → Lexing → Type 0
+abbrev lexer_gives : Reading → List ℕ → List ℕ → List ℕ → List ℕ → List ℕ → Result ℕ Refusal → Type 0
 lexer_gives r q ks ss ls ds v = Answers lexer.ps lexer.r lexer_reads.Post (Given q r ks ss ls ds) (λ κs. v)
 
 lexer_at : (r : Reading) (q ks ss ls ds : List ℕ) → lexer_gives r q ks ss ls ds (lexed r (shortest (length ks) (length ss) (length ls) (length ds)) q)
 lexer_at r q ks ss ls ds κs a x e p h = cc (p.0, h.0, h.1, h.2, h.3, h.4, h.5)
 
-pub query_with_room_is_not_refused : lexer_gives Crate (ascii "ab") nines nines nines nines (Count 2)
+pub query_with_room_is_not_refused : lexer_gives Crate (ascii "ab") nines nines nines nines (Ok 2)
 unfolding lexing
 query_with_room_is_not_refused = lexer_at _ _ _ _ _ _
 
-pub shortest_list_is_the_room : lexer_gives Crate (ascii "ab") nines nines (9 ∷ []) nines (Refused no_room)
+pub shortest_list_is_the_room : lexer_gives Crate (ascii "ab") nines nines (9 ∷ []) nines (Err no_room)
 unfolding lexing
 shortest_list_is_the_room = lexer_at _ _ _ _ _ _
 
-pub first_list_is_room_too : lexer_gives Crate (ascii "ab") (9 ∷ []) nines nines nines (Refused no_room)
+pub first_list_is_room_too : lexer_gives Crate (ascii "ab") (9 ∷ []) nines nines nines (Err no_room)
 unfolding lexing
 first_list_is_room_too = lexer_at _ _ _ _ _ _
 
-pub second_list_is_room_too : lexer_gives Crate (ascii "ab") nines (9 ∷ []) nines nines (Refused no_room)
+pub second_list_is_room_too : lexer_gives Crate (ascii "ab") nines (9 ∷ []) nines nines (Err no_room)
 unfolding lexing
 second_list_is_room_too = lexer_at _ _ _ _ _ _
 
-pub fourth_list_is_room_too : lexer_gives Crate (ascii "ab") nines nines nines (9 ∷ []) (Refused no_room)
+pub fourth_list_is_room_too : lexer_gives Crate (ascii "ab") nines nines nines (9 ∷ []) (Err no_room)
 unfolding lexing
 fourth_list_is_room_too = lexer_at _ _ _ _ _ _
 
@@ -122,7 +121,7 @@ pub lexer_refuses_a_separator_in_the_crate_reading : lexer_gives Crate (ascii "1
 unfolding lexing
 lexer_refuses_a_separator_in_the_crate_reading = lexer_at _ _ _ _ _ _
 
-pub lexer_takes_a_separator_in_the_documented_reading : lexer_gives Documented (ascii "1_0") nines nines nines nines (Count 2)
+pub lexer_takes_a_separator_in_the_documented_reading : lexer_gives Documented (ascii "1_0") nines nines nines nines (Ok 2)
 unfolding lexing
 lexer_takes_a_separator_in_the_documented_reading = lexer_at _ _ _ _ _ _
 
@@ -134,7 +133,7 @@ pub lexer_refuses_a_backslash_between_backquotes_in_the_crate_reading : lexer_gi
 unfolding lexing
 lexer_refuses_a_backslash_between_backquotes_in_the_crate_reading = lexer_at _ _ _ _ _ _
 
-pub lexer_takes_a_backslash_between_backquotes_in_the_documented_reading : lexer_gives Documented (ascii "`\\d`") nines nines nines nines (Count 2)
+pub lexer_takes_a_backslash_between_backquotes_in_the_documented_reading : lexer_gives Documented (ascii "`\\d`") nines nines nines nines (Ok 2)
 unfolding lexing
 lexer_takes_a_backslash_between_backquotes_in_the_documented_reading = lexer_at _ _ _ _ _ _
 
@@ -257,14 +256,14 @@ pub refused_query_leaves_the_depths : lexer_leaves_depths Crate (ascii "(a") eig
 unfolding lexing
 refused_query_leaves_the_depths = lexer_left_depths _ _ _ _ _ _
 
-abbrev not_lexed_gives : Lexing → Refusal → Type 0
+abbrev not_lexed_gives : Result ℕ Refusal → Refusal → Type 0
 not_lexed_gives t v = Answers not_lexed_kinds.ps not_lexed_kinds.r not_lexed_reads.Post (λ κs a. a.0 ≡ t) (λ κs. v)
 
-not_lexed_at : (t : Lexing) → not_lexed_gives t (not_lexed t)
+not_lexed_at : (t : Result ℕ Refusal) → not_lexed_gives t (not_lexed t)
 not_lexed_at t κs a x e p h = p ∙ ap not_lexed h
 
-pub refusal_is_told_with_its_place : not_lexed_gives (Refused (not_utf8 (place 3 2))) (not_utf8 (place 3 2))
+pub refusal_is_told_with_its_place : not_lexed_gives (Err (not_utf8 (place 3 2))) (not_utf8 (place 3 2))
 refusal_is_told_with_its_place = not_lexed_at _
 
-pub query_that_is_lexed_has_no_refusal : not_lexed_gives (Count 1) (at_start 0)
+pub query_that_is_lexed_has_no_refusal : not_lexed_gives (Ok 1) (at_start 0)
 query_that_is_lexed_has_no_refusal = not_lexed_at _

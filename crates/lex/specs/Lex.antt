@@ -1,13 +1,10 @@
 -- What lexing a query in a reading answers, and what it leaves in the lent lists: document 01, "Refusal numbers", "Limits".
-use Rattle.std.specs.Prelude.{ℕ, min, cond, List, [], ◌∷◌, ◌++◌, map, leb, length, drop}
+use Rattle.utf8.specs.declared.CharNumber.{CharNumber}
+use Rattle.std.specs.Prelude.{ℕ, min, cond, List, [], ◌∷◌, ◌++◌, map, leb, length, drop, Err, Ok, Result}
 use Rattle.utf8.specs.declared.Reading.{Reading}
 use Rattle.utf8.specs.declared.Refusal.{Refusal}
-use Rattle.utf8.specs.declared.Admission.{Admission}
-use Rattle.utf8.specs.declared.Admission.TheVariants as admission
 use Rattle.token.specs.Kinds.{eof_kind}
 use Rattle.utf8.specs.Answers.{text_limit, refused_at, no_room, no_refusal, admitted}
-use Rattle.lex.specs.declared.Lexing.{Lexing}
-use Rattle.lex.specs.declared.Lexing.TheVariants.{Count, Refused}
 use Rattle.lex.specs.Outcome.{Entry, entry, Outcome, reads, ends, refuses, outcome_of}
 
 -- the lexemes that were read; "EOF: start at the query's length, length 0", and nothing is open there
@@ -23,39 +20,39 @@ abbrev pub entries_of : Reading → List ℕ → List Entry
 entries_of r q = entries (outcome_of r q)
 
 -- the refusal that the reading came to, else so many lexemes
-unfoldable pub answer_by : List ℕ → ℕ → Outcome → Lexing
+unfoldable pub answer_by : List ℕ → ℕ → Outcome → Result ℕ Refusal
 answer_by q n (reads e r) = answer_by q n r
-answer_by q n (ends at) = Count n
-answer_by q n (refuses number o) = Refused (refused_at q number o)
+answer_by q n (ends at) = Ok n
+answer_by q n (refuses number o) = Err (refused_at q number o)
 
 -- "Order: 1, 2, the reading left to right (first refusal wins),
-abbrev pub read_as : Reading → List ℕ → Admission → Lexing
-read_as r q (admission.Admitted n) = answer_by q (length (entries_of r q)) (outcome_of r q)
-read_as r q (admission.Refused refusal) = Refused refusal
+abbrev pub read_as : Reading → List ℕ → Result CharNumber Refusal → Result ℕ Refusal
+read_as r q (Ok n) = answer_by q (length (entries_of r q)) (outcome_of r q)
+read_as r q (Err refusal) = Err refusal
 
-unfoldable pub measured : Reading → List ℕ → Lexing
+unfoldable pub measured : Reading → List ℕ → Result ℕ Refusal
 measured r q = read_as r q (admitted text_limit q)
 
 -- 3." "Room is the shortest list."
-abbrev pub roomed : ℕ → Lexing → Lexing
-roomed room (Count n) = cond (leb n room) (Count n) (Refused no_room)
-roomed room (Refused refusal) = Refused refusal
+abbrev pub roomed : ℕ → Result ℕ Refusal → Result ℕ Refusal
+roomed room (Ok n) = cond (leb n room) (Ok n) (Err no_room)
+roomed room (Err refusal) = Err refusal
 
-unfoldable pub lexed : Reading → ℕ → List ℕ → Lexing
+unfoldable pub lexed : Reading → ℕ → List ℕ → Result ℕ Refusal
 lexed r room q = roomed room (measured r q)
 
 -- why a query is refused
-abbrev pub not_lexed : Lexing → Refusal
-not_lexed (Count n) = no_refusal
-not_lexed (Refused refusal) = refusal
+abbrev pub not_lexed : Result ℕ Refusal → Refusal
+not_lexed (Ok n) = no_refusal
+not_lexed (Err refusal) = refusal
 
 -- "the first count entries of the three lent lists .. are written, no other", and of a fourth since document 02's L7
 abbrev pub listed : Reading → (Entry → ℕ) → List ℕ → List ℕ → List ℕ
 listed r f q d = map f (entries_of r q) ++ drop (length (entries_of r q)) d
 
-abbrev pub left_after : Lexing → List ℕ → List ℕ → List ℕ
-left_after (Count n) new old = new
-left_after (Refused refusal) new old = old
+abbrev pub left_after : Result ℕ Refusal → List ℕ → List ℕ → List ℕ
+left_after (Ok n) new old = new
+left_after (Err refusal) new old = old
 
 abbrev pub kind_of : Entry → ℕ
 kind_of e = e.kind

@@ -4,12 +4,12 @@ use native.Mathlib.Omega.{arith}
 use mathlib.Core.Path.{◌≡◌}
 use mathlib.Core.List.{List, ◌++◌}
 use lib.ListN.{length, length-append}
+use Rattle.std.specs.Prelude.{Err}
 use Rattle.scan.specs.Ascii.{ascii}
 use Rattle.utf8.specs.declared.Reading.TheVariants.{Crate}
 use Rattle.utf8.specs.declared.Refusal.{Refusal}
 use Rattle.writing.specs.Decimal.{most_digits, decimal_text}
 use Rattle.writing.proofs.Decimals.{digits_below, digits_few}
-use Rattle.lex.specs.declared.Lexing.TheVariants.{Refused}
 use Rattle.lex.specs.Outcome.{entry}
 use Rattle.lex.specs.Lex.{lexed}
 use Rattle.lex.specs.laws.Bounds.{LexingWithin}
@@ -54,7 +54,7 @@ refusal_few r f g h =
     omega (arith, length-append (ascii "refused ") three, numbers_few before64 before64 before64 r.number r.place.byte.0 r.place.character.0 (omega arith) (omega arith) (omega arith))
 
 -- a refusal of a query
-pub refused_few : (room : ℕ) (q : List ℕ) (r : Refusal) → lexed Crate room q ≡ Refused r → length (refusal r) ≤ longest_line
+pub refused_few : (room : ℕ) (q : List ℕ) (r : Refusal) → lexed Crate room q ≡ Err r → length (refusal r) ≤ longest_line
 refused_few room q r e =
-    let b : LexingWithin (Refused r) = rw e at (lexing_bounded Crate room q) in
+    let b : LexingWithin (Err r) = rw e at (lexing_bounded Crate room q) in
     refusal_few r (omega (arith, b.0)) (omega (arith, b.1)) (omega (arith, b.2))

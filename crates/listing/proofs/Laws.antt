@@ -7,11 +7,11 @@ use mathlib.Core.Path.{◌≡◌, refl}
 use lib.Dec.{ltb}
 use lib.ListN.{length, length-append}
 use borrow.Author.Tests.{le-leb, ltb-false}
+use Rattle.utf8.specs.declared.Refusal.{Refusal}
+use Rattle.std.specs.Prelude.{Err, Ok, Result}
 use Rattle.proving.proofs.Choice.{either}
 use Rattle.utf8.specs.Answers.{too_long}
 use Rattle.utf8.specs.declared.Reading.TheVariants.{Crate}
-use Rattle.lex.specs.declared.Lexing.{Lexing}
-use Rattle.lex.specs.declared.Lexing.TheVariants.{Count, Refused}
 use Rattle.lex.specs.Outcome.{Entry}
 use Rattle.lex.specs.Lex.{entries_of, measured, lexed}
 use Rattle.lex.specs.laws.Bounds.{AllWithin}
@@ -25,9 +25,9 @@ pub room_enough : RoomEnough
 unfolding lexed
 room_enough q h = go (measured Crate q) refl
   where
-    go : (x : Lexing) → measured Crate q ≡ x → lexed Crate most_lexemes q ≡ measured Crate q
-    go (Count n) e = let l : n ≤ most_lexemes = omega (arith, ((measured_given Crate q n).0 e).2, (entries_within Crate q).1) in rw (e, le-leb n most_lexemes l)
-    go (Refused r) e = rw e
+    go : (x : Result ℕ Refusal) → measured Crate q ≡ x → lexed Crate most_lexemes q ≡ measured Crate q
+    go (Ok n) e = let l : n ≤ most_lexemes = omega (arith, ((measured_given Crate q n).0 e).2, (entries_within Crate q).1) in rw (e, le-leb n most_lexemes l)
+    go (Err r) e = rw e
 
 -- the lexemes of a query within the limit
 lexemes_few : (size : ℕ) → size ≤ input_limit → (es : List Entry) → AllWithin size es → length (lexemes_text es) ≤ length es * longest_lexeme
@@ -45,6 +45,6 @@ text_fits q =
     long : length (refusal too_long) ≤ most_text
     long = omega (arith, refusal_few too_long (omega arith) (omega arith) (omega arith))
 
-    go : length q ≤ input_limit → (x : Lexing) → lexed Crate most_lexemes q ≡ x → length (printed_by q x) ≤ most_text
-    go h (Count n) e = omega (arith, lexemes_few (length q) h (entries_of Crate q) (entries_within Crate q).0, (entries_within Crate q).1)
-    go h (Refused r) e = omega (arith, refused_few most_lexemes q r e)
+    go : length q ≤ input_limit → (x : Result ℕ Refusal) → lexed Crate most_lexemes q ≡ x → length (printed_by q x) ≤ most_text
+    go h (Ok n) e = omega (arith, lexemes_few (length q) h (entries_of Crate q) (entries_within Crate q).0, (entries_within Crate q).1)
+    go h (Err r) e = omega (arith, refused_few most_lexemes q r e)

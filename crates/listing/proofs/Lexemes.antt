@@ -7,9 +7,9 @@ use mathlib.Core.Path.{◌≡◌, refl, sym, ap, ◌∙◌}
 use mathlib.Core.List.{List, [], ◌∷◌, ◌++◌, map, append_assoc, append-nil}
 use lib.ListN.{length, take, drop, get_or, length-map}
 use lib.Seq.{take-suc, take_all, take_at}
+use Rattle.utf8.specs.declared.Refusal.{Refusal}
+use Rattle.std.specs.Prelude.{Ok, Result}
 use Rattle.utf8.specs.declared.Reading.TheVariants.{Crate}
-use Rattle.lex.specs.declared.Lexing.{Lexing}
-use Rattle.lex.specs.declared.Lexing.TheVariants.{Count}
 use Rattle.lex.specs.Outcome.{Entry, entry}
 use Rattle.lex.specs.Lex.{entries_of, lexed, listed, left_after, kind_of, starts_at, length_of, depth_of, shortest}
 use Rattle.lex.specs.steps.Pass.{Alike}
@@ -25,12 +25,12 @@ listed_front : (f : Entry → ℕ) (q d : List ℕ) (n : ℕ) → n ≡ length (
 listed_front f q d n h = take_at (map f (entries_of Crate q)) (drop (length (entries_of Crate q)) d) n (length-map (entries_of Crate q) f ∙ sym h)
 
 -- what `lexer` promises of an accepted query is that the first entries of the four lists are its lexemes, and that there is room for them
-pub lists_hold : (q ks ss ls ds : List ℕ) {x : Lexing} {n : ℕ} {ks' ss' ls' ds' : List ℕ}
+pub lists_hold : (q ks ss ls ds : List ℕ) {x : Result ℕ Refusal} {n : ℕ} {ks' ss' ls' ds' : List ℕ}
     → (x ≡ lexed Crate (shortest (length ks) (length ss) (length ls) (length ds)) q)
     × ((ks' ≡ left_after x (listed Crate kind_of q ks) ks)
     × ((ss' ≡ left_after x (listed Crate starts_at q ss) ss)
     × ((ls' ≡ left_after x (listed Crate length_of q ls) ls) × (ds' ≡ left_after x (listed Crate depth_of q ds) ds))))
-    → x ≡ Count n
+    → x ≡ Ok n
     → (n ≤ shortest (length ks) (length ss) (length ls) (length ds)) × (zipped (take n ks') (take n ss') (take n ls') (take n ds') ≡ entries_of Crate q)
 lists_hold q ks ss ls ds {x} {n} p told =
     let w = ((lexing_given Crate (shortest (length ks) (length ss) (length ls) (length ds)) q).4 n).0 (sym p.0 ∙ told) in

@@ -1,12 +1,10 @@
 -- What the program prints of a query, which it lexes in the crate reading: document 01, "Order of the port" and "Values on both sides".
-use Rattle.std.specs.Prelude.{ℕ, ◌+◌, ◌*◌, cond, List, [], ◌∷◌, ◌++◌, ltb, length}
+use Rattle.std.specs.Prelude.{ℕ, ◌+◌, ◌*◌, cond, List, [], ◌∷◌, ◌++◌, ltb, length, Err, Ok, Result}
 use Rattle.scan.specs.Ascii.{ascii}
 use Rattle.utf8.specs.declared.Reading.TheVariants.{Crate}
 use Rattle.utf8.specs.declared.Refusal.{Refusal}
 use Rattle.utf8.specs.Answers.{too_long}
 use Rattle.writing.specs.Decimal.{most_digits, decimal_text}
-use Rattle.lex.specs.declared.Lexing.{Lexing}
-use Rattle.lex.specs.declared.Lexing.TheVariants.{Count, Refused}
 use Rattle.lex.specs.Outcome.{Entry, entry}
 use Rattle.lex.specs.Lex.{entries_of, lexed}
 
@@ -62,9 +60,9 @@ zipped (k ∷ ks) (s ∷ ss) (l ∷ ls) [] = []
 zipped (k ∷ ks) (s ∷ ss) (l ∷ ls) (d ∷ ds) = entry k s l d ∷ zipped ks ss ls ds
 
 -- "The program prints each lexeme ..; a refusal ..": its one line and no lexeme
-unfoldable pub printed_by : List ℕ → Lexing → List ℕ
-printed_by q (Count n) = lexemes_text (entries_of Crate q)
-printed_by q (Refused r) = refusal r
+unfoldable pub printed_by : List ℕ → Result ℕ Refusal → List ℕ
+printed_by q (Ok n) = lexemes_text (entries_of Crate q)
+printed_by q (Err r) = refusal r
 
 -- "Order of the port" 6: "longer input is refusal 1"
 unfoldable pub printed : List ℕ → List ℕ

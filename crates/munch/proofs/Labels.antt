@@ -11,6 +11,7 @@ use mathlib.Core.Path.{◌≡◌, refl, sym, ◌∙◌}
 use lib.Dec.{eqb, ltb, leb-suc-suc}
 use lib.ListN.{take, drop}
 use borrow.Author.Tests.{lt-ltb}
+use Rattle.std.specs.Prelude.{None, Option, Some}
 use Rattle.proving.proofs.Tests.{itself, tests_eq, tests_or, affirmed}
 use Rattle.scan.specs.declared.byte.Class.TheVariants.{AlphaNumeric, Word}
 use Rattle.scan.specs.Byte.{peek_at, is_within, is_alpha, is_digit, is_alpha_numeric, is_word, is_in}
@@ -18,8 +19,6 @@ use Rattle.scan.specs.Run.{run_length, run_end}
 use Rattle.scan.specs.Text.{has}
 use Rattle.scan.proofs.byte.Classes.{end_in_none}
 use Rattle.scan.proofs.Runs.{run_goes_on}
-use Rattle.token.specs.declared.Keyword.{Keyword}
-use Rattle.token.specs.declared.Keyword.TheVariants.{Kind, Nothing}
 use Rattle.token.specs.Kinds.{metric_identifier}
 use Rattle.token.specs.Words.{keyword_of}
 use Rattle.token.specs.steps.WordRows.{word_table}
@@ -90,9 +89,9 @@ module _ (m : Mode) (xs : List ℕ) where
   kind_by_colon n true h = rw (colon_in_none (take n xs) h, h)
   kind_by_colon n false h = go (keyword_of (take n xs))
     where
-      go : (k : Keyword) → Lexeme (kind_from k xs n) n m ≡ Lexeme (kind_by (rule_by k xs n)) n m
-      go (Kind k) = refl
-      go Nothing = rw h
+      go : (k : Option ℕ) → Lexeme (kind_from k xs n) n m ≡ Lexeme (kind_by (rule_by k xs n)) n m
+      go (Some k) = refl
+      go None = rw h
 
   pub word_by_tables : is_word_start (peek_at xs 0) ≡ true → word_step_by lead_table word_table m xs ≡ word_step m xs
   unfolding word_step_by word_step

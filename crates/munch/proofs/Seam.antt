@@ -13,6 +13,7 @@ use mathlib.Core.Path.{◌≡◌, refl, sym}
 use lib.Dec.{eqb}
 use lib.ListN.{length, take, get_or-append, get_or-eq_default}
 use lib.Seq.{take-append-le}
+use Rattle.std.specs.Prelude.{None, Option, Some}
 use Rattle.scan.specs.declared.byte.Class.{Class}
 use Rattle.scan.specs.declared.byte.Class.TheVariants as class
 use Rattle.scan.specs.Byte.{end, peek_at, is_within, is_alpha, is_digit, is_alpha_numeric, is_word, is_in}
@@ -20,8 +21,6 @@ use Rattle.scan.specs.Run.{run_end}
 use Rattle.proving.proofs.Choice.{either}
 use Rattle.scan.proofs.Runs.{run_within, run_append, run_inside, peek_append}
 use Rattle.utf8.specs.declared.Reading.{Reading}
-use Rattle.token.specs.declared.Keyword.{Keyword}
-use Rattle.token.specs.declared.Keyword.TheVariants as keyword
 use Rattle.token.specs.Kinds.{identifier, lss, lte, gtr, gte}
 use Rattle.token.specs.Words.{keyword_of}
 use Rattle.numeral.proofs.Seam.{numeral_seam}
@@ -71,8 +70,8 @@ module _ (xs ys : List ℕ) (n : ℕ) where
 
 -- so a word's kind stays, but for that of a fill word
 module _ (m : Mode) (xs ys : List ℕ) (n : ℕ) (l : n ≤ length xs) where
-  fill_seam : (k : ℕ) → keyword_of (take n xs) ≡ keyword.Kind k → (b : Bool) → is_fill k ≡ b → Dec (run_end (is_in class.Space) xs n < length xs)
-      → Seam xs (Lexeme (kind_by (rule_by (keyword.Kind k) xs n)) n m) (Lexeme (kind_by (rule_by (keyword.Kind k) (lined xs ys) n)) n m)
+  fill_seam : (k : ℕ) → keyword_of (take n xs) ≡ Some k → (b : Bool) → is_fill k ≡ b → Dec (run_end (is_in class.Space) xs n < length xs)
+      → Seam xs (Lexeme (kind_by (rule_by (Some k) xs n)) n m) (Lexeme (kind_by (rule_by (Some k) (lined xs ys) n)) n m)
   unfolding rule_by kind_by
   fill_seam k e false f d = rw f (same (Lexeme k n m))
   fill_seam k e true f (yes h) = rw (f, called_stays xs ys n h) (same _)
@@ -81,10 +80,10 @@ module _ (m : Mode) (xs ys : List ℕ) (n : ℕ) (l : n ≤ length xs) where
       rw (f, not_called xs ys n g)
       (either (λ r. Seam xs (Lexeme identifier n m) (Lexeme (kind_by r) n m)) (is_called (lined xs ys) n) (λ c. called k n m e f g) (λ c. same (Lexeme identifier n m)))
 
-  rule_seam : (w : Keyword) → keyword_of (take n xs) ≡ w → Seam xs (Lexeme (kind_by (rule_by w xs n)) n m) (Lexeme (kind_by (rule_by w (lined xs ys) n)) n m)
+  rule_seam : (w : Option ℕ) → keyword_of (take n xs) ≡ w → Seam xs (Lexeme (kind_by (rule_by w xs n)) n m) (Lexeme (kind_by (rule_by w (lined xs ys) n)) n m)
   unfolding rule_by
-  rule_seam (keyword.Kind k) e = fill_seam k e (is_fill k) refl (dec_lt (run_end (is_in class.Space) xs n) (length xs))
-  rule_seam keyword.Nothing e = rw (take-append-le n xs (code "\n" ∷ ys) l) (same _)
+  rule_seam (Some k) e = fill_seam k e (is_fill k) refl (dec_lt (run_end (is_in class.Space) xs n) (length xs))
+  rule_seam None e = rw (take-append-le n xs (code "\n" ∷ ys) l) (same _)
 
 module _ (x : ℕ) (xs ys : List ℕ) where
   abbrev Seamed : Step → Step → Type 0

@@ -1,13 +1,11 @@
 -- The rule that gives a word its kind: document 01, "Lexing rules". A word is the first n bytes of those that are left.
-use Rattle.std.specs.Prelude.{ℕ, Bool, cond, ◌&&◌, ◌||◌, List, map, eqb, take}
+use Rattle.std.specs.Prelude.{ℕ, Bool, cond, ◌&&◌, ◌||◌, List, map, eqb, take, None, Option, Some}
 use Prim.Native.Char.{code}
 use Rattle.scan.specs.declared.byte.Class.TheVariants.{Space}
 use Rattle.scan.specs.Ascii.{ascii}
 use Rattle.scan.specs.Byte.{peek_at, is_within, is_alpha, lowered, is_in}
 use Rattle.scan.specs.Run.{run_end}
 use Rattle.scan.specs.Text.{same_text, has}
-use Rattle.token.specs.declared.Keyword.{Keyword}
-use Rattle.token.specs.declared.Keyword.TheVariants.{Kind, Nothing}
 use Rattle.munch.specs.declared.word.Rule.{Rule}
 use Rattle.munch.specs.declared.word.Rule.TheVariants.{Or, InBraces, Table, FillCalled, FillAlone, WithColon, Plain}
 use Rattle.token.specs.Kinds.{identifier, metric_identifier, lor, fill, fill_right}
@@ -32,9 +30,9 @@ abbrev pub is_called : List ℕ → ℕ → Bool
 is_called xs n = eqb (peek_at xs (past_white xs n)) (code "(")
 
 -- outside braces, by the kind that the word has of its own
-unfoldable pub rule_by : Keyword → List ℕ → ℕ → Rule
-rule_by (Kind k) xs n = cond (is_fill k) (cond (is_called xs n) (FillCalled k) FillAlone) (Table k)
-rule_by Nothing xs n = cond (has_colon xs n) WithColon Plain
+unfoldable pub rule_by : Option ℕ → List ℕ → ℕ → Rule
+rule_by (Some k) xs n = cond (is_fill k) (cond (is_called xs n) (FillCalled k) FillAlone) (Table k)
+rule_by None xs n = cond (has_colon xs n) WithColon Plain
 
 -- "the word `or` in any case, with byte 32 next"
 unfoldable pub is_or : List ℕ → ℕ → Bool

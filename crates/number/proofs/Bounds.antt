@@ -1,11 +1,13 @@
 -- How far the refusals of a number reach: they are those of its text's admission, 1 and 2, at places within it, and 53, 60 and 61, at none.
+use Rattle.decimal.specs.declared.Number.{Number}
+use Rattle.utf8.specs.declared.Refusal.{Refusal}
+use Rattle.utf8.specs.declared.CharNumber.{CharNumber}
+use Rattle.std.specs.Prelude.{Err, Ok, Result}
 use Rattle.std.proofs.Common.{ℕ, Bool, ◌&&◌, List, subst, arith}
 use lib.Ieee.{unlike}
 use Rattle.proving.proofs.Choice.{either}
 use Rattle.scan.specs.Separated.{without_separators}
 use Rattle.utf8.specs.declared.Reading.{Reading}
-use Rattle.utf8.specs.declared.Admission.{Admission}
-use Rattle.utf8.specs.declared.Admission.TheVariants as admission
 use Rattle.utf8.specs.Answers.{admitted}
 use Rattle.utf8.specs.laws.Bounds as within
 use Rattle.utf8.proofs.Bounds.{admitted_bound}
@@ -21,12 +23,10 @@ use Rattle.number.specs.Integer.{integer_of}
 use Rattle.number.specs.White.{plain_text}
 use Rattle.number.specs.Number.{leads_zero, is_marked, integer_by, notation_of, follows_mark, marked_read, parsed_decimal, number_of, is_placed, number_in, parsing_by, parsing_of}
 use Rattle.number.specs.laws.Refusals.{ParsingBound}
-use Rattle.number.specs.declared.Parsing.{Parsing}
-use Rattle.number.specs.declared.Parsing.TheVariants.{Value, Refused}
 
-abbrev Bounded : Parsing → Type 0
-Bounded (Value n) = Unit {0}
-Bounded (Refused r) = within.Placed 61 decimal_limit r
+abbrev Bounded : Result Number Refusal → Type 0
+Bounded (Ok n) = Unit {0}
+Bounded (Err r) = within.Placed 61 decimal_limit r
 
 integer_bound : (n : Notation) (outer : Bool) (i : Integer) → Bounded (integer_by n outer i)
 integer_bound n outer (Whole own v) =
@@ -56,9 +56,9 @@ bound : (r : Reading) (xs : List ℕ) → Bounded (parsing_of r xs)
 unfolding parsing_of
 bound r xs = go (admitted decimal_limit xs) (admitted_bound decimal_limit xs)
   where
-    go : (a : Admission) → within.Bounded decimal_limit a → Bounded (parsing_by r a (plain_text xs))
-    go (admission.Admitted n) h = reading_bound r (plain_text xs)
-    go (admission.Refused e) h = omega (arith, h.number, h.byte, h.character)
+    go : (a : Result CharNumber Refusal) → within.Bounded decimal_limit a → Bounded (parsing_by r a (plain_text xs))
+    go (Ok n) h = reading_bound r (plain_text xs)
+    go (Err e) h = omega (arith, h.number, h.byte, h.character)
 
 pub parsing_bound : ParsingBound
 parsing_bound r xs e q = let p = subst Bounded q (bound r xs) in (p.number, p.byte, p.character)

@@ -1,5 +1,7 @@
 -- When each answer is given: of any text one of the six rows holds, which gives its own answer, and no two rows give the same
 -- (`exactly`). The conditions are read off the tests, and those of a decimal off its own theorem (`decimal_given`).
+use Rattle.utf8.specs.declared.Refusal.{Refusal}
+use Rattle.std.specs.Prelude.{Err, Ok, Result}
 use Rattle.std.proofs.Common.{◌≡◌, ℕ, ◌≤◌, Bool, true, false, cond, ◌&&◌, eqb, ◌⊎◌, ◌↔◌, List, [], ◌∷◌, length, sym, refl, ap, ◌∙◌, inl, inr, ⊎_elim, true≢false, arith}
 use Prim.Native.Char.{code}
 use native.Mathlib.Decide.{dec_lt, ℕ_discrete}
@@ -25,8 +27,6 @@ use Rattle.decimal.specs.laws.Decimal.{Infinite, Nan, Numeric, InExact, OutsideE
 use Rattle.decimal.proofs.Given.{decimal_given}
 use Rattle.decimal.proofs.Ranges.{exact_told}
 use Rattle.number.specs.declared.Integer.TheVariants as integer
-use Rattle.number.specs.declared.Parsing.{Parsing}
-use Rattle.number.specs.declared.Parsing.TheVariants.{Value, Refused}
 use Rattle.number.specs.White.{plain_text}
 use Rattle.number.specs.Signed.{most_of, is_i64}
 use Rattle.number.specs.Integer.{is_digits, unsigned_of, is_whole, integer_of}
@@ -63,11 +63,11 @@ module _ (t : List ℕ) where
   tests_i64 = tests_and (tests_le (magnitude t) (most_of (own t))) (tests_le (magnitude t) (most_of (negative t)))
 
   -- what a marked text gives
-  unmarked : (Whole t → ⊥) → marked_read t ≡ Refused not_number
+  unmarked : (Whole t → ⊥) → marked_read t ≡ Err not_number
   unfolding marked_read integer_of
   unmarked n = go (leads_zero t) (is_whole (notation_of t) (follows_mark t)) (affirmed tests_whole n)
     where
-      go : (z w : Bool) → z && w ≡ false → cond z (integer_by (notation_of t) (is_minus t 0) (cond w (integer.Whole (own t) (magnitude t)) integer.NotInteger)) (Refused not_number) ≡ Refused not_number
+      go : (z w : Bool) → z && w ≡ false → cond z (integer_by (notation_of t) (is_minus t 0) (cond w (integer.Whole (own t) (magnitude t)) integer.NotInteger)) (Err not_number) ≡ Err not_number
       go true true e = absurd (true≢false e)
       go true false e = refl
       go false w e = refl
@@ -78,10 +78,10 @@ module _ (t : List ℕ) where
       let e = tests_whole.1 w in
       rw (and_left (leads_zero t) (is_whole (notation_of t) (follows_mark t)) e, and_right (leads_zero t) (is_whole (notation_of t) (follows_mark t)) e)
 
-  signed : Whole t → InI64 t → marked_read t ≡ Value (integer_number (notation_of t) (negative t) (magnitude t))
+  signed : Whole t → InI64 t → marked_read t ≡ Ok (integer_number (notation_of t) (negative t) (magnitude t))
   signed w i = marked w ∙ rw (tests_i64.1 i)
 
-  unsigned : Whole t → (InI64 t → ⊥) → marked_read t ≡ Refused outside_i64
+  unsigned : Whole t → (InI64 t → ⊥) → marked_read t ≡ Err outside_i64
   unsigned w n = marked w ∙ rw (affirmed tests_i64 n)
 
   -- what any text gives
@@ -93,7 +93,7 @@ module _ (t : List ℕ) where
   unfolding number_of
   decimal_read m d e = rw (affirmed tests_marked m, e)
 
-  pub not_number_holds : NotNumber t → number_of t ≡ Refused not_number
+  pub not_number_holds : NotNumber t → number_of t ≡ Err not_number
   not_number_holds (inl n) = integer_read_holds n.0 ∙ unmarked n.1
   not_number_holds (inr n) = decimal_read n.0 NotDecimal ((decimal_given t).4.1 (λ s. n.1 s.1))
 
@@ -117,9 +117,9 @@ data Row : Type 0 where
   outside : Row
   accepted : Number → Row
 
-abbrev row_of : Parsing → Row
-row_of (Value n) = accepted n
-row_of (Refused r) =
+abbrev row_of : Result Number Refusal → Row
+row_of (Ok n) = accepted n
+row_of (Err r) =
     cond (eqb r.number 1) long
     (cond (eqb r.number 2) broken
     (cond (eqb r.number 60) none
@@ -140,13 +140,13 @@ module _ (r : Reading) (xs : List ℕ) where
   Holds outside = Taken decimal_limit xs × SeparatorsPlaced r t × (Marked u → ⊥) × OutsideExact u
   Holds (accepted n) = Taken decimal_limit xs × SeparatorsPlaced r t × (IntegerIs u n ⊎ DecimalIs u n)
 
-  abbrev given : Row → Parsing
-  given long = Refused too_long
-  given broken = Refused (not_utf8 (place_at xs (prefix_end xs)))
-  given none = Refused not_number
-  given oversized = Refused outside_i64
-  given outside = Refused outside_exact
-  given (accepted n) = Value n
+  abbrev given : Row → Result Number Refusal
+  given long = Err too_long
+  given broken = Err (not_utf8 (place_at xs (prefix_end xs)))
+  given none = Err not_number
+  given oversized = Err outside_i64
+  given outside = Err outside_exact
+  given (accepted n) = Ok n
 
   back : (w : Row) → row_of (given w) ≡ w
   back long = refl
@@ -160,7 +160,7 @@ module _ (r : Reading) (xs : List ℕ) where
   short k = omega (arith, without_within t, plain_few xs k.1, k.0)
 
   -- what is taken is refused, or read without its separators, as they are placed
-  misplaced : Taken decimal_limit xs → (SeparatorsPlaced r t → ⊥) → parsing_of r xs ≡ Refused not_number
+  misplaced : Taken decimal_limit xs → (SeparatorsPlaced r t → ⊥) → parsing_of r xs ≡ Err not_number
   unfolding parsing_of number_in
   misplaced k n = rw ((given_exactly decimal_limit xs).2.1 k, affirmed (tests_placed r t) n)
 
@@ -169,7 +169,7 @@ module _ (r : Reading) (xs : List ℕ) where
   read k s = rw ((given_exactly decimal_limit xs).2.1 k, (tests_placed r t).1 s)
 
   -- what is no number without its separators is refused in either case
-  no_number : Taken decimal_limit xs → NotNumber u → Dec (SeparatorsPlaced r t) → parsing_of r xs ≡ Refused not_number
+  no_number : Taken decimal_limit xs → NotNumber u → Dec (SeparatorsPlaced r t) → parsing_of r xs ≡ Err not_number
   no_number k n (yes s) = read k s ∙ not_number_holds u n
   no_number k n (no s) = misplaced k s
 
@@ -181,10 +181,10 @@ module _ (r : Reading) (xs : List ℕ) where
   gives none (k, inr n) = no_number k n (decided (tests_placed r t))
   gives oversized (k, s, h) = read k s ∙ integer_read_holds u h.0 ∙ unsigned u h.1 h.2
   gives outside (k, s, m, o) = read k s ∙ decimal_read u m (Outside (is_minus u 0)) ((decimal_given u).3.1 (short k, o))
-  gives (accepted n) (k, s, inl i) = read k s ∙ integer_read_holds u i.0 ∙ signed u i.1 i.2 ∙ ap Value (sym i.3)
-  gives (accepted n) (k, s, inr (m, inl i)) = read k s ∙ decimal_read u m (Named (plain (inf (is_minus u 0)))) ((decimal_given u).0.1 (short k, i.0)) ∙ ap Value (sym i.1)
-  gives (accepted n) (k, s, inr (m, inr (inl a))) = read k s ∙ decimal_read u m (Named (plain nan)) ((decimal_given u).1.1 (short k, a.0)) ∙ ap Value (sym a.1)
-  gives (accepted n) (k, s, inr (m, inr (inr e))) = read k s ∙ decimal_read u m (Exact (nearest_of u)) ((decimal_given u).2.1 (short k, e.0, e.1)) ∙ ap Value (sym e.2)
+  gives (accepted n) (k, s, inl i) = read k s ∙ integer_read_holds u i.0 ∙ signed u i.1 i.2 ∙ ap Ok (sym i.3)
+  gives (accepted n) (k, s, inr (m, inl i)) = read k s ∙ decimal_read u m (Named (plain (inf (is_minus u 0)))) ((decimal_given u).0.1 (short k, i.0)) ∙ ap Ok (sym i.1)
+  gives (accepted n) (k, s, inr (m, inr (inl a))) = read k s ∙ decimal_read u m (Named (plain nan)) ((decimal_given u).1.1 (short k, a.0)) ∙ ap Ok (sym a.1)
+  gives (accepted n) (k, s, inr (m, inr (inr e))) = read k s ∙ decimal_read u m (Exact (nearest_of u)) ((decimal_given u).2.1 (short k, e.0, e.1)) ∙ ap Ok (sym e.2)
 
   -- which row holds of a text that is taken
   marked_row : Taken decimal_limit xs → SeparatorsPlaced r t → Marked u → Dec (Whole u) → Dec (InI64 u) → (w : Row) × Holds w

@@ -1,6 +1,9 @@
 -- No piece of a number's spelling has a separator (`Free`): no sign, mark, digit, point, e or name. So document 01's rule refuses a text with one; and where
 -- none may stand that is what the crate reading judges by. The prefix `0x` and the sign before it are such pieces too, so what stands behind them
 -- has all separators of the text.
+use Rattle.utf8.specs.declared.Refusal.{Refusal}
+use Rattle.utf8.specs.declared.CharNumber.{CharNumber}
+use Rattle.std.specs.Prelude.{Err, Ok, Result}
 use Rattle.std.proofs.Common.{◌≡◌, ℕ, zero, suc, Bool, true, false, eqb, List, [], ◌∷◌, ◌++◌, map, drop, sym, refl, ap, ◌∙◌, subst, inl, inr, ⊎_elim, true≢false, arith, drop-cons, eq-eqb}
 use Prim.Native.Char.{code}
 use Rattle.proving.proofs.Tests.{affirmed, denied, decided}
@@ -14,8 +17,6 @@ use Rattle.scan.proofs.Runs.{peek_inside}
 use Rattle.scan.proofs.Stands.{tests_has}
 use Rattle.scan.proofs.separated.Whole.{placed_never, placed_without, none_dropped, without_within}
 use Rattle.utf8.specs.declared.Reading.TheVariants.{Crate, Documented}
-use Rattle.utf8.specs.declared.Admission.{Admission}
-use Rattle.utf8.specs.declared.Admission.TheVariants as admission
 use Rattle.utf8.specs.Answers.{admitted}
 use Rattle.utf8.specs.laws.Refusals.{Taken}
 use Rattle.utf8.proofs.Given.{given_exactly}
@@ -175,6 +176,6 @@ pub without_alike : WithoutAlike
 unfolding parsing_of
 without_alike xs n = go (admitted decimal_limit xs)
   where
-    go : (a : Admission) → parsing_by Crate a (plain_text xs) ≡ parsing_by Documented a (plain_text xs)
-    go (admission.Admitted k) = without_as_before Crate (plain_text xs) n ∙ sym (without_as_before Documented (plain_text xs) n)
-    go (admission.Refused e) = refl
+    go : (a : Result CharNumber Refusal) → parsing_by Crate a (plain_text xs) ≡ parsing_by Documented a (plain_text xs)
+    go (Ok k) = without_as_before Crate (plain_text xs) n ∙ sym (without_as_before Documented (plain_text xs) n)
+    go (Err e) = refl

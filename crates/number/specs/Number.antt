@@ -1,5 +1,6 @@
 -- What a number's text is read as: document 01, "Numbers", and document 02, L2.
-use Rattle.std.specs.Prelude.{ℕ, suc, Bool, cond, not, ◌&&◌, ◌||◌, List, length, drop, ◌==◌}
+use Rattle.utf8.specs.declared.CharNumber.{CharNumber}
+use Rattle.std.specs.Prelude.{ℕ, suc, Bool, cond, not, ◌&&◌, ◌||◌, List, length, drop, ◌==◌, Err, Ok, Result}
 use Prim.Native.Char.{code}
 use Rattle.std.specs.Float.Ieee.{unlike, of_int}
 use Rattle.std.specs.Float.{binary64}
@@ -9,8 +10,6 @@ use Rattle.scan.specs.Separated.{all_placed, without_separators}
 use Rattle.scan.specs.Text.{has}
 use Rattle.utf8.specs.declared.Reading.{Reading}
 use Rattle.utf8.specs.declared.Refusal.{Refusal}
-use Rattle.utf8.specs.declared.Admission.{Admission}
-use Rattle.utf8.specs.declared.Admission.TheVariants as admission
 use Rattle.utf8.specs.Answers.{at_start, admitted, no_refusal}
 use Rattle.decimal.specs.declared.Notation.{Notation}
 use Rattle.decimal.specs.declared.Notation.TheVariants.{Hex, Octal}
@@ -20,8 +19,6 @@ use Rattle.decimal.specs.declared.Decimal.TheVariants.{NotDecimal, Named, Exact,
 use Rattle.scan.specs.Sign.{past_sign, is_minus}
 use Rattle.decimal.specs.Value.{outside_exact, decimal_limit, decimal_of}
 use Rattle.numeral.specs.Numeral.{between_digits, behind_prefix}
-use Rattle.number.specs.declared.Parsing.{Parsing}
-use Rattle.number.specs.declared.Parsing.TheVariants.{Value, Refused}
 use Rattle.number.specs.White.{plain_text}
 use Rattle.number.specs.Signed.{signed_of, is_i64}
 use Rattle.number.specs.declared.Integer.{Integer}
@@ -61,13 +58,13 @@ is_marked t = has (code "x") t || is_zero_led t
 abbrev pub integer_number : Notation → Bool → ℕ → Number
 integer_number n negative v = record { value = of_int binary64 (signed_of negative v); notation = n }
 
-abbrev pub integer_by : Notation → Bool → Integer → Parsing
+abbrev pub integer_by : Notation → Bool → Integer → Result Number Refusal
 integer_by n outer (Whole own v) =
     let negative = unlike own outer in
-    cond (is_i64 own v && is_i64 negative v) (Value (integer_number n negative v)) (Refused outside_i64)
-integer_by n outer NotInteger = Refused not_number
+    cond (is_i64 own v && is_i64 negative v) (Ok (integer_number n negative v)) (Err outside_i64)
+integer_by n outer NotInteger = Err not_number
 
-abbrev pub integer_read : Notation → Bool → List ℕ → Parsing
+abbrev pub integer_read : Notation → Bool → List ℕ → Result Number Refusal
 integer_read n outer ys = integer_by n outer (integer_of n ys)
 
 -- "means hex after `0x`, else octal after `0`"; "An x in a text without that leading 0 .. here 60"
@@ -80,18 +77,18 @@ notation_of t = cond (is_hex_mark t) Hex Octal
 unfoldable pub follows_mark : List ℕ → List ℕ
 follows_mark t = drop (cond (is_hex_mark t) (suc (behind_zero t)) (behind_zero t)) t
 
-unfoldable pub marked_read : List ℕ → Parsing
-marked_read t = cond (leads_zero t) (integer_read (notation_of t) (is_minus t 0) (follows_mark t)) (Refused not_number)
+unfoldable pub marked_read : List ℕ → Result Number Refusal
+marked_read t = cond (leads_zero t) (integer_read (notation_of t) (is_minus t 0) (follows_mark t)) (Err not_number)
 
 -- what a decimal is read as
-abbrev pub parsed_decimal : Decimal → Parsing
-parsed_decimal NotDecimal = Refused not_number
-parsed_decimal (Named n) = Value n
-parsed_decimal (Exact n) = Value n
-parsed_decimal (Outside negative) = Refused outside_exact
+abbrev pub parsed_decimal : Decimal → Result Number Refusal
+parsed_decimal NotDecimal = Err not_number
+parsed_decimal (Named n) = Ok n
+parsed_decimal (Exact n) = Ok n
+parsed_decimal (Outside negative) = Err outside_exact
 
 -- the number that a text is, without white space and in lower case
-unfoldable pub number_of : List ℕ → Parsing
+unfoldable pub number_of : List ℕ → Result Number Refusal
 number_of t = cond (is_marked t) (marked_read t) (parsed_decimal (decimal_of t))
 
 -- L2: "one underscore may stand between two digits of the same part, or between a hex prefix and its first digit": whether each of a text does. They
@@ -108,18 +105,18 @@ is_placed r t =
     cond (is_hex_text t) (all_placed (is_in HexDigit) (behind_prefix r) (behind_hex t)) (all_placed (is_in Digit) (between_digits r) t)
 
 -- ".. and has no effect on the value. .. Refusals: .. 60 for both in number texts"
-unfoldable pub number_in : Reading → List ℕ → Parsing
-number_in r t = cond (is_placed r t) (number_of (without_separators t)) (Refused not_number)
+unfoldable pub number_in : Reading → List ℕ → Result Number Refusal
+number_in r t = cond (is_placed r t) (number_of (without_separators t)) (Err not_number)
 
 -- "Order: 1, 2, the reading"
-abbrev pub parsing_by : Reading → Admission → List ℕ → Parsing
-parsing_by r (admission.Admitted n) t = number_in r t
-parsing_by r (admission.Refused e) t = Refused e
+abbrev pub parsing_by : Reading → Result CharNumber Refusal → List ℕ → Result Number Refusal
+parsing_by r (Ok n) t = number_in r t
+parsing_by r (Err e) t = Err e
 
-unfoldable pub parsing_of : Reading → List ℕ → Parsing
+unfoldable pub parsing_of : Reading → List ℕ → Result Number Refusal
 parsing_of r xs = parsing_by r (admitted decimal_limit xs) (plain_text xs)
 
 -- the refusal of an answer, and of one that has none the number 0, which is no refusal's
-abbrev pub not_parsed : Parsing → Refusal
-not_parsed (Value n) = no_refusal
-not_parsed (Refused e) = e
+abbrev pub not_parsed : Result Number Refusal → Refusal
+not_parsed (Ok n) = no_refusal
+not_parsed (Err e) = e

@@ -5,9 +5,9 @@ use mathlib.Core.List.{List}
 use mathlib.Core.Path.{◌≡◌, refl, ap, ◌∙◌}
 use lib.ListN.{length}
 use borrow.Author.Tests.{le-leb, lt-leb}
+use Rattle.std.specs.Prelude.{Ok}
 use Rattle.utf8.specs.declared.CharNumber.{CharNumber}
 use Rattle.utf8.specs.declared.Reading.{Reading}
-use Rattle.utf8.specs.declared.Admission.TheVariants.{Admitted}
 use Rattle.utf8.specs.Answers.{text_limit, admitted}
 use Rattle.lex.specs.Outcome.{Outcome, reads, ends, refuses, outcome_of}
 use Rattle.lex.specs.Lex.{entries, answer_by, measured}
@@ -26,7 +26,7 @@ module _ (r : Reading) (q : List ℕ) (number : ℕ) where
   counted (ends at) n = refl
   counted (refuses row o) n = refl
 
-  pub search_answers : (n : CharNumber) → admitted text_limit q ≡ Admitted n → answer_of q number (searched r number q) ≡ reasoned r number q
+  pub search_answers : (n : CharNumber) → admitted text_limit q ≡ Ok n → answer_of q number (searched r number q) ≡ reasoned r number q
   unfolding reasoned measured
   search_answers n e =
       let z : 0 + length (entries (outcome_of r q)) ≡ length (entries (outcome_of r q)) = omega arith in

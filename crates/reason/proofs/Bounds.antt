@@ -5,13 +5,12 @@ use mathlib.Core.List.{List}
 use mathlib.Core.Path.{◌≡◌, refl, ap, subst}
 use lib.Dec.{leb}
 use lib.ListN.{drop}
+use Rattle.std.specs.Prelude.{Err, Ok, Result}
 use Rattle.proving.proofs.Choice.{either}
 use Rattle.utf8.specs.declared.Reading.{Reading}
 use Rattle.utf8.specs.declared.Refusal.{Refusal}
 use Rattle.munch.specs.declared.word.Rule.{Rule}
 use Rattle.munch.specs.declared.word.Rule.TheVariants.{Or, InBraces, Table, FillCalled, FillAlone, WithColon, Plain}
-use Rattle.lex.specs.declared.Lexing.{Lexing}
-use Rattle.lex.specs.declared.Lexing.TheVariants as lexing
 use Rattle.lex.specs.Lex.{measured, roomed, lexed}
 use Rattle.lex.specs.laws.Bounds.{LexingWithin}
 use Rattle.lex.proofs.Bounds.{lexing_bounded}
@@ -41,7 +40,7 @@ of_found q (There at m) = of_wording (wording_of m.inside (drop at q))
 of_found q Nowhere = (omega arith, omega arith, omega arith)
 
 -- a refused query is refused so without room
-of_refused : (r : Reading) (q : List ℕ) (refusal : Refusal) → measured r q ≡ lexing.Refused refusal → ReasoningWithin (Refused refusal)
+of_refused : (r : Reading) (q : List ℕ) (refusal : Refusal) → measured r q ≡ Err refusal → ReasoningWithin (Refused refusal)
 unfolding lexed
 of_refused r q refusal e = let b = subst LexingWithin (ap (roomed 0) e) (lexing_bounded r 0 q) in (omega (arith, b.0), b.1, b.2)
 
@@ -49,6 +48,6 @@ pub reason_bounded : ReasonBounded
 unfolding reasoned
 reason_bounded r number q = go (measured r q) refl
   where
-    go : (x : Lexing) → measured r q ≡ x → ReasoningWithin (reason_as r number q x)
-    go (lexing.Count n) e = either ReasoningWithin (leb n number) (λ h. (omega arith, omega arith, omega arith)) (λ h. of_found q (lexeme_at r q number))
-    go (lexing.Refused refusal) e = of_refused r q refusal e
+    go : (x : Result ℕ Refusal) → measured r q ≡ x → ReasoningWithin (reason_as r number q x)
+    go (Ok n) e = either ReasoningWithin (leb n number) (λ h. (omega arith, omega arith, omega arith)) (λ h. of_found q (lexeme_at r q number))
+    go (Err refusal) e = of_refused r q refusal e

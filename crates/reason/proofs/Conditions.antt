@@ -6,9 +6,8 @@ use native.Mathlib.Omega.{arith}
 use mathlib.Core.List.{List}
 use mathlib.Core.Logic.{◌⊎◌, inl, inr}
 use mathlib.Core.Path.{◌≡◌, refl, sym, ◌∙◌}
+use Rattle.std.specs.Prelude.{None, Option, Some}
 use Rattle.proving.proofs.Choice.{told}
-use Rattle.token.specs.declared.Keyword.{Keyword}
-use Rattle.token.specs.declared.Keyword.TheVariants.{Kind, Nothing}
 use Rattle.token.proofs.Lookup.{colon_in_none}
 use Rattle.lex.specs.Outcome.{Entry}
 use Rattle.reason.specs.Conditions.{BracesOpen, IsOr, InTable, IsFill, Called, HasColon, Applies, or_in_braces, word_of_braces, table_word, fill_called, fill_alone, with_colon, plain}
@@ -32,11 +31,11 @@ one : (n : ℕ) → One (λ a. a ≡ n)
 one n a b s t = s ∙ sym t
 
 -- no word has a kind and none
-abbrev kind_or : Keyword → ℕ
-kind_or (Kind k) = suc k
-kind_or Nothing = 0
+abbrev kind_or : Option ℕ → ℕ
+kind_or (Some k) = suc k
+kind_or None = 0
 
-pub no_kind : {A : Type 0} {w : Keyword} {k : ℕ} → w ≡ Kind k → w ≡ Nothing → A
+pub no_kind : {A : Type 0} {w : Option ℕ} {k : ℕ} → w ≡ Some k → w ≡ None → A
 no_kind e f = told kind_or e f (λ z. omega (arith, z))
 
 -- the tree of choices

@@ -6,6 +6,7 @@ use mathlib.Core.List.{List, [], ◌∷◌, map}
 use mathlib.Core.Logic.{inl, inr}
 use mathlib.Core.Path.{◌≡◌, refl, sym, ap, subst, ◌∙◌}
 use lib.ListN.{length}
+use Rattle.std.specs.Prelude.{None, Option, Some}
 use Rattle.scan.specs.Ascii.{ascii}
 use Rattle.scan.specs.Byte.{is_within, lowered}
 use Rattle.scan.specs.Text.{same_text}
@@ -15,8 +16,6 @@ use Rattle.proving.proofs.Choice.{either, and_left, and_right}
 use Rattle.proving.proofs.Tests.{Tests, tests_or}
 use Rattle.utf8.specs.laws.Ascii.{is_ascii}
 use Rattle.utf8.proofs.Ascii.{by_bytes, lowered_other}
-use Rattle.token.specs.declared.Keyword.{Keyword}
-use Rattle.token.specs.declared.Keyword.TheVariants.{Kind, Nothing}
 use Rattle.token.specs.Kinds.{fill, fill_left, fill_right}
 use Rattle.token.specs.Words.{KindText, words, kind_in, keyword_of}
 use Rattle.token.specs.laws.Words.{word_at}
@@ -33,7 +32,7 @@ rows_ascii = below (λ i. is_ascii (word_at i).text) (length words) refl
 found_by_bytes : (xs : List ℕ) → kind_in words (map lowered xs) ≡ keyword_of xs
 unfolding keyword_of
 found_by_bytes =
-    by_bytes Keyword Nothing (λ ys. kind_in words (map lowered ys))
+    by_bytes (Option ℕ) None (λ ys. kind_in words (map lowered ys))
     (λ ys a. none_found (map lowered ys) (λ i l s. true≢false (sym s ∙ lowered_other ys (word_at i).text a (rows_ascii i l))))
 
 -- the test of a text, and the rows in which that of the kind agrees with it
@@ -57,9 +56,9 @@ alike false true h = sym h
 alike false false h = refl
 
 -- so they agree of the row that a word is found in
-abbrev Agrees : List ℕ → Keyword → Type 0
-Agrees w (Kind k) = is_fill k ≡ is_fill_text w
-Agrees w Nothing = Unit {0}
+abbrev Agrees : List ℕ → Option ℕ → Type 0
+Agrees w (Some k) = is_fill k ≡ is_fill_text w
+Agrees w None = Unit {0}
 
 agrees : (es : List KindText) (w : List ℕ) → agreeing es ≡ true → Agrees w (kind_in es w)
 unfolding kind_in
@@ -73,13 +72,13 @@ module _ (q : List ℕ) (e : Entry) where
   abbrev low : List ℕ
   low = map lowered (text_of q e)
 
-  pub fill_tested : (k : ℕ) → keyword_of (text_of q e) ≡ Kind k → Tests (is_fill k) (IsFill q e)
+  pub fill_tested : (k : ℕ) → keyword_of (text_of q e) ≡ Some k → Tests (is_fill k) (IsFill q e)
   fill_tested k f =
       let a : is_fill k ≡ is_fill_text low = subst (Agrees low) (found_by_bytes (text_of q e) ∙ f) (agrees words low each_agrees) in
       rw a (tests_or (same_is_equal low (ascii "fill")) (tests_or (same_is_equal low (ascii "fill_left")) (same_is_equal low (ascii "fill_right"))))
 
   -- and a fill word is found
-  found_as : (k : ℕ) {w : List ℕ} → kind_in words w ≡ Kind k → low ≡ w → InTable q e
+  found_as : (k : ℕ) {w : List ℕ} → kind_in words w ≡ Some k → low ≡ w → InTable q e
   found_as k f z = (k, sym (found_by_bytes (text_of q e)) ∙ ap (kind_in words) z ∙ f)
 
   pub fill_in_table : IsFill q e → InTable q e

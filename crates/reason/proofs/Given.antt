@@ -12,6 +12,8 @@ use mathlib.Core.Path.{◌≡◌, refl, sym, ap, subst, ◌∙◌}
 use lib.ListN.{length, take, drop, get_or, get_or-map}
 use lib.Seq.{get_or-take, get_or-drop}
 use borrow.Author.Tests.{eqb-true, eq-eqb, le-leb, lt-leb}
+use Rattle.utf8.specs.declared.Refusal.{Refusal}
+use Rattle.std.specs.Prelude.{Err, None, Ok, Option, Result, Some}
 use Rattle.scan.specs.declared.byte.Class.TheVariants as class
 use Rattle.scan.specs.Ascii.{ascii}
 use Rattle.scan.specs.Byte.{end, peek_at, is_within, is_space, is_alpha, lowered, is_in}
@@ -23,8 +25,6 @@ use Rattle.proving.proofs.Choice.{either, told}
 use Rattle.proving.proofs.Tests.{Tests, denied, itself, tests_eq, tests_and}
 use Rattle.utf8.specs.declared.Reading.{Reading}
 use Rattle.utf8.specs.Answers.{text_limit}
-use Rattle.token.specs.declared.Keyword.{Keyword}
-use Rattle.token.specs.declared.Keyword.TheVariants as keyword
 use Rattle.token.specs.Words.{keyword_of}
 use Rattle.munch.specs.declared.word.Rule.{Rule}
 use Rattle.munch.specs.Word.{is_word_start, is_fill, is_called, past_white, is_or, rule_by, brace_rule, kind_by}
@@ -34,8 +34,6 @@ use Rattle.munch.specs.declared.Mode.{Mode}
 use Rattle.munch.specs.declared.Step.{Step}
 use Rattle.munch.specs.declared.Step.TheVariants as step
 use Rattle.munch.specs.Munch.{mode, outside_table, brace_table, step_in, munched, word_step, brace_word}
-use Rattle.lex.specs.declared.Lexing.{Lexing}
-use Rattle.lex.specs.declared.Lexing.TheVariants as lexing
 use Rattle.lex.specs.Outcome.{Entry, entry, depth_by, step_length}
 use Rattle.lex.specs.Lex.{eof, entries_of, kind_of, measured}
 use Rattle.lex.specs.laws.Refusals.{Reaches}
@@ -115,15 +113,15 @@ module _ (q : List ℕ) (es : List Entry) (e : Entry) where
   unfolding rule_by kind_by
   judged_outside w = go (keyword_of (text_of q e)) refl
     where
-      go : (k : Keyword) → keyword_of (text_of q e) ≡ k → Judged (rule_by k xs e.length)
-      go (keyword.Kind k) f =
+      go : (k : Option ℕ) → keyword_of (text_of q e) ≡ k → Judged (rule_by k xs e.length)
+      go (Some k) f =
           either Judged (is_fill k)
           (λ h.
           either Judged (is_called xs e.length)
           (λ c. (fill_called w ((fill_tested q e k f).0 h) (called_tested.0 c), called_its_own k f))
           (λ c. (fill_alone w ((fill_tested q e k f).0 h) (denied called_tested c), fill_is_a_name)))
           (λ h. (table_word w (k, f) (denied (fill_tested q e k f) h), its_own k f))
-      go keyword.Nothing f =
+      go None f =
           either Judged (has (code ":") (text_of q e))
           (λ c. (with_colon w c, metric_name))
           (λ c. (plain w (λ t. no_kind t.1 f) (denied (itself _) c), name))
@@ -236,7 +234,7 @@ verdict_found r q l (there at k n m m' h f) = verdict_there r q l at k n m m' h 
 verdict_found r q l (nowhere at z) = none (none_there q (entries_of r q) (eof at) (λ b. rw z end_no_letter) (λ b. rw z end_no_start))
 
 -- of the lexeme of a number, where the query is accepted and has it
-verdict : (r : Reading) (q : List ℕ) (number n : ℕ) → measured r q ≡ lexing.Count n → number < n → Verdict q (entries_of r q) (lexeme_of r q number) (reasoned r number q)
+verdict : (r : Reading) (q : List ℕ) (number n : ℕ) → measured r q ≡ Ok n → number < n → Verdict q (entries_of r q) (lexeme_of r q number) (reasoned r number q)
 unfolding reasoned
 verdict r q number n e l =
     let g = (measured_given r q n).0 e in
@@ -298,16 +296,16 @@ unfolding reasoned
 lexing_refused r q number refusal e = rw e
 
 -- a reason is given of a lexeme that there is, in an accepted query
-reason_counted : (r : Reading) (q : List ℕ) (number n : ℕ) → reasoned r number q ≡ Reason n → (count : ℕ) × (measured r q ≡ lexing.Count count) × (number < count)
+reason_counted : (r : Reading) (q : List ℕ) (number n : ℕ) → reasoned r number q ≡ Reason n → (count : ℕ) × (measured r q ≡ Ok count) × (number < count)
 reason_counted r q number n z = go (measured r q) refl
   where
-    go : (x : Lexing) → measured r q ≡ x → (count : ℕ) × (measured r q ≡ lexing.Count count) × (number < count)
-    go (lexing.Count count) e = within (dec_lt number count)
+    go : (x : Result ℕ Refusal) → measured r q ≡ x → (count : ℕ) × (measured r q ≡ Ok count) × (number < count)
+    go (Ok count) e = within (dec_lt number count)
       where
-        within : Dec (number < count) → (c : ℕ) × (measured r q ≡ lexing.Count c) × (number < c)
+        within : Dec (number < count) → (c : ℕ) × (measured r q ≡ Ok c) × (number < c)
         within (yes l) = (count, e, l)
         within (no l) = told reason_in z ((no_lexeme_given r q number count e).1 (omega (arith, l))) (λ y. omega (arith, y))
-    go (lexing.Refused refusal) e = told reason_in z (lexing_refused r q number refusal e) (λ y. omega (arith, y))
+    go (Err refusal) e = told reason_in z (lexing_refused r q number refusal e) (λ y. omega (arith, y))
 
 -- and its kind is the reason's
 pub reason_kind : ReasonKind

@@ -1,12 +1,11 @@
 -- The seven conditions of document 02's L10, each said by itself of a query, its lexemes and one of them: "`or` before a space in braces; any other word in braces;
 -- outside braces, table word other than the three fill words; fill word with `(` next, white space aside; fill word without; word with a colon; plain word". Of the lexemes before
 -- it their places and kinds are used alone: modes, steps and the order in which a reader tests have no part in it.
-use Rattle.std.specs.Prelude.{ℕ, ◌+◌, ◌≤◌, ◌<◌, true, List, map, ◌⊎◌, ◌≡◌, take, drop}
+use Rattle.std.specs.Prelude.{ℕ, ◌+◌, ◌≤◌, ◌<◌, true, List, map, ◌⊎◌, ◌≡◌, take, drop, Some}
 use Prim.Native.Char.{code}
 use Rattle.scan.specs.Ascii.{ascii}
 use Rattle.scan.specs.Byte.{peek_at, is_space, is_alpha, lowered}
 use Rattle.scan.specs.Text.{has}
-use Rattle.token.specs.declared.Keyword.TheVariants.{Kind}
 use Rattle.token.specs.Kinds.{identifier, metric_identifier, left_brace, right_brace, left_bracket, right_bracket, lor}
 use Rattle.token.specs.Words.{keyword_of}
 use Rattle.munch.specs.Word.{is_word_start}
@@ -48,7 +47,7 @@ IsOr q e = (map lowered (text_of q e) ≡ ascii "or") × (peek_at q (end_of e) �
 
 -- a word of 01's table, in any case
 abbrev pub InTable : List ℕ → Entry → Type 0
-InTable q e = (k : ℕ) × (keyword_of (text_of q e) ≡ Kind k)
+InTable q e = (k : ℕ) × (keyword_of (text_of q e) ≡ Some k)
 
 -- "the three fill words", in any case
 abbrev pub IsFill : List ℕ → Entry → Type 0
@@ -75,8 +74,8 @@ pub data Applies (q : List ℕ) (es : List Entry) (e : Entry) : ℕ → Type 0 w
 pub data Gives (word : List ℕ) : ℕ → ℕ → Type 0 where
   or_is_or : Gives word 1 lor
   name_in_braces : Gives word 2 identifier
-  its_own : (k : ℕ) → keyword_of word ≡ Kind k → Gives word 3 k
-  called_its_own : (k : ℕ) → keyword_of word ≡ Kind k → Gives word 4 k
+  its_own : (k : ℕ) → keyword_of word ≡ Some k → Gives word 3 k
+  called_its_own : (k : ℕ) → keyword_of word ≡ Some k → Gives word 4 k
   fill_is_a_name : Gives word 5 identifier
   metric_name : Gives word 6 metric_identifier
   name : Gives word 7 identifier

@@ -1,5 +1,5 @@
 -- Why a word of a query has its kind: document 02, L10. The rules are those of `munch/specs/Word`, numbered in 02's order.
-use Rattle.std.specs.Prelude.{ℕ, ◌+◌, cond, List, [], ◌∷◌, eqb, leb, take, drop}
+use Rattle.std.specs.Prelude.{ℕ, ◌+◌, cond, List, [], ◌∷◌, eqb, leb, take, drop, Err, Ok, Result}
 use Rattle.scan.specs.declared.byte.Class.TheVariants.{AlphaNumeric}
 use Rattle.scan.specs.declared.byte.Class.TheVariants as class
 use Rattle.scan.specs.Byte.{peek_at, is_alpha, is_in}
@@ -17,8 +17,6 @@ use Rattle.munch.specs.declared.Mode.{Mode}
 use Rattle.munch.specs.declared.Step.{Step}
 use Rattle.munch.specs.declared.Step.TheVariants as step
 use Rattle.munch.specs.Munch.{outside}
-use Rattle.lex.specs.declared.Lexing.{Lexing}
-use Rattle.lex.specs.declared.Lexing.TheVariants as lexing
 use Rattle.lex.specs.Outcome.{steps_of}
 use Rattle.lex.specs.Lex.{measured}
 use Rattle.reason.specs.declared.Reasoning.{Reasoning}
@@ -82,9 +80,9 @@ reason_at q (There at m) = reason_of (wording_of m.inside (drop at q))
 reason_at q Nowhere = no_word
 
 -- "Refusals: those of lexing, then 72 .., 74"; 3 is none of them, since nothing is lent
-abbrev pub reason_as : Reading → ℕ → List ℕ → Lexing → Reasoning
-reason_as r number q (lexing.Count n) = cond (leb n number) no_lexeme (reason_at q (lexeme_at r q number))
-reason_as r number q (lexing.Refused refusal) = Refused refusal
+abbrev pub reason_as : Reading → ℕ → List ℕ → Result ℕ Refusal → Reasoning
+reason_as r number q (Ok n) = cond (leb n number) no_lexeme (reason_at q (lexeme_at r q number))
+reason_as r number q (Err refusal) = Refused refusal
 
 unfoldable pub reasoned : Reading → ℕ → List ℕ → Reasoning
 reasoned r number q = reason_as r number q (measured r q)

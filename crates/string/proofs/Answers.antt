@@ -8,9 +8,10 @@ use mathlib.Core.Option.{Option, none, some, get_or}
 use mathlib.Core.Path.{◌≡◌, refl, sym, ap, ◌∙◌}
 use lib.Dec.{leb}
 use lib.ListN.{length}
+use Rattle.utf8.specs.declared.Refusal.{Refusal}
+use Rattle.utf8.specs.declared.CharNumber.{CharNumber}
+use Rattle.std.specs.Prelude.{Err, Ok, Result}
 use Rattle.proving.proofs.Choice.{either}
-use Rattle.utf8.specs.declared.Admission.{Admission}
-use Rattle.utf8.specs.declared.Admission.TheVariants as admission
 use Rattle.utf8.specs.Answers.{text_limit, admitted}
 use Rattle.utf8.specs.laws.Refusals.{Taken}
 use Rattle.utf8.proofs.Given.{admitted_text}
@@ -40,6 +41,6 @@ literal_answers r room xs = go (admitted text_limit xs) refl
         inr (inl (t, (at, rw k at (fault_within xs f p a), refl)))
     by t none e = text t (ap is_fault e) (has_escape (sign_of xs) (inner_of xs))
 
-    go : (a : Admission) → admitted text_limit xs ≡ a → LiteralTells r xs (unquoting_as r room xs a)
-    go (admission.Admitted n) e = by (admitted_text text_limit xs n e) (fault_of xs) refl
-    go (admission.Refused s) e = inl e
+    go : (a : Result CharNumber Refusal) → admitted text_limit xs ≡ a → LiteralTells r xs (unquoting_as r room xs a)
+    go (Ok n) e = by (admitted_text text_limit xs n e) (fault_of xs) refl
+    go (Err s) e = inl e

@@ -10,13 +10,13 @@ use borrow.Fn.Kinds.{Dens, res_t, ended_of}
 use denote.Triple.Clauses.{AtExit}
 use lib.ListN.{length, take, drop}
 use lib.Seq.{take-append_seam}
+use Rattle.utf8.specs.declared.Refusal.{Refusal}
+use Rattle.std.specs.Prelude.{Ok, Result}
 use Rattle.utf8.specs.declared.Reading.{Reading}
 use Rattle.utf8.specs.Text.{WellFormed}
 use Rattle.utf8.specs.Answers.{text_limit}
 use Rattle.utf8.specs.laws.Refusals.{Taken}
 use Rattle.utf8.proofs.Laws.{text_join}
-use Rattle.utf8.specs.declared.Writing.{Writing}
-use Rattle.utf8.specs.declared.Writing.TheVariants.{Written}
 use Rattle.utf8.specs.Writing.{left_by}
 use Rattle.string.specs.declared.Unquoting.{Unquoting}
 use Rattle.string.specs.Escape.{escaped, escaping_of}
@@ -46,7 +46,7 @@ pub record EscapeCall (x : List ℕ) (room : ℕ) : Type 0 where
   pub in_room : length args.1.0.now ≡ room
 
 -- it is accepted where the text is within the limit and the escape has room
-pub escape_accepted : (x : List ℕ) (room : ℕ) → Taken text_limit x → length (escaped x) ≤ room → (c : EscapeCall x room) → c.result ≡ Written (length (escaped x))
+pub escape_accepted : (x : List ℕ) (room : ℕ) → Taken text_limit x → length (escaped x) ≤ room → (c : EscapeCall x room) → c.result ≡ Ok (length (escaped x))
 escape_accepted x room t h c = c.post.0 ∙ ap₂ escaping_of c.in_room c.of_text ∙ (escaping_given room x).3.1 (t, λ n. omega arith)
 
 -- one that was accepted: ys stand at the front of its buffer then
@@ -54,7 +54,7 @@ pub record Escaped (x ys : List ℕ) : Type 0 where
   pub room : ℕ
   pub call : EscapeCall x room
   pub size : ℕ
-  pub accepted : call.result ≡ Written size
+  pub accepted : call.result ≡ Ok size
   pub front : take size call.exit.1.0.now ≡ ys
 
 -- calls of `unquote_string` and of `part`, with what the first left and answered: of a literal, in a buffer of so many bytes, ys
@@ -81,9 +81,9 @@ pub record Read (r : Reading) (literal : List ℕ) (room : ℕ) (ys : List ℕ) 
 wrote : {x ys : List ℕ} → Escaped x ys → WellFormed x × (ys ≡ escaped x)
 wrote {x = x} {ys = ys} c =
     let out = c.call.args.1.0.now in
-    let a : escaping_of (length out) x ≡ Written c.size = rw c.call.of_text at (sym c.call.post.0 ∙ c.accepted) in
+    let a : escaping_of (length out) x ≡ Ok c.size = rw c.call.of_text at (sym c.call.post.0 ∙ c.accepted) in
     let w = subst (EscapeTells x) a (escape_answers (length out) x) in
-    let l : c.call.exit.1.0.now ≡ escaped x ++ drop c.size out = c.call.post.1 ∙ ap₂ (λ (e : Writing) (zs : List ℕ). left_by e (escaped zs) out) c.accepted c.call.of_text in
+    let l : c.call.exit.1.0.now ≡ escaped x ++ drop c.size out = c.call.post.1 ∙ ap₂ (λ (e : Result ℕ Refusal) (zs : List ℕ). left_by e (escaped zs) out) c.accepted c.call.of_text in
     let f : take c.size (escaped x ++ drop c.size out) ≡ escaped x = rw w.1 (take-append_seam (escaped x) (drop (length (escaped x)) out)) in
     (w.0.1, sym c.front ∙ ap (take c.size) l ∙ f)
 

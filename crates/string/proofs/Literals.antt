@@ -11,6 +11,7 @@ use lib.Dec.{eqb, leb, ltb}
 use lib.ListN.{length, take, drop, get_or, length-take, length-append}
 use lib.Seq.{take-append_seam, get_or-append_seam}
 use borrow.Author.Tests.{eqb-true, leb-true, le-leb, lt-ltb, le-ltb, ltb-false}
+use Rattle.std.specs.Prelude.{Err, Ok}
 use Rattle.scan.specs.Text.{has}
 use Rattle.scan.specs.Byte.{end, peek_at, backquote, double_quote, single_quote, is_quote}
 use Rattle.proving.proofs.Choice.{either, and_left, and_right}
@@ -19,7 +20,6 @@ use Rattle.proving.proofs.Lists.{get_d_any}
 use Rattle.utf8.specs.declared.CharNumber.{CharNumber}
 use Rattle.utf8.specs.declared.Reading.{Reading}
 use Rattle.utf8.specs.declared.Refusal.{Refusal}
-use Rattle.utf8.specs.declared.Admission.TheVariants as admission
 use Rattle.utf8.specs.Text.{WellFormed, char_number}
 use Rattle.utf8.specs.Answers.{text_limit, admitted}
 use Rattle.utf8.proofs.Laws.{ascii_head}
@@ -213,10 +213,10 @@ sound xs =
 
 -- the answer, by what is admitted and what the literal comes to
 module _ (r : Reading) (room : ℕ) (xs : List ℕ) where
-  pub refused_first : (s : Refusal) → admitted text_limit xs ≡ admission.Refused s → Refused s ≡ unquoting_of r room xs
+  pub refused_first : (s : Refusal) → admitted text_limit xs ≡ Err s → Refused s ≡ unquoting_of r room xs
   unfolding unquoting_of
   refused_first s a = rw a
 
-  pub by_extent : (n : CharNumber) (e : Extent) → admitted text_limit xs ≡ admission.Admitted n → extent_of r xs ≡ e → unquoting_by room xs e ≡ unquoting_of r room xs
+  pub by_extent : (n : CharNumber) (e : Extent) → admitted text_limit xs ≡ Ok n → extent_of r xs ≡ e → unquoting_by room xs e ≡ unquoting_of r room xs
   unfolding unquoting_of
   by_extent n e a x = rw (a, x)

@@ -10,8 +10,9 @@ use lib.Dec.{leb}
 use lib.ListN.{length, drop, length-append, length-drop}
 use lib.Seq.{take-append_seam, length-take-le}
 use borrow.Author.Tests.{le-leb, lt-ltb, leb-false}
-use Rattle.utf8.specs.declared.Admission.{Admission}
-use Rattle.utf8.specs.declared.Admission.TheVariants as admission
+use Rattle.utf8.specs.declared.Refusal.{Refusal}
+use Rattle.utf8.specs.declared.CharNumber.{CharNumber}
+use Rattle.std.specs.Prelude.{Err, Ok, Result}
 use Rattle.utf8.specs.declared.Reading.{Reading}
 use Rattle.utf8.specs.declared.Reading.TheVariants.{Crate, Documented}
 use Rattle.utf8.specs.Text.{WellFormed}
@@ -78,9 +79,9 @@ pub part_is_text : PartIsText
 unfolding unquoting_of
 part_is_text r xs d = go (admitted text_limit xs) refl
   where
-    go : (a : Admission) → admitted text_limit xs ≡ a → let u = unquoting_as r (length d) xs a in is_read u ≡ true → part_of u xs (text_by u (unquoted r xs) d) ≡ unquoted r xs
-    go (admission.Admitted n) e h = named r xs d (admitted_text text_limit xs n e).1 h
-    go (admission.Refused s) e h = absurd (true≢false (sym h))
+    go : (a : Result CharNumber Refusal) → admitted text_limit xs ≡ a → let u = unquoting_as r (length d) xs a in is_read u ≡ true → part_of u xs (text_by u (unquoted r xs) d) ≡ unquoted r xs
+    go (Ok n) e h = named r xs d (admitted_text text_limit xs n e).1 h
+    go (Err s) e h = absurd (true≢false (sym h))
 
 -- a literal that is not bad is read where the limit and the room are kept
 pub good_read : GoodRead
@@ -123,6 +124,6 @@ readings_agree xs e = (s, λ room. go room (admitted text_limit xs))
     s : unquoted Crate xs ≡ unquoted Documented xs
     s = same_bytes (tiles_of (sign_of xs) (inner_of xs)) e
 
-    go : (room : ℕ) (a : Admission) → unquoting_as Crate room xs a ≡ unquoting_as Documented room xs a
-    go room (admission.Admitted n) = ap (unquoting_by room xs) (same_extent xs s)
-    go room (admission.Refused t) = refl
+    go : (room : ℕ) (a : Result CharNumber Refusal) → unquoting_as Crate room xs a ≡ unquoting_as Documented room xs a
+    go room (Ok n) = ap (unquoting_by room xs) (same_extent xs s)
+    go room (Err t) = refl

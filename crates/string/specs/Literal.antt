@@ -1,12 +1,11 @@
 -- Reading a string literal: document 01, "String literals (003)", and where it goes wrong, document 02, L1. The tests stand in the order in
 -- which a literal is found bad.
-use Rattle.std.specs.Prelude.{ℕ, suc, ◌-◌, Bool, true, false, cond, ◌&&◌, not, List, [], ◌∷◌, ◌++◌, eqb, leb, ltb, length, take, drop}
+use Rattle.utf8.specs.declared.CharNumber.{CharNumber}
+use Rattle.std.specs.Prelude.{ℕ, suc, ◌-◌, Bool, true, false, cond, ◌&&◌, not, List, [], ◌∷◌, ◌++◌, eqb, leb, ltb, length, take, drop, Err, Ok, Result}
 use Prim.Native.Char.{code}
 use Rattle.std.proofs.Math.Option.{Option, none, some}
 use Rattle.scan.specs.Byte.{peek_at, backslash, backquote, is_quote}
 use Rattle.scan.specs.Text.{has}
-use Rattle.utf8.specs.declared.Admission.{Admission}
-use Rattle.utf8.specs.declared.Admission.TheVariants as admission
 use Rattle.utf8.specs.declared.Reading.{Reading}
 use Rattle.utf8.specs.declared.Refusal.{Refusal}
 use Rattle.utf8.specs.Answers.{text_limit, refused_at, no_room, admitted, no_refusal}
@@ -84,9 +83,9 @@ unquoting_by room xs (extent.Text false n) = Inner n
 unquoting_by room xs (extent.Text true n) = cond (leb n room) (Written n) (Refused no_room)
 unquoting_by room xs (extent.Bad at) = Refused (bad_literal xs at)
 
-abbrev pub unquoting_as : Reading → ℕ → List ℕ → Admission → Unquoting
-unquoting_as r room xs (admission.Admitted n) = unquoting_by room xs (extent_of r xs)
-unquoting_as r room xs (admission.Refused s) = Refused s
+abbrev pub unquoting_as : Reading → ℕ → List ℕ → Result CharNumber Refusal → Unquoting
+unquoting_as r room xs (Ok n) = unquoting_by room xs (extent_of r xs)
+unquoting_as r room xs (Err s) = Refused s
 
 -- refusals 1 and 2, 40, then 3
 unfoldable pub unquoting_of : Reading → ℕ → List ℕ → Unquoting

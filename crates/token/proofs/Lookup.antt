@@ -14,6 +14,7 @@ use lib.Dec.{eqb, ltb}
 use lib.ListN.{length, get_or, take, length-append, length-map}
 use lib.Seq.{take_at, drop_at, drop-drop, get_or_at, get_or-append-add, take-append-le}
 use borrow.Author.Tests.{eq-eqb, ne_eqb, le-ltb, lt-ltb}
+use Rattle.std.specs.Prelude.{None, Option, Some}
 use Rattle.scan.specs.Byte.{is_within, lowered}
 use Rattle.scan.specs.Text.{same_text, has}
 use Rattle.proving.proofs.Choice.{either, and_left, and_right}
@@ -21,8 +22,6 @@ use Rattle.proving.proofs.Tests.{itself, tests_eq, tests_lt, tests_or}
 use Rattle.scan.proofs.Same.{same_not, same_is_equal}
 use Rattle.utf8.specs.laws.Ascii.{is_ascii}
 use Rattle.utf8.proofs.Ascii.{by_bytes, lowered_other}
-use Rattle.token.specs.declared.Keyword.{Keyword}
-use Rattle.token.specs.declared.Keyword.TheVariants.{Kind, Nothing}
 use Rattle.token.specs.steps.Padded.{padded}
 use Rattle.token.proofs.Padding.{padded_length, padded_take}
 use Rattle.token.specs.Words.{KindText, ◌names◌, words, kind_in, keyword_of}
@@ -115,7 +114,7 @@ module _ (w : List ℕ) where
   unfolding found_at
   at_slot = go (dec_lt number word_count)
     where
-      go : Dec (number < word_count) → cond (ltb number word_count && is_row (row_in word_table number) w) (Kind (get_or (row_in word_table number) (suc widest_word) 0)) Nothing ≡ kind_in words w
+      go : Dec (number < word_count) → cond (ltb number word_count && is_row (row_in word_table number) w) (Some (get_or (row_in word_table number) (suc widest_word) 0)) None ≡ kind_in words w
       go (no l) = rw (le-ltb number word_count (omega arith)) (sym (none_found w (λ i h s. let k : i < word_count = omega (arith, counted) in l (omega (arith, led i k s)))))
       go (yes l) =
           let short-one = short (word_at number) (every_at is_entry words entries ("" names 0) number (omega (arith, counted))) in
@@ -125,29 +124,29 @@ module _ (w : List ℕ) where
 -- a word is looked for by its bytes
 found_by_bytes : (xs : List ℕ) → kind_in words (map lowered xs) ≡ keyword_of xs
 unfolding keyword_of
-found_by_bytes = by_bytes Keyword Nothing (λ ys. kind_in words (map lowered ys)) other_none
+found_by_bytes = by_bytes (Option ℕ) None (λ ys. kind_in words (map lowered ys)) other_none
   where
-    other_none : (ys : List ℕ) → is_ascii ys ≡ false → kind_in words (map lowered ys) ≡ Nothing
+    other_none : (ys : List ℕ) → is_ascii ys ≡ false → kind_in words (map lowered ys) ≡ None
     other_none ys a =
-        word_found (map lowered ys) (λ k. k ≡ Nothing) refl (λ e t s. absurd (true≢false (sym s ∙ lowered_other ys e.text a (plain e t))))
+        word_found (map lowered ys) (λ k. k ≡ None) refl (λ e t s. absurd (true≢false (sym s ∙ lowered_other ys e.text a (plain e t))))
 
 pub table_finds : TableFinds
 unfolding keyword_in
 table_finds xs = searched ∙ found_by_bytes xs
   where
-    none_empty : length xs ≡ 0 → kind_in words (map lowered xs) ≡ Nothing
-    none_empty z = word_found (map lowered xs) (λ k. k ≡ Nothing) refl (λ e t s. absurd (omega (arith, some e t, ap length ((same_is_equal (map lowered xs) e.text).0 s), length-map xs lowered)))
+    none_empty : length xs ≡ 0 → kind_in words (map lowered xs) ≡ None
+    none_empty z = word_found (map lowered xs) (λ k. k ≡ None) refl (λ e t s. absurd (omega (arith, some e t, ap length ((same_is_equal (map lowered xs) e.text).0 s), length-map xs lowered)))
 
-    none_long : widest_word < length xs → kind_in words (map lowered xs) ≡ Nothing
-    none_long l = word_found (map lowered xs) (λ k. k ≡ Nothing) refl (λ e t s. absurd (omega (arith, short e t, ap length ((same_is_equal (map lowered xs) e.text).0 s), length-map xs lowered)))
+    none_long : widest_word < length xs → kind_in words (map lowered xs) ≡ None
+    none_long l = word_found (map lowered xs) (λ k. k ≡ None) refl (λ e t s. absurd (omega (arith, short e t, ap length ((same_is_equal (map lowered xs) e.text).0 s), length-map xs lowered)))
 
-    searched : cond (is_out_of_table word_table xs) Nothing (found_at (number_in word_table (map lowered xs)) word_table (map lowered xs)) ≡ kind_in words (map lowered xs)
+    searched : cond (is_out_of_table word_table xs) None (found_at (number_in word_table (map lowered xs)) word_table (map lowered xs)) ≡ kind_in words (map lowered xs)
     searched =
         either (λ k. k ≡ kind_in words (map lowered xs)) (is_out_of_table word_table xs)
         (λ o. sym (go ((tests_or (tests_eq (length xs) 0) (tests_or (tests_lt widest_word (length xs)) (tests_lt (length word_table) table_size))).0 o)))
         (λ o. at_slot (map lowered xs))
       where
-        go : (length xs ≡ 0) ⊎ ((widest_word < length xs) ⊎ (length word_table < table_size)) → kind_in words (map lowered xs) ≡ Nothing
+        go : (length xs ≡ 0) ⊎ ((widest_word < length xs) ⊎ (length word_table < table_size)) → kind_in words (map lowered xs) ≡ None
         go (inl z) = none_empty z
         go (inr (inl l)) = none_long l
         go (inr (inr l)) = absurd (omega (arith, table_length))
@@ -165,4 +164,4 @@ colon_stays (x ∷ xs) h = go ((tests_or (tests_eq x (code ":")) (itself (has (c
 pub colon_in_none : ColonInNone
 colon_in_none xs h =
     sym (found_by_bytes xs)
-    ∙ word_found (map lowered xs) (λ k. k ≡ Nothing) refl (λ e t s. absurd (true≢false (sym (colon_stays xs h) ∙ rw ((same_is_equal (map lowered xs) e.text).0 s) (whole e t))))
+    ∙ word_found (map lowered xs) (λ k. k ≡ None) refl (λ e t s. absurd (true≢false (sym (colon_stays xs h) ∙ rw ((same_is_equal (map lowered xs) e.text).0 s) (whole e t))))

@@ -9,14 +9,13 @@ use mathlib.Core.Path.{◌≡◌, refl, sym, ◌∙◌}
 use lib.Dec.{eqb, leb, ltb}
 use lib.ListN.{length}
 use borrow.Author.Tests.{leb-true, ltb-true, eqb-true, not-true}
+use Rattle.std.specs.Prelude.{None, Option, Some}
 use Rattle.scan.specs.Text.{same_text, has}
 use Rattle.scan.proofs.Same.{same_is_equal}
 use Rattle.proving.proofs.Below.{all_below, below}
 use Rattle.proving.proofs.Choice.{and_left, and_right}
 use Rattle.proving.proofs.Tests.{tests_eq, tests_le, tests_or, tests_and}
 use Rattle.utf8.specs.laws.Ascii.{is_ascii}
-use Rattle.token.specs.declared.Keyword.{Keyword}
-use Rattle.token.specs.declared.Keyword.TheVariants.{Kind, Nothing}
 use Rattle.token.specs.Kinds.{number, land, end_kind}
 use Rattle.token.specs.Words.{KindText, ◌names◌, words, kind_in}
 use Rattle.token.specs.steps.WordRows.{word_count, widest_word, slot_of, row_for}
@@ -43,7 +42,7 @@ module _ (e : KindText) (t : is_entry e ≡ true) where
   pub plain : is_ascii e.text ≡ true
   plain = and_left _ _ (and_right sized _ t)
 
-  pub own : KindFits (Kind e.kind)
+  pub own : KindFits (Some e.kind)
   own =
       (tests_or (tests_eq e.kind number) (tests_and (tests_le land e.kind) (tests_le e.kind end_kind))
       ).0 (and_left (is_own e.kind) _ (and_right (is_ascii e.text) _ (and_right sized _ t)))
@@ -55,11 +54,11 @@ module _ (e : KindText) (t : is_entry e ≡ true) where
 abbrev unlike : KindText → KindText → Bool
 unlike e f = not (same_text e.text f.text)
 
-abbrev searched : List ℕ → Search KindText Keyword
+abbrev searched : List ℕ → Search KindText (Option ℕ)
 searched w =
     record {
       is_hit = λ e. same_text w e.text;
-      value = λ e. Kind e.kind;
+      value = λ e. Some e.kind;
       find = λ es. kind_in es w;
       turn = λ e es. unfold kind_in in refl;
       unlike = unlike;
@@ -90,7 +89,7 @@ pub slot_leads : (i : ℕ) → i < word_count → row_for (slot_of (word_at i).t
 slot_leads i h = eqb-true _ _ (below is_led word_count (and_right (distinct unlike words) _ slots_tested) i h)
 
 -- what holds of each entry that a word may be, and of none, holds of the word
-pub word_found : (w : List ℕ) (P : Keyword → Type 0) → P Nothing → ((e : KindText) → is_entry e ≡ true → same_text w e.text ≡ true → P (Kind e.kind)) → P (kind_in words w)
+pub word_found : (w : List ℕ) (P : Option ℕ → Type 0) → P None → ((e : KindText) → is_entry e ≡ true → same_text w e.text ≡ true → P (Some e.kind)) → P (kind_in words w)
 unfolding kind_in
 word_found w P n v = each_found (searched w) is_entry P n v words entries
 

@@ -6,6 +6,8 @@ use mathlib.Core.List.{List, [], ◌∷◌, ◌++◌}
 use mathlib.Core.Path.{◌≡◌, ap, ap₂, ◌∙◌}
 use Prim.Native.String.{String}
 use lib.ListN.{length, take, drop, replicate}
+use Rattle.utf8.specs.declared.Refusal.{Refusal}
+use Rattle.std.specs.Prelude.{Err, None, Ok, Option, Result, Some}
 use Rattle.scan.specs.Ascii.{ascii}
 use Rattle.scan.specs.Byte.{is_within, is_alpha, is_alpha_numeric, lowered}
 use Rattle.proving.proofs.One.{Answers, Leaves, Shows}
@@ -13,12 +15,8 @@ use Rattle.scan.specs.Text.{same_text}
 use Rattle.utf8.specs.Table.{fits, size_in, char_length}
 use Rattle.utf8.specs.Code.{code_of}
 use Rattle.utf8.specs.Text.{chars_past, size_of}
-use Rattle.utf8.specs.declared.Writing.{Writing}
-use Rattle.utf8.specs.declared.Writing.TheVariants.{Written, Refused}
 use Rattle.utf8.specs.Answers.{at_start}
 use Rattle.utf8.specs.Writing.{left_by}
-use Rattle.token.specs.declared.Keyword.{Keyword}
-use Rattle.token.specs.declared.Keyword.TheVariants.{Kind, Nothing}
 use Rattle.token.specs.Classes.{is_operator, is_comparison_operator, is_set_operator, is_aggregator, is_aggregator_with_param}
 use Rattle.token.specs.Display.{wordless, own_kinds, displays, text_in, display_of, displayed}
 use Rattle.token.specs.Words.{words, kind_in, keyword_of}
@@ -117,7 +115,7 @@ unfolding is_within
 stdvar_takes_no_parameter = is_aggregator_with_param_at _
 
 -- of a kind, with a buffer of so many bytes
-abbrev token_display_gives : ℕ → ℕ → Writing → Type 0
+abbrev token_display_gives : ℕ → ℕ → Result ℕ Refusal → Type 0
 token_display_gives k room v =
     Answers token_display.ps token_display.r token_display_reads.Post (λ κs a. (a.0 ≡ k) × (length a.1.0.now ≡ room)) (λ κs. v)
 
@@ -125,15 +123,15 @@ token_display_at : (k room : ℕ) → token_display_gives k room (displayed room
 unfolding text_in displays wordless own_kinds words
 token_display_at k room κs a x e p h = p.0 ∙ ap₂ displayed h.1 h.0
 
-pub display_that_has_room_is_counted : token_display_gives 6 3 (Written 1)
+pub display_that_has_room_is_counted : token_display_gives 6 3 (Ok 1)
 unfolding token_display_at
 display_that_has_room_is_counted = token_display_at _ _
 
-pub room_of_just_the_length_is_enough : token_display_gives 0 5 (Written 5)
+pub room_of_just_the_length_is_enough : token_display_gives 0 5 (Ok 5)
 unfolding token_display_at
 room_of_just_the_length_is_enough = token_display_at _ _
 
-pub room_one_byte_short_is_none : token_display_gives 0 4 (Refused (at_start 3))
+pub room_one_byte_short_is_none : token_display_gives 0 4 (Err (at_start 3))
 unfolding token_display_at
 room_one_byte_short_is_none = token_display_at _ _
 
@@ -191,7 +189,7 @@ unfolding words_at
 nothing_stands_behind_the_slots = words_at 45
 
 -- of a table and a word
-abbrev keyword_in_gives : List ℕ → List ℕ → Keyword → Type 0
+abbrev keyword_in_gives : List ℕ → List ℕ → Option ℕ → Type 0
 keyword_in_gives t w v = Answers keyword_in_kinds.ps keyword_in_kinds.r keyword_in_reads.Post (λ κs a. (a.0.now ≡ t) × (a.1.0.now ≡ w)) (λ κs. v)
 
 keyword_in_at : (t w : List ℕ) → keyword_in_gives t w (keyword_in t w)
@@ -202,58 +200,58 @@ keyword_in_at t w κs a x e p h = p ∙ ap₂ keyword_in h.0 h.1
 abbrev row_and_slots : String → ℕ → ℕ → ℕ → List ℕ
 row_and_slots padded size kind row = ascii padded ++ (size ∷ kind ∷ replicate (table_size - word_row) row)
 
-pub kind_stands_behind_the_length : keyword_in_gives (row_and_slots "or          " 2 36 0) (ascii "or") (Kind 36)
+pub kind_stands_behind_the_length : keyword_in_gives (row_and_slots "or          " 2 36 0) (ascii "or") (Some 36)
 unfolding keyword_in_at
 kind_stands_behind_the_length = keyword_in_at _ _
 
-pub capitals_are_looked_for : keyword_in_gives (row_and_slots "or          " 2 36 0) (ascii "OR") (Kind 36)
+pub capitals_are_looked_for : keyword_in_gives (row_and_slots "or          " 2 36 0) (ascii "OR") (Some 36)
 unfolding keyword_in_at
 capitals_are_looked_for = keyword_in_at _ _
 
-pub word_of_twelve_letters_is_looked_for : keyword_in_gives (row_and_slots "count_values" 12 50 0) (ascii "count_values") (Kind 50)
+pub word_of_twelve_letters_is_looked_for : keyword_in_gives (row_and_slots "count_values" 12 50 0) (ascii "count_values") (Some 50)
 unfolding keyword_in_at
 word_of_twelve_letters_is_looked_for = keyword_in_at _ _
 
-pub beginning_of_a_word_is_not_the_word : keyword_in_gives (row_and_slots "or          " 2 36 0) (ascii "o") Nothing
+pub beginning_of_a_word_is_not_the_word : keyword_in_gives (row_and_slots "or          " 2 36 0) (ascii "o") None
 unfolding keyword_in_at
 beginning_of_a_word_is_not_the_word = keyword_in_at _ _
 
-pub row_is_that_of_the_slot : keyword_in_gives (row_and_slots "or          " 2 36 1) (ascii "or") Nothing
+pub row_is_that_of_the_slot : keyword_in_gives (row_and_slots "or          " 2 36 1) (ascii "or") None
 unfolding keyword_in_at
 row_is_that_of_the_slot = keyword_in_at _ _
 
-pub slot_without_a_row_has_no_word : keyword_in_gives (row_and_slots "or          " 2 36 35) (ascii "or") Nothing
+pub slot_without_a_row_has_no_word : keyword_in_gives (row_and_slots "or          " 2 36 35) (ascii "or") None
 unfolding keyword_in_at
 slot_without_a_row_has_no_word = keyword_in_at _ _
 
-pub table_without_slots_has_no_word : keyword_in_gives (ascii "or          " ++ (2 ∷ 36 ∷ [])) (ascii "or") Nothing
+pub table_without_slots_has_no_word : keyword_in_gives (ascii "or          " ++ (2 ∷ 36 ∷ [])) (ascii "or") None
 unfolding keyword_in_at
 table_without_slots_has_no_word = keyword_in_at _ _
 
-abbrev get_keyword_token_gives : List ℕ → Keyword → Type 0
+abbrev get_keyword_token_gives : List ℕ → Option ℕ → Type 0
 get_keyword_token_gives w v = Answers get_keyword_token.ps get_keyword_token.r get_keyword_token_reads.Post (λ κs a. a.0.now ≡ w) (λ κs. v)
 
 get_keyword_token_at : (w : List ℕ) → get_keyword_token_gives w (keyword_of w)
 unfolding keyword_of kind_in words same_text lowered is_within chars_past size_of char_length size_in fits code_of
 get_keyword_token_at w κs a x e p h = p ∙ ap keyword_of h
 
-pub sum_has_kind_40 : get_keyword_token_gives (ascii "sum") (Kind 40)
+pub sum_has_kind_40 : get_keyword_token_gives (ascii "sum") (Some 40)
 unfolding get_keyword_token_at
 sum_has_kind_40 = get_keyword_token_at _
 
-pub capitals_are_the_same_word : get_keyword_token_gives (ascii "SUM") (Kind 40)
+pub capitals_are_the_same_word : get_keyword_token_gives (ascii "SUM") (Some 40)
 unfolding get_keyword_token_at
 capitals_are_the_same_word = get_keyword_token_at _
 
-pub som_is_no_keyword : get_keyword_token_gives (ascii "som") Nothing
+pub som_is_no_keyword : get_keyword_token_gives (ascii "som") None
 unfolding get_keyword_token_at
 som_is_no_keyword = get_keyword_token_at _
 
-pub sum_and_a_space_is_no_keyword : get_keyword_token_gives (ascii "sum ") Nothing
+pub sum_and_a_space_is_no_keyword : get_keyword_token_gives (ascii "sum ") None
 unfolding get_keyword_token_at
 sum_and_a_space_is_no_keyword = get_keyword_token_at _
 
-pub count_values_is_not_too_long : get_keyword_token_gives (ascii "count_values") (Kind 50)
+pub count_values_is_not_too_long : get_keyword_token_gives (ascii "count_values") (Some 50)
 unfolding get_keyword_token_at
 count_values_is_not_too_long = get_keyword_token_at _
 

@@ -1,7 +1,7 @@
 -- The text that a kind is shown as: document 01's "Kinds", with the texts of token.rs's `token_display`.
-use Rattle.std.specs.Prelude.{ℕ, cond, List, [], ◌∷◌, ◌++◌, eqb}
+use Rattle.utf8.specs.declared.Refusal.{Refusal}
+use Rattle.std.specs.Prelude.{ℕ, cond, List, [], ◌∷◌, ◌++◌, eqb, Result}
 use Rattle.scan.specs.Ascii.{ascii}
-use Rattle.utf8.specs.declared.Writing.{Writing}
 use Rattle.utf8.specs.Writing.{fitted}
 use Rattle.token.specs.Kinds.{eof_kind, identifier, metric_identifier, string, number, duration, left_paren, right_paren, left_brace, right_brace, left_bracket, right_bracket, comma, colon, eql, add, sub, mul, div, modulo, pow, eqlc, neq, lte, lss, gte, gtr, eql_regex, neq_regex, at_sign}
 use Rattle.token.specs.Words.{KindText, ◌names◌, words}
@@ -63,5 +63,5 @@ abbrev pub display_of : ℕ → List ℕ
 display_of k = text_in displays k
 
 -- how many bytes of it a buffer takes: all, or refusal 3
-abbrev pub displayed : ℕ → ℕ → Writing
+abbrev pub displayed : ℕ → ℕ → Result ℕ Refusal
 displayed room k = fitted room (display_of k)

@@ -1,12 +1,10 @@
 -- The 35 words and their kinds: document 01, "Kinds", in the order of the Rust's KEYWORDS.
-use Rattle.std.specs.Prelude.{ℕ, cond, List, [], ◌∷◌, map}
+use Rattle.std.specs.Prelude.{ℕ, cond, List, [], ◌∷◌, map, None, Option, Some}
 use Prim.Native.String.{String}
 use Rattle.scan.specs.Ascii.{ascii}
 use Rattle.scan.specs.Byte.{lowered}
 use Rattle.scan.specs.Text.{same_text}
 use Rattle.utf8.specs.Text.{codes_of, is_well_formed}
-use Rattle.token.specs.declared.Keyword.{Keyword}
-use Rattle.token.specs.declared.Keyword.TheVariants.{Kind, Nothing}
 use Rattle.token.specs.Kinds.{number, land, lor, lunless, atan2, sum, avg, count_kind, min, max, group, stddev, stdvar, topk, bottomk, count_values, quantile, limitk, limit_ratio, offset, by, without, on, ignoring, group_left, group_right, bool, smoothed, anchored, fill, fill_left, fill_right, start, end_kind}
 
 -- a text, and the kind that has it
@@ -59,10 +57,10 @@ words =
     ∷ []
 
 -- the kind of the row whose text a word is
-unfoldable pub kind_in : List KindText → List ℕ → Keyword
-kind_in [] w = Nothing
-kind_in (e ∷ es) w = cond (same_text w e.text) (Kind e.kind) (kind_in es w)
+unfoldable pub kind_in : List KindText → List ℕ → Option ℕ
+kind_in [] w = None
+kind_in (e ∷ es) w = cond (same_text w e.text) (Some e.kind) (kind_in es w)
 
 -- "A word of the table, in any case, has its kind": its characters, letters lowered, are the text of a row
-unfoldable pub keyword_of : List ℕ → Keyword
-keyword_of xs = cond (is_well_formed xs) (kind_in words (map lowered (codes_of xs))) Nothing
+unfoldable pub keyword_of : List ℕ → Option ℕ
+keyword_of xs = cond (is_well_formed xs) (kind_in words (map lowered (codes_of xs))) None

@@ -1,11 +1,10 @@
 -- A call of `lexer` that keeps its promise, and what it answers and leaves, as statements; `proofs/Calls` has their proofs.
-use Rattle.std.specs.Prelude.{ℕ, List, [], ◌∷◌, map, ◌≡◌, length, take, drop, get_or}
+use Rattle.std.specs.Prelude.{ℕ, List, [], ◌∷◌, map, ◌≡◌, length, take, drop, get_or, Err, Ok}
 use contract.Lifetimes.{Lfts}
 use borrow.Fn.Kinds.{Dens, res_t, ended_of}
 use denote.Triple.Clauses.{AtExit}
 use Rattle.utf8.specs.declared.Reading.{Reading}
 use Rattle.utf8.specs.declared.Refusal.{Refusal}
-use Rattle.lex.specs.declared.Lexing.TheVariants.{Count, Refused}
 use Rattle.lex.specs.Outcome.{Entry, entry}
 use Rattle.lex.specs.Lex.{entries_of, measured, lexed, kind_of, starts_at, length_of, depth_of, shortest}
 use Rattle.lex.proofs.lexer.Kinds as lexer
@@ -43,13 +42,13 @@ abbrev pub CallAnswers : Type 0
 CallAnswers = (r : Reading) (q : List ℕ) (c : LexCall r q) → c.result ≡ lexed r (room_in c) q
 
 abbrev pub CallCounts : Type 0
-CallCounts = (r : Reading) (q : List ℕ) (c : LexCall r q) (n : ℕ) → c.result ≡ Count n → (measured r q ≡ Count n) × (n ≡ length (entries_of r q))
+CallCounts = (r : Reading) (q : List ℕ) (c : LexCall r q) (n : ℕ) → c.result ≡ Ok n → (measured r q ≡ Ok n) × (n ≡ length (entries_of r q))
 
 -- what it wrote where it was accepted
 abbrev pub CallWrites : Type 0
 CallWrites =
     (r : Reading) (q : List ℕ) (c : LexCall r q) (n : ℕ) →
-    c.result ≡ Count n →
+    c.result ≡ Ok n →
     (take n (kinds_left c) ≡ map kind_of (entries_of r q))
     × (take n (starts_left c) ≡ map starts_at (entries_of r q))
     × (take n (lengths_left c) ≡ map length_of (entries_of r q))
@@ -66,7 +65,7 @@ abbrev pub lexemes_left : {r : Reading} {q : List ℕ} → LexCall r q → ℕ �
 lexemes_left c n = held (take n (kinds_left c)) (take n (starts_left c)) (take n (lengths_left c)) (take n (depths_left c))
 
 abbrev pub CallLeaves : Type 0
-CallLeaves = (r : Reading) (q : List ℕ) (c : LexCall r q) (n : ℕ) → c.result ≡ Count n → lexemes_left c n ≡ entries_of r q
+CallLeaves = (r : Reading) (q : List ℕ) (c : LexCall r q) (n : ℕ) → c.result ≡ Ok n → lexemes_left c n ≡ entries_of r q
 
 -- where it refused, nothing that it was lent is changed
 abbrev pub Untouched : {r : Reading} {q : List ℕ} → LexCall r q → Type 0
@@ -77,4 +76,4 @@ Untouched c =
     × (depths_left c ≡ c.args.1.1.1.1.1.0.now)
 
 abbrev pub CallKeeps : Type 0
-CallKeeps = (r : Reading) (q : List ℕ) (c : LexCall r q) (refusal : Refusal) → c.result ≡ Refused refusal → Untouched c
+CallKeeps = (r : Reading) (q : List ℕ) (c : LexCall r q) (refusal : Refusal) → c.result ≡ Err refusal → Untouched c

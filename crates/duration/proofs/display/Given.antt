@@ -7,12 +7,12 @@ use mathlib.Core.Bool.{cond}
 use mathlib.Core.Path.{◌≡◌, refl}
 use lib.Dec.{eqb}
 use lib.ListN.{length}
+use Rattle.utf8.specs.declared.Refusal.{Refusal}
+use Rattle.std.specs.Prelude.{Err, Ok, Result}
 use Rattle.proving.proofs.Choice.{exactly}
 use Rattle.utf8.specs.Answers.{no_room}
 use Rattle.utf8.specs.laws.Refusals.{NoRoom}
 use Rattle.duration.specs.declared.span.Duration.{Duration}
-use Rattle.utf8.specs.declared.Writing.{Writing}
-use Rattle.utf8.specs.declared.Writing.TheVariants.{Written, Refused}
 use Rattle.duration.specs.Unit.{nanos_a_second}
 use Rattle.duration.specs.Duration.{out_of_range}
 use Rattle.duration.specs.Display.{duration_text, displaying_of}
@@ -24,9 +24,9 @@ data Row : Type 0 where
   short : Row
   written : Row
 
-abbrev row_of : Writing → Row
-row_of (Written n) = written
-row_of (Refused r) = cond (eqb r.number out_of_range.number) over short
+abbrev row_of : Result ℕ Refusal → Row
+row_of (Ok n) = written
+row_of (Err r) = cond (eqb r.number out_of_range.number) over short
 
 module _ (room : ℕ) (d : Duration) where
   abbrev Holds : Row → Type 0
@@ -34,10 +34,10 @@ module _ (room : ℕ) (d : Duration) where
   Holds short = (OverRange d → ⊥) × NoRoom room (duration_text d)
   Holds written = (OverRange d → ⊥) × (NoRoom room (duration_text d) → ⊥)
 
-  abbrev given : Row → Writing
-  given over = Refused out_of_range
-  given short = Refused no_room
-  given written = Written (length (duration_text d))
+  abbrev given : Row → Result ℕ Refusal
+  given over = Err out_of_range
+  given short = Err no_room
+  given written = Ok (length (duration_text d))
 
   back : (w : Row) → row_of (given w) ≡ w
   back over = refl

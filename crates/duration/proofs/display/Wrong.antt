@@ -4,14 +4,14 @@ use Prim.Native.Nat.{ℕ}
 use mathlib.Core.List.{List}
 use mathlib.Core.Path.{◌≡◌}
 use lib.ListN.{length}
+use Rattle.utf8.specs.declared.Refusal.{Refusal}
+use Rattle.std.specs.Prelude.{Err, Ok, Result}
 use Rattle.scan.specs.Ascii.{ascii}
 use Rattle.proving.proofs.One.{Answers, Leaves}
 use Rattle.utf8.specs.Answers.{at_start, no_room}
 use Rattle.utf8.specs.Writing.{left_by}
 use Rattle.writing.specs.Decimal.{digit_for, digits_within, decimal_text}
 use Rattle.duration.specs.declared.span.Duration.{Duration}
-use Rattle.utf8.specs.declared.Writing.{Writing}
-use Rattle.utf8.specs.declared.Writing.TheVariants.{Written, Refused}
 use Rattle.duration.specs.Display.{count_text, part_text, rest_of, duration_text, displaying_of}
 use Rattle.duration.proofs.display.display_duration.Kinds as display_duration
 use Rattle.duration.proofs.display.display_duration.Reads as display_duration_reads
@@ -25,30 +25,30 @@ abbrev duration : ℕ → ℕ → Duration
 duration s n = record { secs = s; nanos = n }
 
 -- a duration, and how long the buffer is
-abbrev display_duration_gives : Duration → ℕ → Writing → Type 0
+abbrev display_duration_gives : Duration → ℕ → Result ℕ Refusal → Type 0
 display_duration_gives d room v =
     Answers display_duration.ps display_duration.r display_duration_reads.Post (λ κs a. (a.0 ≡ d) × (length a.1.0.now ≡ room)) (λ κs. v)
 
 display_duration_at : (d : Duration) (room : ℕ) → display_duration_gives d room (displaying_of room d)
 display_duration_at d room κs a x e p h = cc (p.0, h.0, h.1)
 
-pub room_of_just_the_length_is_enough : display_duration_gives (duration 1 0) 2 (Written 2)
+pub room_of_just_the_length_is_enough : display_duration_gives (duration 1 0) 2 (Ok 2)
 unfolding shown
 room_of_just_the_length_is_enough = display_duration_at _ _
 
-pub room_to_spare_is_no_refusal : display_duration_gives (duration 1 0) 30 (Written 2)
+pub room_to_spare_is_no_refusal : display_duration_gives (duration 1 0) 30 (Ok 2)
 unfolding shown
 room_to_spare_is_no_refusal = display_duration_at _ _
 
-pub no_room_is_refused_with_three : display_duration_gives (duration 1 0) 1 (Refused no_room)
+pub no_room_is_refused_with_three : display_duration_gives (duration 1 0) 1 (Err no_room)
 unfolding shown
 no_room_is_refused_with_three = display_duration_at _ _
 
-pub whole_second_of_nanoseconds_is_over_range : display_duration_gives (duration 0 1000000000) 30 (Refused (at_start 54))
+pub whole_second_of_nanoseconds_is_over_range : display_duration_gives (duration 0 1000000000) 30 (Err (at_start 54))
 unfolding shown
 whole_second_of_nanoseconds_is_over_range = display_duration_at _ _
 
-pub most_nanoseconds_are_written : display_duration_gives (duration 0 999999999) 30 (Written 5)
+pub most_nanoseconds_are_written : display_duration_gives (duration 0 999999999) 30 (Ok 5)
 unfolding shown
 most_nanoseconds_are_written = display_duration_at _ _
 

@@ -2,9 +2,9 @@
 use Prim.Native.Nat.{ℕ}
 use mathlib.Core.List.{List}
 use mathlib.Core.Path.{◌≡◌, sym, ap, ◌∙◌}
+use Rattle.std.specs.Prelude.{Err}
 use Rattle.utf8.specs.Answers.{not_admitted}
 use Rattle.duration.specs.declared.Oversized.{Oversized}
-use Rattle.duration.specs.declared.Timing.TheVariants.{Refused}
 use Rattle.duration.specs.Duration.{timed_decimal, duration_read, timing_by}
 use Rattle.duration.proofs.Taken as taken
 use Rattle.duration.proofs.other.Goals as goal
@@ -14,7 +14,7 @@ pub returns-in_default : goal.returns-in_default
 returns-in_default c =
     let a = c.args in
     let e = c.in_default.is in
-    ap Refused (c.not_admitted.ensures ∙ ap not_admitted e) ∙ taken.by_admission a.o a.s.now _ (sym c.admit-a.ensures ∙ e)
+    ap Err (c.not_admitted.ensures ∙ ap not_admitted e) ∙ taken.by_admission a.o a.s.now _ (sym c.admit-a.ensures ∙ e)
 
 module _ (c : In-Admitted) where
   abbrev start : Start

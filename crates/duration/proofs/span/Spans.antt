@@ -14,26 +14,26 @@ use lib.Ieee.Exact.{HasValue}
 use lib.Ieee.Nearest.{closest, closest_same}
 use lib.Ieee.Order.{le_of_values}
 use lib.Ieee.Positive.{num, den, den_pos, above, above_of_le, value→cross}
-use Rattle.duration.specs.declared.span.Conversion.{Conversion}
-use Rattle.duration.specs.declared.span.Conversion.TheVariants.{Lasts, Refused}
+use Rattle.duration.specs.declared.span.Duration.{Duration}
+use Rattle.std.specs.Prelude.{None, Option, Some}
 use Rattle.duration.specs.Spans.{least_timed, two_to64, nanos_of, duration_at, from_secs}
 use Rattle.duration.proofs.span.Round.{lt_or_ge, rounds_down, closest_add, closest_le}
 
 abbrev nought : Float
 nought = fin false 0 (pos 0)
 
-abbrev pick : Bool → Bool → Conversion → Conversion
-pick a b t = cond (a && b) t Refused
+abbrev pick : Bool → Bool → Option Duration → Option Duration
+pick a b t = cond (a && b) t None
 
 -- ---- the tests
-pub too_long_holds : (x : Float) → lt x two_to64 ≡ false → Refused ≡ from_secs x
-too_long_holds x h = ap (λ (a : Bool). pick a (le nought x) (Lasts (duration_at (nanos_of x)))) (sym h)
+pub too_long_holds : (x : Float) → lt x two_to64 ≡ false → None ≡ from_secs x
+too_long_holds x h = ap (λ (a : Bool). pick a (le nought x) (Some (duration_at (nanos_of x)))) (sym h)
 
-pub negative : (x : Float) → lt x two_to64 ≡ true → le nought x ≡ false → Refused ≡ from_secs x
-negative x h k = ap₂ (λ (a b : Bool). pick a b (Lasts (duration_at (nanos_of x)))) (sym h) (sym k)
+pub negative : (x : Float) → lt x two_to64 ≡ true → le nought x ≡ false → None ≡ from_secs x
+negative x h k = ap₂ (λ (a b : Bool). pick a b (Some (duration_at (nanos_of x)))) (sym h) (sym k)
 
-pub accepted : (x : Float) → lt x two_to64 ≡ true → le nought x ≡ true → Lasts (duration_at (nanos_of x)) ≡ from_secs x
-accepted x h k = ap₂ (λ (a b : Bool). pick a b (Lasts (duration_at (nanos_of x)))) (sym h) (sym k)
+pub accepted : (x : Float) → lt x two_to64 ≡ true → le nought x ≡ true → Some (duration_at (nanos_of x)) ≡ from_secs x
+accepted x h k = ap₂ (λ (a b : Bool). pick a b (Some (duration_at (nanos_of x)))) (sym h) (sym k)
 
 is_true : (b : Bool) → T b → b ≡ true
 is_true true t = refl

@@ -1,26 +1,26 @@
 -- Each way out knows what the parts amount to.
 use mathlib.Core.Bool.{Bool, true, false, ◌&&◌}
 use mathlib.Core.Path.{◌≡◌, sym, ap, ◌∙◌}
+use Rattle.std.specs.Prelude.{Err, Ok}
 use Rattle.duration.specs.declared.span.Duration.{Duration}
 use Rattle.duration.specs.Spans.{is_zero}
 use Rattle.duration.specs.declared.units.Units.{Units}
 use Rattle.duration.specs.declared.units.Units.TheVariants.{Sum, NotUnits}
 use Rattle.duration.specs.Units.{units_of}
 use Rattle.duration.specs.declared.Oversized.{Oversized}
-use Rattle.duration.specs.declared.Timing.TheVariants.{Lasts, Refused}
 use Rattle.duration.specs.Duration.{zero_duration, oversized_part, refuses_oversized, units_read}
 use Rattle.duration.proofs.unit_text.Goals as goal
 use Rattle.duration.proofs.unit_text.Goals.{After-is_over, After-is_zero, After-read_units-u, In-Sum}
 
 module _ (o : Oversized) (d : Duration) (over : Bool) where
-  refusing : refuses_oversized o && over ≡ true → Refused oversized_part ≡ units_read o (Sum d over)
+  refusing : refuses_oversized o && over ≡ true → Err oversized_part ≡ units_read o (Sum d over)
   refusing v = rw v
 
   module _ (v : refuses_oversized o && over ≡ false) where
-    nothing : is_zero d ≡ true → Refused zero_duration ≡ units_read o (Sum d over)
+    nothing : is_zero d ≡ true → Err zero_duration ≡ units_read o (Sum d over)
     nothing e = rw (v, e)
 
-    something : is_zero d ≡ false → Lasts d ≡ units_read o (Sum d over)
+    something : is_zero d ≡ false → Ok d ≡ units_read o (Sum d over)
     something e = rw (v, e)
 
 answer : (c : After-read_units-u) (u : Units) → c.read_units-u.result ≡ u → let a = c.args in units_read a.o u ≡ units_read a.o (units_of a.s.now)

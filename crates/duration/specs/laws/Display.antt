@@ -1,8 +1,7 @@
 -- What holds of writing a duration, as statements: document 01's rows 54 and 3 for it, each given exactly when, how long a text is, and
 -- what it denotes. Their proofs stand in `proofs/display`: `Given`, `Answers`, `Bounds` and `Denotes`.
-use Rattle.std.specs.Prelude.{ℕ, ◌%◌, ◌^◌, ◌≤◌, ◌<◌, [], ◌↔◌, ◌⊎◌, ◌≡◌, length}
-use Rattle.utf8.specs.declared.Writing.{Writing}
-use Rattle.utf8.specs.declared.Writing.TheVariants.{Written, Refused}
+use Rattle.utf8.specs.declared.Refusal.{Refusal}
+use Rattle.std.specs.Prelude.{ℕ, ◌%◌, ◌^◌, ◌≤◌, ◌<◌, [], ◌↔◌, ◌⊎◌, ◌≡◌, length, Err, Ok, Result}
 use Rattle.utf8.specs.Answers.{no_room}
 use Rattle.utf8.specs.laws.Refusals.{NoRoom}
 use Rattle.duration.specs.declared.span.Duration.{Duration}
@@ -18,14 +17,14 @@ OverRange d = nanos_a_second ≤ d.nanos
 abbrev pub DisplayingGiven : Type 0
 DisplayingGiven =
     (room : ℕ) (d : Duration) →
-    (displaying_of room d ≡ Refused out_of_range ↔ OverRange d)
-    × (displaying_of room d ≡ Refused no_room ↔ (¬ (OverRange d)) × NoRoom room (duration_text d))
-    × (displaying_of room d ≡ Written (length (duration_text d)) ↔ (¬ (OverRange d)) × (¬ (NoRoom room (duration_text d))))
+    (displaying_of room d ≡ Err out_of_range ↔ OverRange d)
+    × (displaying_of room d ≡ Err no_room ↔ (¬ (OverRange d)) × NoRoom room (duration_text d))
+    × (displaying_of room d ≡ Ok (length (duration_text d)) ↔ (¬ (OverRange d)) × (¬ (NoRoom room (duration_text d))))
 
 -- what each answer tells: the text was written, no more bytes than there was room for; or it is refused with 54 or 3
-abbrev pub DisplayTells : ℕ → Duration → Writing → Type 0
-DisplayTells room d (Written n) = (n ≡ length (duration_text d)) × (n ≤ room)
-DisplayTells room d (Refused r) = (r ≡ out_of_range) ⊎ (r ≡ no_room)
+abbrev pub DisplayTells : ℕ → Duration → Result ℕ Refusal → Type 0
+DisplayTells room d (Ok n) = (n ≡ length (duration_text d)) × (n ≤ room)
+DisplayTells room d (Err r) = (r ≡ out_of_range) ⊎ (r ≡ no_room)
 
 abbrev pub DisplayAnswers : Type 0
 DisplayAnswers = (room : ℕ) (d : Duration) → DisplayTells room d (displaying_of room d)

@@ -1,10 +1,9 @@
 -- Document 02, L13, as statements: how the exact reading stands to the present one, and that what is written reads back in both. `proofs/Exact`,
 -- `proofs/Back` and, for the bound, `proofs/Wrong` have the proofs.
-use Rattle.std.specs.Prelude.{ℕ, ◌+◌, ◌*◌, ◌/◌, ◌%◌, ◌<◌, ◌≤◌, false, List, ◌↔◌, ◌≡◌}
+use Rattle.std.specs.Prelude.{ℕ, ◌+◌, ◌*◌, ◌/◌, ◌%◌, ◌<◌, ◌≤◌, false, List, ◌↔◌, ◌≡◌, Err, Ok}
 use Rattle.scan.specs.Ascii.{ascii}
 use Rattle.duration.specs.declared.span.Duration.{Duration}
 use Rattle.duration.specs.declared.Oversized.{Oversized}
-use Rattle.duration.specs.declared.Timing.TheVariants.{Lasts, Refused}
 use Rattle.duration.specs.Unit.{units, second, day, nanos_a_milli, nanos_a_second}
 use Rattle.duration.specs.Spans.{is_zero}
 use Rattle.duration.specs.Units.{sum_by, most_counted, unit_sum, lasting}
@@ -14,21 +13,21 @@ use Rattle.duration.specs.laws.Refusals.{Read, UnitText}
 
 -- where the exact reading accepts, both agree; and so they do but for 55
 abbrev pub ExactAgrees : Type 0
-ExactAgrees = (xs : List ℕ) (d : Duration) → exact_timing_of xs ≡ Lasts d → timing_of xs ≡ Lasts d
+ExactAgrees = (xs : List ℕ) (d : Duration) → exact_timing_of xs ≡ Ok d → timing_of xs ≡ Ok d
 
 abbrev pub ExactElse : Type 0
-ExactElse = (xs : List ℕ) → (¬ (exact_timing_of xs ≡ Refused oversized_part)) → exact_timing_of xs ≡ timing_of xs
+ExactElse = (xs : List ℕ) → (¬ (exact_timing_of xs ≡ Err oversized_part)) → exact_timing_of xs ≡ timing_of xs
 
 -- 55 is given exactly where the present reading counts a part as nothing: where the parts amount to more, each counted for what it is
 abbrev pub CountsNothing : List ℕ → Type 0
 CountsNothing xs = unit_sum xs < sum_by (λ v. v) units xs
 
 abbrev pub ExactRefuses : Type 0
-ExactRefuses = (xs : List ℕ) → exact_timing_of xs ≡ Refused oversized_part ↔ Read xs × UnitText xs × CountsNothing xs
+ExactRefuses = (xs : List ℕ) → exact_timing_of xs ≡ Err oversized_part ↔ Read xs × UnitText xs × CountsNothing xs
 
 -- and what the exact reading accepts lasts what its parts amount to, each counted for what it is
 abbrev pub AllCounted : Type 0
-AllCounted = (xs : List ℕ) (d : Duration) → UnitText xs → exact_timing_of xs ≡ Lasts d → d ≡ lasting (sum_by (λ v. v) units xs)
+AllCounted = (xs : List ℕ) (d : Duration) → UnitText xs → exact_timing_of xs ≡ Ok d → d ≡ lasting (sum_by (λ v. v) units xs)
 
 -- "a duration of whole milliseconds, above zero and with at most 4,294,967,295 whole days", whose nanoseconds are in range, so that 54 is not given
 pub record Recoverable (d : Duration) : Type 0 where
@@ -39,7 +38,7 @@ pub record Recoverable (d : Duration) : Type 0 where
 
 -- "is recovered from what the writer gives", in both readings
 abbrev pub ReadsAgain : Type 0
-ReadsAgain = (o : Oversized) (d : Duration) → Recoverable d → timing_by o (duration_text d) ≡ Lasts d
+ReadsAgain = (o : Oversized) (d : Duration) → Recoverable d → timing_by o (duration_text d) ≡ Ok d
 
 -- one day more than the bound is written, and not recovered: its part counts as nothing, or is refused
 abbrev pub past_bound : Duration
@@ -48,5 +47,5 @@ past_bound = record { secs = (most_counted + 1) * (day / second); nanos = 0 }
 abbrev pub PastBound : Type 0
 PastBound =
     (duration_text past_bound ≡ ascii "4294967296d")
-    × (timing_of (ascii "4294967296d") ≡ Refused zero_duration)
-    × (exact_timing_of (ascii "4294967296d") ≡ Refused oversized_part)
+    × (timing_of (ascii "4294967296d") ≡ Err zero_duration)
+    × (exact_timing_of (ascii "4294967296d") ≡ Err oversized_part)

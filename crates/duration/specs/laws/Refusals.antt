@@ -1,6 +1,6 @@
 -- Document 01's rows 1, 2 and 50 to 54, and document 02's 55, as conditions on a duration's text, and the statement that each answer is given
 -- exactly when its row holds, in both readings; `proofs/Given` has the proof.
-use Rattle.std.specs.Prelude.{ℕ, ◌≤◌, true, false, List, ◌↔◌, ◌⊎◌, ◌≡◌, pos, Float, length}
+use Rattle.std.specs.Prelude.{ℕ, ◌≤◌, true, false, List, ◌↔◌, ◌⊎◌, ◌≡◌, pos, Float, length, Err, Ok}
 use Rattle.std.specs.Float.{fin}
 use Rattle.std.specs.Float.Ieee.{lt, le}
 use Rattle.scan.specs.Ascii.{ascii}
@@ -16,7 +16,6 @@ use Rattle.duration.specs.Unit.{units}
 use Rattle.duration.specs.Spans.{two_to64, nanos_of, duration_at}
 use Rattle.duration.specs.Units.{has_oversized, is_unit_text, unit_sum, lasting}
 use Rattle.duration.specs.declared.Oversized.{Oversized}
-use Rattle.duration.specs.declared.Timing.TheVariants.{Lasts, Refused}
 use Rattle.duration.specs.Duration.{empty_text, zero_duration, not_duration, out_of_range, oversized_part, refuses_oversized, timing_by}
 
 -- 50 "empty duration"
@@ -75,18 +74,18 @@ abbrev pub TimingGiven : Type 0
 TimingGiven =
     (o : Oversized) (xs : List ℕ) →
     let t = timing_by o xs in
-    (t ≡ Refused too_long ↔ TooLong decimal_limit xs)
-    × (t ≡ Refused (not_utf8 (place_at xs (prefix_end xs))) ↔ (¬ (TooLong decimal_limit xs)) × NotUtf8 xs)
-    × (t ≡ Refused empty_text ↔ Taken decimal_limit xs × Empty xs)
-    × (t ≡ Refused zero_duration ↔ ZeroDuration o xs)
-    × (t ≡ Refused not_duration ↔ NotDuration xs)
-    × (t ≡ Refused oversized_part ↔ Read xs × UnitText xs × Over o xs)
-    × (t ≡ Refused outside_exact ↔ Read xs × OutsideExact xs × (is_minus xs 0 ≡ false))
-    × (t ≡ Refused out_of_range ↔ OutOfRange xs)
-    × ((d : Duration) → t ≡ Lasts d ↔ Read xs × (SecondsAre xs d ⊎ UnitsAre o xs d))
+    (t ≡ Err too_long ↔ TooLong decimal_limit xs)
+    × (t ≡ Err (not_utf8 (place_at xs (prefix_end xs))) ↔ (¬ (TooLong decimal_limit xs)) × NotUtf8 xs)
+    × (t ≡ Err empty_text ↔ Taken decimal_limit xs × Empty xs)
+    × (t ≡ Err zero_duration ↔ ZeroDuration o xs)
+    × (t ≡ Err not_duration ↔ NotDuration xs)
+    × (t ≡ Err oversized_part ↔ Read xs × UnitText xs × Over o xs)
+    × (t ≡ Err outside_exact ↔ Read xs × OutsideExact xs × (is_minus xs 0 ≡ false))
+    × (t ≡ Err out_of_range ↔ OutOfRange xs)
+    × ((d : Duration) → t ≡ Ok d ↔ Read xs × (SecondsAre xs d ⊎ UnitsAre o xs d))
 
 -- how far refusals reach: none has a greater number, and no place lies beyond the longest text
 abbrev pub TimingBound : Type 0
 TimingBound =
-    (o : Oversized) (xs : List ℕ) (r : Refusal) → timing_by o xs ≡ Refused r →
+    (o : Oversized) (xs : List ℕ) (r : Refusal) → timing_by o xs ≡ Err r →
     (r.number ≤ oversized_part.number) × (r.place.byte.0 ≤ decimal_limit) × (r.place.character.0 ≤ decimal_limit)

@@ -4,12 +4,11 @@ use native.Mathlib.Omega.{arith}
 use mathlib.Core.Logic.{inl, inr}
 use mathlib.Core.Path.{◌≡◌, refl, subst}
 use borrow.Author.Tests.{lt-leb}
-use Rattle.duration.specs.declared.Timing.{Timing}
-use Rattle.duration.specs.declared.Timing.TheVariants.{Lasts, Refused}
+use Rattle.utf8.specs.declared.Refusal.{Refusal}
+use Rattle.duration.specs.declared.span.Duration.{Duration}
+use Rattle.std.specs.Prelude.{Err, Ok, Result, ℕ}
 use Rattle.duration.specs.Duration.{timing_by}
 use Rattle.duration.proofs.Bounds.{timing_bound}
-use Rattle.utf8.specs.declared.Writing.{Writing}
-use Rattle.utf8.specs.declared.Writing.TheVariants as writing
 use Rattle.duration.specs.Display.{displaying_of}
 use Rattle.duration.specs.laws.Display.{DisplayTells}
 use Rattle.duration.proofs.display.Answers.{display_answers}
@@ -22,9 +21,9 @@ use Rattle.exports.proofs.packing.Laws.{packed_told, placed_kept}
 pub duration_told : DurationTold
 duration_told o xs = go (timing_by o xs)
   where
-    go : (t : Timing) → looks_refused (duration_code t) ≡ is_no_duration t
-    go (Lasts d) = refl
-    go (Refused r) = packed_told r
+    go : (t : Result Duration Refusal) → looks_refused (duration_code t) ≡ is_no_duration t
+    go (Ok d) = refl
+    go (Err r) = packed_told r
 
 pub duration_kept : DurationKept
 duration_kept o xs r e = let b = timing_bound o xs r e in omega (arith, b)
@@ -32,13 +31,13 @@ duration_kept o xs r e = let b = timing_bound o xs r e in omega (arith, b)
 pub duration_display_told : DurationDisplayTold
 duration_display_told room d h = go (displaying_of room d) (display_answers room d)
   where
-    go : (e : Writing) → DisplayTells room d e → looks_refused (written_code e) ≡ is_not_written e
-    go (writing.Written n) t = lt-leb refused_from n (omega (arith, t.1))
-    go (writing.Refused r) t = packed_told r
+    go : (e : Result ℕ Refusal) → DisplayTells room d e → looks_refused (written_code e) ≡ is_not_written e
+    go (Ok n) t = lt-leb refused_from n (omega (arith, t.1))
+    go (Err r) t = packed_told r
 
 pub duration_display_kept : DurationDisplayKept
 duration_display_kept room d r e = go (subst (DisplayTells room d) e (display_answers room d))
   where
-    go : DisplayTells room d (writing.Refused r) → Packable r
+    go : DisplayTells room d (Err r) → Packable r
     go (inl z) = rw z (omega arith)
     go (inr z) = rw z (omega arith)

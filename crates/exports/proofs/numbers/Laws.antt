@@ -3,10 +3,11 @@
 use native.Mathlib.Omega.{arith}
 use mathlib.Core.Bool.{false}
 use mathlib.Core.Path.{◌≡◌, refl}
+use Rattle.decimal.specs.declared.Number.{Number}
+use Rattle.utf8.specs.declared.Refusal.{Refusal}
+use Rattle.std.specs.Prelude.{Err, Ok, Result}
 use Rattle.decimal.specs.declared.Notation.{Notation}
 use Rattle.decimal.specs.declared.Notation.TheVariants.{Decimal, Hex, Octal}
-use Rattle.number.specs.declared.Parsing.{Parsing}
-use Rattle.number.specs.declared.Parsing.TheVariants.{Value, Refused}
 use Rattle.number.specs.Number.{parsing_of}
 use Rattle.number.proofs.Bounds.{parsing_bound}
 use Rattle.exports.specs.Number.{notation_code, parse_code}
@@ -21,9 +22,9 @@ parse_told d xs = go (parsing_of d xs)
     by Hex = refl
     by Octal = refl
 
-    go : (p : Parsing) → looks_refused (parse_code p) ≡ is_no_number p
-    go (Value n) = by n.notation
-    go (Refused r) = packed_told r
+    go : (p : Result Number Refusal) → looks_refused (parse_code p) ≡ is_no_number p
+    go (Ok n) = by n.notation
+    go (Err r) = packed_told r
 
 pub parse_kept : ParseKept
 parse_kept d xs r e = let b = parsing_bound d xs r e in omega (arith, b)

@@ -2,8 +2,8 @@
 -- number is at most 74 and its place within the query, by the bounds of `lex`'s and `reason`'s answers.
 use native.Mathlib.Omega.{arith}
 use mathlib.Core.Path.{◌≡◌, subst}
-use Rattle.lex.specs.declared.Lexing.{Lexing}
-use Rattle.lex.specs.declared.Lexing.TheVariants.{Count, Refused}
+use Rattle.utf8.specs.declared.Refusal.{Refusal}
+use Rattle.std.specs.Prelude.{Err, Ok, Result, ℕ}
 use Rattle.lex.specs.Lex.{lexed}
 use Rattle.lex.specs.laws.Bounds.{LexingWithin}
 use Rattle.lex.proofs.Bounds.{lexing_bounded}
@@ -20,9 +20,9 @@ use Rattle.exports.proofs.packing.Laws.{small, packed_told}
 pub lexer_told : LexerTold
 lexer_told r room q = go (lexed r room q) (lexing_bounded r room q)
   where
-    go : (x : Lexing) → LexingWithin x → looks_refused (lexer_code x) ≡ is_not_lexed x
-    go (Count n) h = small n (omega arith)
-    go (Refused refusal) h = packed_told refusal
+    go : (x : Result ℕ Refusal) → LexingWithin x → looks_refused (lexer_code x) ≡ is_not_lexed x
+    go (Ok n) h = small n (omega arith)
+    go (Err refusal) h = packed_told refusal
 
 pub lexer_kept : LexerKept
 lexer_kept r room q refusal e = let b = subst LexingWithin e (lexing_bounded r room q) in omega (arith, b.0, b.1, b.2)

@@ -8,8 +8,8 @@ use mathlib.Core.Logic.{inl, inr}
 use mathlib.Core.Path.{◌≡◌, refl, subst}
 use lib.Dec.{leb}
 use borrow.Author.Tests.{le-leb, lt-leb}
-use Rattle.utf8.specs.declared.Writing.{Writing}
-use Rattle.utf8.specs.declared.Writing.TheVariants.{Written, Refused}
+use Rattle.utf8.specs.declared.Refusal.{Refusal}
+use Rattle.std.specs.Prelude.{Err, Ok, Result, ℕ}
 use Rattle.utf8.specs.Answers.{text_limit}
 use Rattle.utf8.proofs.Bounds.{number_bound}
 use Rattle.string.specs.Escape.{escaping_of}
@@ -31,14 +31,14 @@ use Rattle.exports.proofs.text.Laws.{validate_kept}
 pub escape_told : EscapeTold
 escape_told room xs = go (escaping_of room xs) (escape_answers room xs)
   where
-    go : (e : Writing) → EscapeTells xs e → looks_refused (written_code e) ≡ is_not_written e
-    go (Written n) t = small n (omega (arith, t.0.0, t.2))
-    go (Refused r) t = packed_told r
+    go : (e : Result ℕ Refusal) → EscapeTells xs e → looks_refused (written_code e) ≡ is_not_written e
+    go (Ok n) t = small n (omega (arith, t.0.0, t.2))
+    go (Err r) t = packed_told r
 
 pub escape_kept : EscapeKept
 escape_kept room xs r e = go (subst (EscapeTells xs) e (escape_answers room xs))
   where
-    go : EscapeTells xs (Refused r) → Packable r
+    go : EscapeTells xs (Err r) → Packable r
     go (inl a) = validate_kept xs r a
     go (inr z) = rw z (omega arith)
 

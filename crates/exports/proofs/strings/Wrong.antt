@@ -7,6 +7,7 @@ use mathlib.Core.Bool.{true}
 use mathlib.Core.List.{List, ◌∷◌}
 use mathlib.Core.Path.{◌≡◌, refl, ap, ◌∙◌}
 use lib.ListN.{length, replicate, length-replicate}
+use Rattle.std.specs.Prelude.{Ok}
 use Rattle.scan.specs.Ascii.{ascii}
 use Rattle.scan.specs.Byte.{is_within, is_hex_digit, digit_of, is_digit_in, is_quote}
 use Rattle.proving.proofs.One.{Answers, Leaves}
@@ -17,7 +18,6 @@ use Rattle.utf8.specs.Text.{chars_past, size_of, begun_in, char_number}
 use Rattle.utf8.specs.Answers.{text_limit, validity_of, admitted, character_at}
 use Rattle.utf8.specs.laws.Ascii.{is_ascii}
 use Rattle.utf8.proofs.Ascii.{ascii_text}
-use Rattle.utf8.specs.declared.Writing.TheVariants.{Written}
 use Rattle.utf8.specs.Writing.{left_by}
 use Rattle.string.specs.Letters.{looked_up, letter_value, letter_among, letter_of}
 use Rattle.string.specs.Escape.{escaped_codes, escaped, escaping_of}
@@ -67,11 +67,11 @@ unfolding letter_of letter_among letter_value looked_up
 quotes_escaped zero = (refl, refl)
 quotes_escaped (suc n) = let r = quotes_escaped n in (r.0, omega (arith, r.1))
 
-quotes_written : (n : ℕ) → n ≤ text_limit → escaping_of (n + n) (quotes n) ≡ Written (n + n)
+quotes_written : (n : ℕ) → n ≤ text_limit → escaping_of (n + n) (quotes n) ≡ Ok (n + n)
 quotes_written n h =
     let t = ascii_text (quotes n) (quotes_escaped n).0 in
     let e : length (escaped (quotes n)) ≡ n + n = rw t.1 (quotes_escaped n).1 in
-    (escaping_given (n + n) (quotes n)).3.1 ((λ l. omega (arith, length-replicate n (code "\"")), t.0), λ l. omega arith) ∙ ap Written e
+    (escaping_given (n + n) (quotes n)).3.1 ((λ l. omega (arith, length-replicate n (code "\"")), t.0), λ l. omega arith) ∙ ap Ok e
 
 -- 32,768 double quotes are escaped to 65,536 bytes, more than 16 bits tell
 pub length_of_seventeen_bits_is_told : simmerpath_escape_string_gives (quotes 0x8000) 0x10000 0x10000

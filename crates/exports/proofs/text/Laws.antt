@@ -7,12 +7,11 @@ use mathlib.Core.Path.{◌≡◌, refl, subst}
 use lib.Dec.{ltb}
 use lib.ListN.{length}
 use borrow.Author.Tests.{ltb-false}
-use Rattle.utf8.specs.declared.Admission.{Admission}
-use Rattle.utf8.specs.declared.Admission.TheVariants.{Admitted, Refused}
+use Rattle.utf8.specs.declared.Refusal.{Refusal}
+use Rattle.utf8.specs.declared.CharNumber.{CharNumber}
+use Rattle.std.specs.Prelude.{Err, Ok, Result, ℕ}
 use Rattle.utf8.specs.declared.Character.{Character}
 use Rattle.utf8.specs.declared.Character.TheVariants.{Scalar, Nothing, IllFormed}
-use Rattle.utf8.specs.declared.Writing.{Writing}
-use Rattle.utf8.specs.declared.Writing.TheVariants as writing
 use Rattle.utf8.specs.Answers.{place_at, text_limit, too_long, not_utf8, admitted, character_at}
 use Rattle.utf8.specs.Encode.{encoding_of}
 use Rattle.utf8.specs.laws.Bounds.{Bounded}
@@ -27,9 +26,9 @@ use Rattle.exports.proofs.packing.Laws.{small, packed_told, placed_kept}
 pub validate_told : ValidateTold
 validate_told xs = go (admitted text_limit xs) (admitted_bound text_limit xs)
   where
-    go : (a : Admission) → Bounded text_limit a → looks_refused (validate_code a) ≡ is_not_admitted a
-    go (Admitted n) h = small n.0 (omega arith)
-    go (Refused r) h = packed_told r
+    go : (a : Result CharNumber Refusal) → Bounded text_limit a → looks_refused (validate_code a) ≡ is_not_admitted a
+    go (Ok n) h = small n.0 (omega arith)
+    go (Err r) h = packed_told r
 
 pub validate_kept : ValidateKept
 validate_kept xs r e = placed_kept (omega arith) (omega arith) (subst (Bounded text_limit) e (admitted_bound text_limit xs))
@@ -55,9 +54,9 @@ char_at_kept = (
 pub encode_told : EncodeTold
 encode_told c room at = go (encoding_of c room at) refl
   where
-    go : (k : Writing) → encoding_of c room at ≡ k → looks_refused (written_code k) ≡ is_not_written k
-    go (writing.Written n) e = small n (omega (arith, encoding_bound c room at n e))
-    go (writing.Refused r) e = packed_told r
+    go : (k : Result ℕ Refusal) → encoding_of c room at ≡ k → looks_refused (written_code k) ≡ is_not_written k
+    go (Ok n) e = small n (omega (arith, encoding_bound c room at n e))
+    go (Err r) e = packed_told r
 
 pub encode_kept : EncodeKept
 encode_kept = (omega arith, omega arith)

@@ -1,15 +1,13 @@
 -- What a caller in C may rely on to read an answer, as statements; `proofs/MODULE/Laws` has their proofs. Told: a refusal is told from a
 -- result. Kept: what is refused fits its bits, so that packing loses nothing of it (`NothingLost`).
-use Rattle.std.specs.Prelude.{ℕ, ◌≤◌, ◌<◌, Bool, true, false, ◌&&◌, ◌||◌, not, List, ◌≡◌, leb, ltb, length}
+use Rattle.decimal.specs.declared.Number.{Number}
+use Rattle.utf8.specs.declared.CharNumber.{CharNumber}
+use Rattle.std.specs.Prelude.{ℕ, ◌≤◌, ◌<◌, Bool, true, false, ◌&&◌, ◌||◌, not, List, ◌≡◌, leb, ltb, length, Err, Ok, Result}
 use Rattle.utf8.specs.declared.Reading.{Reading}
 use Rattle.utf8.specs.declared.Refusal.{Refusal}
-use Rattle.utf8.specs.declared.Admission.{Admission}
-use Rattle.utf8.specs.declared.Admission.TheVariants as admission
 use Rattle.utf8.specs.declared.Character.{Character}
 use Rattle.utf8.specs.declared.Character.TheVariants as character
 use Rattle.utf8.specs.Answers.{place_at, text_limit, too_long, no_room, not_utf8, admitted, character_at}
-use Rattle.utf8.specs.declared.Writing.{Writing}
-use Rattle.utf8.specs.declared.Writing.TheVariants as writing
 use Rattle.utf8.specs.Encode.{not_scalar, encoding_of}
 use Rattle.token.specs.Display.{displayed}
 use Rattle.string.specs.Escape.{escaping_of}
@@ -17,17 +15,11 @@ use Rattle.string.specs.declared.Unquoting.{Unquoting}
 use Rattle.string.specs.declared.Unquoting.TheVariants as unquoting
 use Rattle.string.specs.laws.ReadBack.{is_read}
 use Rattle.string.specs.Literal.{unquoting_of}
-use Rattle.number.specs.declared.Parsing.{Parsing}
-use Rattle.number.specs.declared.Parsing.TheVariants as parsing
 use Rattle.number.specs.Number.{parsing_of}
 use Rattle.duration.specs.declared.span.Duration.{Duration}
 use Rattle.duration.specs.declared.Oversized.{Oversized}
-use Rattle.duration.specs.declared.Timing.{Timing}
-use Rattle.duration.specs.declared.Timing.TheVariants as timing
 use Rattle.duration.specs.Duration.{timing_by}
 use Rattle.duration.specs.Display.{displaying_of}
-use Rattle.lex.specs.declared.Lexing.{Lexing}
-use Rattle.lex.specs.declared.Lexing.TheVariants as lexing
 use Rattle.lex.specs.Lex.{lexed}
 use Rattle.reason.specs.declared.Reasoning.{Reasoning}
 use Rattle.reason.specs.declared.Reasoning.TheVariants as reasoning
@@ -53,15 +45,15 @@ abbrev pub PackedTold : Type 0
 PackedTold = (r : Refusal) → looks_refused (packed_of r) ≡ true
 
 -- of `simmerpath_utf8_validate`
-abbrev pub is_not_admitted : Admission → Bool
-is_not_admitted (admission.Admitted n) = false
-is_not_admitted (admission.Refused r) = true
+abbrev pub is_not_admitted : Result CharNumber Refusal → Bool
+is_not_admitted (Ok n) = false
+is_not_admitted (Err r) = true
 
 abbrev pub ValidateTold : Type 0
 ValidateTold = (xs : List ℕ) → let a = admitted text_limit xs in looks_refused (validate_code a) ≡ is_not_admitted a
 
 abbrev pub ValidateKept : Type 0
-ValidateKept = (xs : List ℕ) (r : Refusal) → admitted text_limit xs ≡ admission.Refused r → Packable r
+ValidateKept = (xs : List ℕ) (r : Refusal) → admitted text_limit xs ≡ Err r → Packable r
 
 -- of `simmerpath_utf8_char_at`, which refuses a text that is too long, and an offset of any other where no character begins
 abbrev pub is_ill_formed : Character → Bool
@@ -79,9 +71,9 @@ CharAtKept =
     × ((xs : List ℕ) (at : ℕ) → length xs ≤ text_limit → character_at xs at ≡ character.IllFormed → Packable (not_utf8 (place_at xs at)))
 
 -- of a text that is written
-abbrev pub is_not_written : Writing → Bool
-is_not_written (writing.Written n) = false
-is_not_written (writing.Refused r) = true
+abbrev pub is_not_written : Result ℕ Refusal → Bool
+is_not_written (Ok n) = false
+is_not_written (Err r) = true
 
 -- of `simmerpath_utf8_encode`
 abbrev pub EncodeTold : Type 0
@@ -102,7 +94,7 @@ abbrev pub EscapeTold : Type 0
 EscapeTold = (room : ℕ) (xs : List ℕ) → let e = escaping_of room xs in looks_refused (written_code e) ≡ is_not_written e
 
 abbrev pub EscapeKept : Type 0
-EscapeKept = (room : ℕ) (xs : List ℕ) (r : Refusal) → escaping_of room xs ≡ writing.Refused r → Packable r
+EscapeKept = (room : ℕ) (xs : List ℕ) (r : Refusal) → escaping_of room xs ≡ Err r → Packable r
 
 -- of `simmerpath_unquote_string`, where a caller takes another answer for a text in the literal itself from bit 32 on
 abbrev pub is_inner : Unquoting → Bool
@@ -121,26 +113,26 @@ abbrev pub UnquoteKept : Type 0
 UnquoteKept = (r : Reading) (room : ℕ) (xs : List ℕ) (s : Refusal) → unquoting_of r room xs ≡ unquoting.Refused s → Packable s
 
 -- of `simmerpath_parse_str_radix`
-abbrev pub is_no_number : Parsing → Bool
-is_no_number (parsing.Value n) = false
-is_no_number (parsing.Refused r) = true
+abbrev pub is_no_number : Result Number Refusal → Bool
+is_no_number (Ok n) = false
+is_no_number (Err r) = true
 
 abbrev pub ParseTold : Type 0
 ParseTold = (d : Reading) (xs : List ℕ) → let p = parsing_of d xs in looks_refused (parse_code p) ≡ is_no_number p
 
 abbrev pub ParseKept : Type 0
-ParseKept = (d : Reading) (xs : List ℕ) (r : Refusal) → parsing_of d xs ≡ parsing.Refused r → Packable r
+ParseKept = (d : Reading) (xs : List ℕ) (r : Refusal) → parsing_of d xs ≡ Err r → Packable r
 
 -- of `simmerpath_parse_duration` and `simmerpath_parse_duration_exact`
-abbrev pub is_no_duration : Timing → Bool
-is_no_duration (timing.Lasts d) = false
-is_no_duration (timing.Refused r) = true
+abbrev pub is_no_duration : Result Duration Refusal → Bool
+is_no_duration (Ok d) = false
+is_no_duration (Err r) = true
 
 abbrev pub DurationTold : Type 0
 DurationTold = (o : Oversized) (xs : List ℕ) → let t = timing_by o xs in looks_refused (duration_code t) ≡ is_no_duration t
 
 abbrev pub DurationKept : Type 0
-DurationKept = (o : Oversized) (xs : List ℕ) (r : Refusal) → timing_by o xs ≡ timing.Refused r → Packable r
+DurationKept = (o : Oversized) (xs : List ℕ) (r : Refusal) → timing_by o xs ≡ Err r → Packable r
 
 -- of `simmerpath_display_duration`, told in a buffer of less than 2^63 bytes
 abbrev pub DurationDisplayTold : Type 0
@@ -149,18 +141,18 @@ DurationDisplayTold =
     let e = displaying_of room d in looks_refused (written_code e) ≡ is_not_written e
 
 abbrev pub DurationDisplayKept : Type 0
-DurationDisplayKept = (room : ℕ) (d : Duration) (r : Refusal) → displaying_of room d ≡ writing.Refused r → Packable r
+DurationDisplayKept = (room : ℕ) (d : Duration) (r : Refusal) → displaying_of room d ≡ Err r → Packable r
 
 -- of `simmerpath_lexer`
-abbrev pub is_not_lexed : Lexing → Bool
-is_not_lexed (lexing.Count n) = false
-is_not_lexed (lexing.Refused r) = true
+abbrev pub is_not_lexed : Result ℕ Refusal → Bool
+is_not_lexed (Ok n) = false
+is_not_lexed (Err r) = true
 
 abbrev pub LexerTold : Type 0
 LexerTold = (r : Reading) (room : ℕ) (q : List ℕ) → let x = lexed r room q in looks_refused (lexer_code x) ≡ is_not_lexed x
 
 abbrev pub LexerKept : Type 0
-LexerKept = (r : Reading) (room : ℕ) (q : List ℕ) (refusal : Refusal) → lexed r room q ≡ lexing.Refused refusal → Packable refusal
+LexerKept = (r : Reading) (room : ℕ) (q : List ℕ) (refusal : Refusal) → lexed r room q ≡ Err refusal → Packable refusal
 
 -- of `simmerpath_word_reason`
 abbrev pub is_not_reasoned : Reasoning → Bool

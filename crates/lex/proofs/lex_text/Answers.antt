@@ -5,9 +5,9 @@ use native.Mathlib.Omega.{arith}
 use mathlib.Core.List.{List}
 use mathlib.Core.Path.{◌≡◌, refl, sym, ap, ◌∙◌}
 use lib.ListN.{length}
+use Rattle.std.specs.Prelude.{Err}
 use Rattle.utf8.specs.declared.Reading.{Reading}
 use Rattle.lex.specs.declared.Run.TheVariants.{To}
-use Rattle.lex.specs.declared.Lexing.TheVariants as lexing
 use Rattle.lex.specs.Lex.{shortest, entries_of, kind_of, starts_at, length_of, depth_of}
 use Rattle.lex.specs.steps.Tally.{tally_of, refused_in, answer_in}
 use Rattle.lex.proofs.Lists.{copied_all}
@@ -59,7 +59,7 @@ pub returns-in_default : goal.returns-in_default
 returns-in_default c =
     let e = c.in_default.is in
     record {
-      value = rw (← c.pass-r.ensures.value, e) (ap lexing.Refused (c.refused_in.ensures ∙ ap (refused_in _) e));
+      value = rw (← c.pass-r.ensures.value, e) (ap Err (c.refused_in.ensures ∙ ap (refused_in _) e));
       kinds_after = refl;
       starts_after = refl;
       lengths_after = refl;
@@ -70,7 +70,7 @@ pub returns-then-shortest-n : goal.returns-then-shortest-n
 returns-then-shortest-n c =
     let p = (goal.at.returns-then-shortest-n c).After-shortest in
     record {
-      value = ap lexing.Refused c.at_start.ensures ∙ sym (fits_not (ap (answer_in (bytes p)) (tallied p)) (omega (arith, p.shortest.ensures)));
+      value = ap Err c.at_start.ensures ∙ sym (fits_not (ap (answer_in (bytes p)) (tallied p)) (omega (arith, p.shortest.ensures)));
       kinds_after = refl;
       starts_after = refl;
       lengths_after = refl;

@@ -3,9 +3,9 @@ use native.Mathlib.Omega.{arith}
 use mathlib.Core.Path.{◌≡◌, sym, ap, ◌∙◌}
 use Prim.Native.Nat.{◌≤◌}
 use lib.ListN.{length}
+use Rattle.std.specs.Prelude.{Err}
 use Rattle.utf8.specs.Answers.{text_limit, not_admitted}
 use Rattle.utf8.proofs.Given.{admitted_text}
-use Rattle.lex.specs.declared.Lexing.TheVariants.{Refused}
 use Rattle.lex.specs.Lex.{measured, roomed, lexed}
 use Rattle.lex.specs.steps.Tally.{answer_in, tally_of}
 use Rattle.lex.proofs.Tallies.{tally_measured}
@@ -16,7 +16,7 @@ pub returns-in_default-clause-value : goal.returns-in_default-clause-value
 unfolding lexed measured
 returns-in_default-clause-value c =
     let e = c.in_default.is in
-    rw (← c.admit-a.ensures, e) (ap Refused (c.not_admitted.ensures ∙ ap not_admitted e))
+    rw (← c.admit-a.ensures, e) (ap Err (c.not_admitted.ensures ∙ ap not_admitted e))
 
 -- behind `admit`: the text is within the limit, and what a pass tallies is what its measure says
 module _ (c : In-Admitted) where

@@ -1,10 +1,10 @@
 -- What is refused first is refused; then the reading decides, of a text within the limit. A pass with no room counts alone.
 use native.Mathlib.Omega.{arith}
 use mathlib.Core.Path.{◌≡◌, refl, sym, ap, ◌∙◌}
+use Rattle.std.specs.Prelude.{Err}
 use Rattle.utf8.specs.Answers.{text_limit, not_admitted}
 use Rattle.utf8.proofs.Given.{admitted_text}
 use Rattle.lex.specs.declared.Run.{Run}
-use Rattle.lex.specs.declared.Lexing.TheVariants.{Refused}
 use Rattle.lex.specs.Lex.{measured}
 use Rattle.lex.specs.steps.Tally.{refused_in, answer_in}
 use Rattle.lex.proofs.Tallies.{tally_measured}
@@ -15,7 +15,7 @@ pub returns-in_default : goal.returns-in_default
 unfolding measured
 returns-in_default c =
     let e = c.in_default.is in
-    rw (← c.admit-a.ensures, e) (ap Refused (c.not_admitted.ensures ∙ ap not_admitted e))
+    rw (← c.admit-a.ensures, e) (ap Err (c.not_admitted.ensures ∙ ap not_admitted e))
 
 pub pass-r-requires : goal.pass-r-requires
 pass-r-requires c =
@@ -35,7 +35,7 @@ counts c r e =
 pub returns-in_default-r : goal.returns-in_default-r
 returns-in_default-r c =
     let e = c.in_default-r.is in
-    ap Refused (c.refused_in.ensures ∙ ap (refused_in c.args.query.now) e) ∙ counts (goal.at.returns-in_default-r c).After-pass-r _ e
+    ap Err (c.refused_in.ensures ∙ ap (refused_in c.args.query.now) e) ∙ counts (goal.at.returns-in_default-r c).After-pass-r _ e
 
 pub returns : goal.returns
 returns c = counts (goal.at.returns c).After-pass-r _ c.in-To.is

@@ -1,14 +1,13 @@
 -- Bounds of what lexing answers and writes, and the steps of a query one at a time, as statements; `proofs/Bounds`, `proofs/Entries` and
 -- `proofs/Steps` have their proofs.
-use Rattle.std.specs.Prelude.{ℕ, ◌+◌, ◌^◌, ◌≤◌, ◌<◌, List, [], ◌∷◌, ◌≡◌, length, drop}
+use Rattle.utf8.specs.declared.Refusal.{Refusal}
+use Rattle.std.specs.Prelude.{ℕ, ◌+◌, ◌^◌, ◌≤◌, ◌<◌, List, [], ◌∷◌, ◌≡◌, length, drop, Err, Ok, Result}
 use Rattle.utf8.specs.Answers.{text_limit}
 use Rattle.utf8.specs.declared.Reading.{Reading}
 use Rattle.munch.specs.declared.Mode.{Mode}
 use Rattle.munch.specs.declared.Step.{Step}
 use Rattle.munch.specs.laws.Step.{Goes}
 use Rattle.munch.specs.Munch.{munched}
-use Rattle.lex.specs.declared.Lexing.{Lexing}
-use Rattle.lex.specs.declared.Lexing.TheVariants.{Count, Refused}
 use Rattle.lex.specs.Outcome.{Entry, step_length, step_mode, followed, steps_past}
 use Rattle.lex.specs.Lex.{entries_of, lexed}
 
@@ -17,9 +16,9 @@ abbrev pub last_row : ℕ
 last_row = 32
 
 -- at most one lexeme more than a text has bytes is counted, and a refusal has a number of at most the last row's and a place within the limit
-abbrev pub LexingWithin : Lexing → Type 0
-LexingWithin (Count n) = n ≤ text_limit + 1
-LexingWithin (Refused r) = (r.number ≤ last_row) × (r.place.byte.0 ≤ text_limit) × (r.place.character.0 ≤ text_limit)
+abbrev pub LexingWithin : Result ℕ Refusal → Type 0
+LexingWithin (Ok n) = n ≤ text_limit + 1
+LexingWithin (Err r) = (r.number ≤ last_row) × (r.place.byte.0 ≤ text_limit) × (r.place.character.0 ≤ text_limit)
 
 abbrev pub LexingBounded : Type 0
 LexingBounded = (r : Reading) (room : ℕ) (q : List ℕ) → LexingWithin (lexed r room q)

@@ -1,6 +1,7 @@
 -- Document 01's table of refusals for a whole query, and where a refusal points, as statements; `proofs/Given` and `proofs/Places` have their
 -- proofs. The rows 10 to 32 stand in `munch`, as conditions on a step.
-use Rattle.std.specs.Prelude.{ℕ, ◌+◌, ◌≤◌, ◌<◌, List, ◌↔◌, ◌⊎◌, ◌≡◌, length, drop}
+use Rattle.utf8.specs.declared.Refusal.{Refusal}
+use Rattle.std.specs.Prelude.{ℕ, ◌+◌, ◌≤◌, ◌<◌, List, ◌↔◌, ◌⊎◌, ◌≡◌, length, drop, Err, Ok, Result}
 use Rattle.utf8.specs.declared.Reading.{Reading}
 use Rattle.utf8.specs.Text.{prefix_end, WellFormed, start_of, char_number}
 use Rattle.utf8.specs.Answers.{text_limit, place_at, refused_at, too_long, not_utf8, no_room}
@@ -9,8 +10,6 @@ use Rattle.munch.specs.declared.Mode.{Mode}
 use Rattle.munch.specs.declared.Step.TheVariants.{Lexeme, Space, Comment, Finished}
 use Rattle.munch.specs.Munch.{outside, munched}
 use Rattle.munch.specs.laws.Rows.{Row}
-use Rattle.lex.specs.declared.Lexing.{Lexing}
-use Rattle.lex.specs.declared.Lexing.TheVariants.{Count, Refused}
 use Rattle.lex.specs.Lex.{entries_of, measured, lexed}
 
 -- the reading reaches an offset, in a mode, with nothing refused before it
@@ -45,15 +44,15 @@ abbrev pub LexingGiven : Type 0
 LexingGiven =
     (r : Reading) (room : ℕ) (q : List ℕ) →
     let x = lexed r room q in
-    (x ≡ Refused too_long ↔ TooLong text_limit q)
-    × (x ≡ Refused (not_utf8 (place_at q (prefix_end q))) ↔ (¬ (TooLong text_limit q)) × NotUtf8 q)
-    × ((number p : ℕ) → first_row ≤ number → x ≡ Refused (refused_at q number p) ↔ Taken text_limit q × RowAt r q number p)
-    × (x ≡ Refused no_room ↔ Taken text_limit q × Ends r q × (room < length (entries_of r q)))
-    × ((n : ℕ) → x ≡ Count n ↔ Taken text_limit q × Ends r q × (n ≡ length (entries_of r q)) × (n ≤ room))
+    (x ≡ Err too_long ↔ TooLong text_limit q)
+    × (x ≡ Err (not_utf8 (place_at q (prefix_end q))) ↔ (¬ (TooLong text_limit q)) × NotUtf8 q)
+    × ((number p : ℕ) → first_row ≤ number → x ≡ Err (refused_at q number p) ↔ Taken text_limit q × RowAt r q number p)
+    × (x ≡ Err no_room ↔ Taken text_limit q × Ends r q × (room < length (entries_of r q)))
+    × ((n : ℕ) → x ≡ Ok n ↔ Taken text_limit q × Ends r q × (n ≡ length (entries_of r q)) × (n ≤ room))
 
 -- and it is accepted without regard to room
 abbrev pub MeasuredGiven : Type 0
-MeasuredGiven = (r : Reading) (q : List ℕ) (n : ℕ) → measured r q ≡ Count n ↔ Taken text_limit q × Ends r q × (n ≡ length (entries_of r q))
+MeasuredGiven = (r : Reading) (q : List ℕ) (n : ℕ) → measured r q ≡ Ok n ↔ Taken text_limit q × Ends r q × (n ≡ length (entries_of r q))
 
 -- of any bytes, the reading comes to a row at a place, or to the end; no two rows hold, and none where it comes to the end
 abbrev pub RowOrEnd : Type 0
@@ -67,12 +66,12 @@ abbrev pub NoRowAtEnd : Type 0
 NoRowAtEnd = (r : Reading) (q : List ℕ) (number p : ℕ) → RowAt r q number p → ¬ (Ends r q)
 
 -- so there is no other answer: a query is too long, or else not UTF-8, or else refused by exactly one row at one place, or else it ends, and there is room or not
-pub data Answer (r : Reading) (room : ℕ) (q : List ℕ) : Lexing → Type 0 where
-  long : TooLong text_limit q → Answer r room q (Refused too_long)
-  broken : (¬ (TooLong text_limit q)) → NotUtf8 q → Answer r room q (Refused (not_utf8 (place_at q (prefix_end q))))
-  row : (number p : ℕ) → Taken text_limit q → RowAt r q number p → ((other o : ℕ) → RowAt r q other o → (other ≡ number) × (o ≡ p)) → Answer r room q (Refused (refused_at q number p))
-  short : Taken text_limit q → Ends r q → ((number p : ℕ) → ¬ (RowAt r q number p)) → room < length (entries_of r q) → Answer r room q (Refused no_room)
-  whole : Taken text_limit q → Ends r q → ((number p : ℕ) → ¬ (RowAt r q number p)) → length (entries_of r q) ≤ room → Answer r room q (Count (length (entries_of r q)))
+pub data Answer (r : Reading) (room : ℕ) (q : List ℕ) : Result ℕ Refusal → Type 0 where
+  long : TooLong text_limit q → Answer r room q (Err too_long)
+  broken : (¬ (TooLong text_limit q)) → NotUtf8 q → Answer r room q (Err (not_utf8 (place_at q (prefix_end q))))
+  row : (number p : ℕ) → Taken text_limit q → RowAt r q number p → ((other o : ℕ) → RowAt r q other o → (other ≡ number) × (o ≡ p)) → Answer r room q (Err (refused_at q number p))
+  short : Taken text_limit q → Ends r q → ((number p : ℕ) → ¬ (RowAt r q number p)) → room < length (entries_of r q) → Answer r room q (Err no_room)
+  whole : Taken text_limit q → Ends r q → ((number p : ℕ) → ¬ (RowAt r q number p)) → length (entries_of r q) ≤ room → Answer r room q (Ok (length (entries_of r q)))
 
 abbrev pub AllAnswers : Type 0
 AllAnswers = (r : Reading) (room : ℕ) (q : List ℕ) → Answer r room q (lexed r room q)

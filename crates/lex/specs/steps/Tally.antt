@@ -1,12 +1,10 @@
 -- The count as a pass makes it, which goes up with each lexeme, and whose refusals have a byte offset alone.
-use Rattle.std.specs.Prelude.{ℕ, ◌+◌, List}
+use Rattle.std.specs.Prelude.{ℕ, ◌+◌, List, Err, Ok, Result}
 use Rattle.utf8.specs.declared.Reading.{Reading}
 use Rattle.utf8.specs.declared.Refusal.{Refusal}
 use Rattle.utf8.specs.Answers.{no_refusal, refused_at}
 use Rattle.lex.specs.declared.Run.{Run}
 use Rattle.lex.specs.declared.Run.TheVariants as run
-use Rattle.lex.specs.declared.Lexing.{Lexing}
-use Rattle.lex.specs.declared.Lexing.TheVariants.{Count, Refused}
 use Rattle.lex.specs.Outcome.{Outcome, reads, ends, refuses, outcome_of}
 
 -- a text is refused at an offset
@@ -27,6 +25,6 @@ abbrev pub refused_in : List ℕ → Run → Refusal
 refused_in q (run.To at n) = no_refusal
 refused_in q (run.Refused r o) = refused_at q r o.0
 
-abbrev pub answer_in : List ℕ → Run → Lexing
-answer_in q (run.To at n) = Count n
-answer_in q (run.Refused r o) = Refused (refused_at q r o.0)
+abbrev pub answer_in : List ℕ → Run → Result ℕ Refusal
+answer_in q (run.To at n) = Ok n
+answer_in q (run.Refused r o) = Err (refused_at q r o.0)

@@ -1,10 +1,11 @@
 -- The arms are those of the definition. The first entries of the four lists are the lexemes (`lists_hold`), and a refusal is short.
+use Rattle.utf8.specs.declared.Refusal.{Refusal}
+use Rattle.std.specs.Prelude.{Result, ℕ}
 use Rattle.listing.proofs.Puts.{puts}
 use Rattle.listing.proofs.Few.{refused_few}
 use Rattle.listing.proofs.Lexemes.{lists_hold}
 use Rattle.listing.specs.Listing.{most_lexemes, zipped, printed_by, refusal}
 use Rattle.utf8.specs.declared.Reading.TheVariants.{Crate}
-use Rattle.lex.specs.declared.Lexing.{Lexing}
 use Rattle.lex.specs.Lex.{entries_of, not_lexed, lexed, shortest}
 use lib.Seq.{length-take-le}
 use lib.ListN.{length, take}
@@ -15,7 +16,7 @@ use Rattle.listing.proofs.lex_to.Goals as goal
 use Rattle.listing.proofs.lex_to.Goals.{After-lexer-x, In-Count, Start}
 
 -- the four lists are as long as there may be lexemes, which is their room
-answered : (c : After-lexer-x) {x : Lexing} → c.lexer-x.result ≡ x → lexed Crate most_lexemes c.args.query.now ≡ x
+answered : (c : After-lexer-x) {x : Result ℕ Refusal} → c.lexer-x.result ≡ x → lexed Crate most_lexemes c.args.query.now ≡ x
 answered c e =
     let a = c.args in
     let h = c.requires.kinds_len in

@@ -7,11 +7,10 @@ use mathlib.Core.Logic.{◌⊎◌, inl, inr}
 use mathlib.Core.Path.{◌≡◌, refl}
 use lib.Dec.{eqb, ltb}
 use borrow.Author.Tests.{not-true, le-ltb, ne_eqb}
+use Rattle.std.specs.Prelude.{None, Option, Some}
 use Rattle.scan.specs.Text.{has}
 use Rattle.proving.proofs.Below.{below}
 use Rattle.proving.proofs.Choice.{either}
-use Rattle.token.specs.declared.Keyword.{Keyword}
-use Rattle.token.specs.declared.Keyword.TheVariants.{Kind, Nothing}
 use Rattle.token.specs.Kinds.{eof_kind, identifier, number, land, end_kind}
 use Rattle.token.specs.laws.Words.{KindFits}
 use Rattle.munch.specs.declared.word.Rule.{Rule}
@@ -40,14 +39,14 @@ abbrev Given : Rule → Type 0
 Given r = OfWord (kind_by r)
 
 module _ (xs : List ℕ) (n : ℕ) where
-  pub word_fits : (k : Keyword) → KindFits k → Given (rule_by k xs n)
+  pub word_fits : (k : Option ℕ) → KindFits k → Given (rule_by k xs n)
   unfolding kind_by rule_by
-  word_fits (Kind k) h = either Given (is_fill k) (λ e. either Given (is_called xs n) (λ f. own h) (λ f. inl (omega arith, omega arith))) (λ e. own h)
+  word_fits (Some k) h = either Given (is_fill k) (λ e. either Given (is_called xs n) (λ f. own h) (λ f. inl (omega arith, omega arith))) (λ e. own h)
     where
-      own : KindFits (Kind k) → OfWord k
+      own : KindFits (Some k) → OfWord k
       own (inl e) = inl (omega arith, omega arith)
       own (inr g) = inr g
-  word_fits Nothing h = either Given (has_colon xs n) (λ e. inl (omega arith, omega arith)) (λ e. inl (omega arith, omega arith))
+  word_fits None h = either Given (has_colon xs n) (λ e. inl (omega arith, omega arith)) (λ e. inl (omega arith, omega arith))
 
   pub brace_word_fits : Given (brace_rule xs n)
   unfolding kind_by brace_rule

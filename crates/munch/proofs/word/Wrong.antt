@@ -3,13 +3,12 @@
 use Prim.Native.Nat.{ℕ}
 use mathlib.Core.List.{List}
 use mathlib.Core.Path.{◌≡◌, ap, ◌∙◌}
+use Rattle.std.specs.Prelude.{None, Option, Some}
 use Rattle.scan.specs.Ascii.{ascii}
 use Rattle.scan.specs.Byte.{is_within, lowered, is_space, is_in}
 use Rattle.proving.proofs.One.{Answers}
 use Rattle.scan.specs.Run.{run_length}
 use Rattle.scan.specs.Text.{same_text, has}
-use Rattle.token.specs.declared.Keyword.{Keyword}
-use Rattle.token.specs.declared.Keyword.TheVariants.{Kind, Nothing}
 use Rattle.token.specs.Kinds.{identifier, metric_identifier, lor, fill, fill_right}
 use Rattle.munch.specs.declared.word.Rule.{Rule}
 use Rattle.munch.specs.declared.word.Rule.TheVariants.{Or, InBraces, Table, FillCalled, FillAlone, WithColon, Plain}
@@ -27,7 +26,7 @@ abbrev table_rule_gives : ℕ → List ℕ → ℕ → Rule → Type 0
 table_rule_gives kind xs n v =
     Answers table_rule.ps table_rule.r table_rule_reads.Post (λ κs a. (a.0 ≡ kind) × (a.1.0.now ≡ xs) × (a.1.1.0 ≡ n)) (λ κs. v)
 
-table_rule_at : (kind : ℕ) (xs : List ℕ) (n : ℕ) → table_rule_gives kind xs n (rule_by (Kind kind) xs n)
+table_rule_at : (kind : ℕ) (xs : List ℕ) (n : ℕ) → table_rule_gives kind xs n (rule_by (Some kind) xs n)
 table_rule_at kind xs n κs a x e p h = cc (p, h.0, h.1, h.2)
 
 pub comment_behind_fill_is_not_passed : table_rule_gives fill (ascii "fill#\n(") 4 FillAlone
@@ -42,18 +41,18 @@ pub or_is_no_fill_word : table_rule_gives lor (ascii "or(") 2 (Table lor)
 unfolding rule_by is_fill is_within is_in is_space run_length
 or_is_no_fill_word = table_rule_at _ _ _
 
-abbrev rule_by_gives : Keyword → List ℕ → ℕ → Rule → Type 0
+abbrev rule_by_gives : Option ℕ → List ℕ → ℕ → Rule → Type 0
 rule_by_gives own xs n v =
     Answers rule_by_kinds.ps rule_by_kinds.r rule_by_reads.Post (λ κs a. (a.0 ≡ own) × (a.1.0.now ≡ xs) × (a.1.1.0 ≡ n)) (λ κs. v)
 
-rule_by_at : (own : Keyword) (xs : List ℕ) (n : ℕ) → rule_by_gives own xs n (rule_by own xs n)
+rule_by_at : (own : Option ℕ) (xs : List ℕ) (n : ℕ) → rule_by_gives own xs n (rule_by own xs n)
 rule_by_at own xs n κs a x e p h = cc (p, h.0, h.1, h.2)
 
-pub fill_with_a_paren_next_is_called : rule_by_gives (Kind fill) (ascii "fill (") 4 (FillCalled fill)
+pub fill_with_a_paren_next_is_called : rule_by_gives (Some fill) (ascii "fill (") 4 (FillCalled fill)
 unfolding rule_by is_fill is_within is_in is_space run_length
 fill_with_a_paren_next_is_called = rule_by_at _ _ _
 
-pub colon_behind_the_word_is_not_in_it : rule_by_gives Nothing (ascii "a:") 1 Plain
+pub colon_behind_the_word_is_not_in_it : rule_by_gives None (ascii "a:") 1 Plain
 unfolding rule_by has
 colon_behind_the_word_is_not_in_it = rule_by_at _ _ _
 

@@ -1,13 +1,12 @@
 -- What the crates above may know of a step, as statements; `proofs/Goes`, `proofs/Fits`, `proofs/Seam` and `proofs/Tables`
 -- have their proofs.
-use Rattle.std.specs.Prelude.{ℕ, suc, ◌^◌, ◌≤◌, ◌<◌, true, List, ◌∷◌, ◌++◌, ◌≡◌, length, take}
+use Rattle.std.specs.Prelude.{ℕ, suc, ◌^◌, ◌≤◌, ◌<◌, true, List, ◌∷◌, ◌++◌, ◌≡◌, length, take, Some}
 use Prim.Native.Char.{code}
 use Rattle.scan.specs.declared.byte.Class.TheVariants as class
 use Rattle.scan.specs.Byte.{end, peek_at, is_in}
 use Rattle.scan.specs.laws.Edge.{Edge, Bytes}
 use Rattle.scan.specs.Run.{run_end}
 use Rattle.utf8.specs.declared.Reading.{Reading}
-use Rattle.token.specs.declared.Keyword.TheVariants.{Kind}
 use Rattle.token.specs.Kinds.{identifier}
 use Rattle.token.specs.Words.{keyword_of}
 use Rattle.token.specs.steps.WordRows.{word_table}
@@ -61,7 +60,7 @@ StepFits = (r : Reading) (m : Mode) (xs : List ℕ) → Fits (munched r m xs)
 pub data Seam (xs : List ℕ) : Step → Step → Type 0 where
   same : (s : Step) → Seam xs s s
   grown : Seam xs (Comment (length xs)) (Comment (suc (length xs)))
-  called : (k n : ℕ) (m : Mode) → keyword_of (take n xs) ≡ Kind k → is_fill k ≡ true → run_end (is_in class.Space) xs n ≡ length xs → Seam xs (Lexeme identifier n m) (Lexeme k n m)
+  called : (k n : ℕ) (m : Mode) → keyword_of (take n xs) ≡ Some k → is_fill k ≡ true → run_end (is_in class.Space) xs n ≡ length xs → Seam xs (Lexeme identifier n m) (Lexeme k n m)
   refused : (r o : ℕ) (s : Step) → Seam xs (Refused r o) s
 
 abbrev pub StepSeam : Type 0

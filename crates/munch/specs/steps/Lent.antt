@@ -1,13 +1,10 @@
 -- A step by tables of leads and of words that are lent, as the code makes it. That with the two tables of document 01 it is the step of
 -- `specs/Munch` is a law (`specs/laws/Step`).
-use Rattle.std.specs.Prelude.{ℕ, suc, true, false, cond, List, [], ◌∷◌, eqb, ltb, take}
+use Rattle.std.specs.Prelude.{ℕ, suc, true, false, cond, List, [], ◌∷◌, eqb, ltb, take, None, Option, Some}
 use Rattle.scan.specs.Byte.{peek_at}
 use Rattle.scan.specs.Run.{run_end}
 use Rattle.utf8.specs.declared.Reading.{Reading}
 use Rattle.token.specs.Kinds.{identifier, metric_identifier, left_paren, right_paren, left_brace, right_brace, left_bracket, comma, lte, lss, gte, gtr}
-use Rattle.token.specs.declared.Keyword.{Keyword}
-use Rattle.token.specs.declared.Keyword.TheVariants.{Kind}
-use Rattle.token.specs.declared.Keyword.TheVariants as keyword
 use Rattle.token.specs.steps.WordRows.{keyword_in}
 use Rattle.quoted.specs.declared.Quoted.{Quoted}
 use Rattle.quoted.specs.declared.Quoted.TheVariants as quoting
@@ -20,9 +17,9 @@ use Rattle.munch.specs.Munch.{mode, deeper, sign, refuse, number_step, dot_step,
 use Rattle.munch.specs.steps.Leads.{quote_lead, white_lead, colon_lead, digit_lead, letter_lead, lead_in, is_from, is_sign_lead, starts_word}
 
 -- the kind of a word without a colon, by that which it has of its own
-abbrev pub kind_from : Keyword → List ℕ → ℕ → ℕ
-kind_from (Kind k) xs n = kind_by (rule_by (Kind k) xs n)
-kind_from keyword.Nothing xs n = identifier
+abbrev pub kind_from : Option ℕ → List ℕ → ℕ → ℕ
+kind_from (Some k) xs n = kind_by (rule_by (Some k) xs n)
+kind_from None xs n = identifier
 
 -- a word outside braces: a colon stands in it where it goes on behind its first letters and digits
 unfoldable pub word_step_by : List ℕ → List ℕ → Mode → List ℕ → Step

@@ -1,4 +1,7 @@
 -- Each way out knows what was read and which tests it passed; that magnitudes are told apart only so far changes no answer.
+use Rattle.decimal.specs.declared.Number.{Number}
+use Rattle.utf8.specs.declared.Refusal.{Refusal}
+use Rattle.std.specs.Prelude.{Err, Ok, Result}
 use Rattle.std.proofs.Common.{◌≡◌, ℕ, ◌-◌, ◌^◌, ◌<◌, ◌≤◌, min, Bool, true, false, ◌&&◌, sym, refl, ap, ◌∙◌, arith}
 use native.Mathlib.Decide.{dec_le}
 use lib.Ieee.{Float, unlike}
@@ -7,8 +10,6 @@ use Rattle.decimal.specs.declared.Notation.{Notation}
 use Rattle.decimal.specs.Value.{most_told}
 use Rattle.number.specs.declared.Integer.{Integer}
 use Rattle.number.specs.declared.Integer.TheVariants.{Whole, NotInteger}
-use Rattle.number.specs.declared.Parsing.{Parsing}
-use Rattle.number.specs.declared.Parsing.TheVariants.{Value, Refused}
 use Rattle.number.specs.Signed.{is_i64}
 use Rattle.number.specs.Integer.{integer_of, told_of}
 use Rattle.number.specs.Number.{outside_i64, integer_number, integer_by, integer_read}
@@ -30,10 +31,10 @@ module _ (n : Notation) (outer : Bool) where
       go (yes l) = let k : min most_told v ≡ v = omega arith in ap (λ (m : ℕ). integer_by n outer (Whole own m)) k
       go (no l) = rw (far own v (omega arith), far own (min most_told v) (omega arith))
 
-  beyond : (own : Bool) (v : ℕ) → is_i64 own v && is_i64 (unlike own outer) v ≡ false → Refused outside_i64 ≡ integer_by n outer (Whole own v)
+  beyond : (own : Bool) (v : ℕ) → is_i64 own v && is_i64 (unlike own outer) v ≡ false → Err outside_i64 ≡ integer_by n outer (Whole own v)
   beyond own v e = rw e
 
-  within : (own : Bool) (v : ℕ) → is_i64 own v && is_i64 (unlike own outer) v ≡ true → Value (integer_number n (unlike own outer) v) ≡ integer_by n outer (Whole own v)
+  within : (own : Bool) (v : ℕ) → is_i64 own v && is_i64 (unlike own outer) v ≡ true → Ok (integer_number n (unlike own outer) v) ≡ integer_by n outer (Whole own v)
   within own v e = rw e
 
 -- the answer by what was read
@@ -58,13 +59,13 @@ module _ (c : In-Whole) where
   abbrev negative : Bool
   negative = unlike own (a d).args.outer
 
-  abbrev read : Parsing
+  abbrev read : Result Number Refusal
   read = integer_read (a d).args.notation (a d).args.outer (a d).args.s.now
 
-  out : is_i64 own v && is_i64 negative v ≡ false → Refused outside_i64 ≡ read
+  out : is_i64 own v && is_i64 negative v ≡ false → Err outside_i64 ≡ read
   out e = beyond (a d).args.notation (a d).args.outer own v e ∙ answer d (Whole own v) c.in-Whole.is
 
-  number : is_i64 own v && is_i64 negative v ≡ true → Value (integer_number (a d).args.notation negative v) ≡ read
+  number : is_i64 own v && is_i64 negative v ≡ true → Ok (integer_number (a d).args.notation negative v) ≡ read
   number e = within (a d).args.notation (a d).args.outer own v e ∙ answer d (Whole own v) c.in-Whole.is
 
 pub returns-in_default : goal.returns-in_default
@@ -86,5 +87,5 @@ pub returns : goal.returns
 returns c =
     let e = (goal.at.returns c).After-is_i64 in
     let f = (goal.at.returns c).After-is_i64-2 in
-    ap (λ (x : Float). Value (record { value = x; notation = (a (d (goal.at.After-is_i64 e).In-Whole)).args.notation })) c.signed-value.ensures
+    ap (λ (x : Float). Ok (record { value = x; notation = (a (d (goal.at.After-is_i64 e).In-Whole)).args.notation })) c.signed-value.ensures
     ∙ number (goal.at.After-is_i64 e).In-Whole (rw (← e.is_i64.ensures, f.if-not-is_i64.false, ← f.is_i64-2.ensures, c.if-not-is_i64-2.false))

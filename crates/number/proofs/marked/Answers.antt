@@ -1,4 +1,5 @@
 -- Each way out knows whether a 0 leads and whether an x follows it; what stands behind them is a part of the text.
+use Rattle.std.specs.Prelude.{Err}
 use Rattle.std.proofs.Common.{◌≡◌, ℕ, suc, ◌+◌, ◌<◌, true, false, eqb, List, length, drop, sym, ap, ◌∙◌, ap₂, add-one, arith, eq-eqb, ne_eqb}
 use Prim.Native.Char.{code}
 use Rattle.scan.specs.Byte.{peek_at}
@@ -6,14 +7,13 @@ use Rattle.scan.proofs.Runs.{peek_inside}
 use Rattle.proving.proofs.Lists.{rest_of}
 use Rattle.decimal.specs.declared.Notation.TheVariants.{Hex, Octal}
 use Rattle.scan.specs.Sign.{is_minus}
-use Rattle.number.specs.declared.Parsing.TheVariants.{Refused}
 use Rattle.number.specs.Number.{not_number, is_zero_at, leads_zero, behind_zero, is_hex_mark, notation_of, follows_mark, integer_read, marked_read}
 use Rattle.number.proofs.Marks.{zero_inside}
 use Rattle.number.proofs.marked.Goals as goal
 use Rattle.number.proofs.marked.Goals.{After-is_zero_at, After-peek, Else-not-is_zero_at, Then-peek}
 
 module _ (t : List ℕ) where
-  unmarked : leads_zero t ≡ false → Refused not_number ≡ marked_read t
+  unmarked : leads_zero t ≡ false → Err not_number ≡ marked_read t
   unfolding marked_read
   unmarked e = rw e
 

@@ -1,29 +1,30 @@
 -- What is refused is refused first; then the text is kept at the front of the buffer, and the number is read there.
+use Rattle.utf8.specs.declared.Refusal.{Refusal}
+use Rattle.utf8.specs.declared.CharNumber.{CharNumber}
+use Rattle.std.specs.Prelude.{Err, Result}
 use Rattle.std.proofs.Common.{◌≡◌, ℕ, ◌≤◌, List, length, take, replicate, sym, ap, ◌∙◌, ap₂, arith}
 use lib.Seq.{sets, length-sets}
 use Rattle.proving.proofs.Stores.{written_front}
 use Rattle.utf8.specs.declared.Reading.{Reading}
-use Rattle.utf8.specs.declared.Admission.{Admission}
 use Rattle.utf8.specs.Answers.{admitted, not_admitted}
 use Rattle.utf8.specs.laws.Refusals.{Taken}
 use Rattle.utf8.proofs.Given.{admitted_text}
 use Rattle.decimal.specs.Value.{decimal_limit}
-use Rattle.number.specs.declared.Parsing.TheVariants.{Refused}
 use Rattle.number.specs.White.{plain_text}
 use Rattle.number.specs.Number.{number_in, parsing_by, parsing_of}
 use Rattle.number.proofs.Kept.{plain_few}
 use Rattle.number.proofs.parse_str_radix.Goals as goal
 use Rattle.number.proofs.parse_str_radix.Goals.{After-keep-n, In-Admitted}
 
-by_admission : (r : Reading) (xs : List ℕ) (a : Admission) → admitted decimal_limit xs ≡ a → parsing_by r a (plain_text xs) ≡ parsing_of r xs
+by_admission : (r : Reading) (xs : List ℕ) (a : Result CharNumber Refusal) → admitted decimal_limit xs ≡ a → parsing_by r a (plain_text xs) ≡ parsing_of r xs
 unfolding parsing_of
-by_admission r xs a e = ap (λ (b : Admission). parsing_by r b (plain_text xs)) (sym e)
+by_admission r xs a e = ap (λ (b : Result CharNumber Refusal). parsing_by r b (plain_text xs)) (sym e)
 
 pub returns-in_default : goal.returns-in_default
 returns-in_default c =
     let a = c.args in
     let e = c.in_default.is in
-    ap Refused (c.not_admitted.ensures ∙ ap not_admitted e) ∙ by_admission a.reading a.text.now _ (sym c.admit-a.ensures ∙ e)
+    ap Err (c.not_admitted.ensures ∙ ap not_admitted e) ∙ by_admission a.reading a.text.now _ (sym c.admit-a.ensures ∙ e)
 
 module _ (c : In-Admitted) where
   abbrev text : List ℕ

@@ -1,9 +1,9 @@
 -- Nothing is written of white space. Any other character has room in lower case, and so is encoded.
+use Rattle.utf8.specs.declared.Refusal.{Refusal}
+use Rattle.std.specs.Prelude.{Ok, Result}
 use Rattle.std.proofs.Common.{◌≡◌, ℕ, ◌+◌, ◌^◌, ◌≤◌, length, sym, refl, ap, ◌∙◌, arith}
 use Rattle.scan.specs.Byte.{lowered}
 use Rattle.scan.proofs.byte.Classes.{lowered_below}
-use Rattle.utf8.specs.declared.Writing.{Writing}
-use Rattle.utf8.specs.declared.Writing.TheVariants.{Written}
 use Rattle.utf8.specs.Code.{is_scalar, encoded}
 use Rattle.utf8.specs.Writing.{left_at}
 use Rattle.utf8.proofs.encode.Bounds.{encoding_fits, written_sets}
@@ -39,7 +39,7 @@ module _ (c : After-encode-e) where
   fits : a.args.at + length (encoded small) ≤ length a.args.out.now
   fits = omega (arith, a.requires.code_in_bounds, ap length its)
 
-  written : c.encode-e.result ≡ Written (length (encoded small))
+  written : c.encode-e.result ≡ Ok (length (encoded small))
   written =
       c.encode-e.ensures.value
       ∙ encoding_fits small (length a.args.out.now) a.args.at (ap is_scalar small_is ∙ lowered_scalar a.args.code a.requires.code_value) fits
@@ -61,5 +61,5 @@ returns c =
     let out = (a d).args.out.now in
     record {
       value = rw (size c, its d);
-      out_after = rw (its d) (d.encode-e.ensures.out_after ∙ ap (λ (e : Writing). left_at (a d).args.at e (encoded (small d)) out) (written d) ∙ written_sets (encoded (small d)) out (a d).args.at (fits d));
+      out_after = rw (its d) (d.encode-e.ensures.out_after ∙ ap (λ (e : Result ℕ Refusal). left_at (a d).args.at e (encoded (small d)) out) (written d) ∙ written_sets (encoded (small d)) out (a d).args.at (fits d));
     }

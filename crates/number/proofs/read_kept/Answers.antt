@@ -1,4 +1,5 @@
 -- A text without separators is read as it is (`without_as_before`); of any other it is known whether they are placed, and it is read without them.
+use Rattle.std.specs.Prelude.{Err}
 use Rattle.std.proofs.Common.{◌≡◌, ℕ, true, false, List, length, take, sym, ap, ◌∙◌, ap₂, arith}
 use lib.Seq.{sets, length-sets}
 use Rattle.proving.proofs.Stores.{written_front}
@@ -7,14 +8,13 @@ use Rattle.scan.specs.Separated.{separator, without_separators}
 use Rattle.scan.proofs.Stands.{tests_has}
 use Rattle.scan.proofs.separated.Whole.{without_within}
 use Rattle.utf8.specs.declared.Reading.{Reading}
-use Rattle.number.specs.declared.Parsing.TheVariants.{Refused}
 use Rattle.number.specs.Number.{not_number, number_of, is_placed, number_in}
 use Rattle.number.proofs.Readings.{without_as_before}
 use Rattle.number.proofs.read_kept.Goals as goal
 use Rattle.number.proofs.read_kept.Goals.{After-drop_separators-n, After-is_placed, After-contains}
 
 module _ (r : Reading) (t : List ℕ) where
-  misplaced : is_placed r t ≡ false → Refused not_number ≡ number_in r t
+  misplaced : is_placed r t ≡ false → Err not_number ≡ number_in r t
   unfolding number_in
   misplaced e = rw e
 

@@ -1,5 +1,5 @@
 -- What document 02's L2 changes in number texts, and what it leaves, as statements. `proofs/Readings` has the proofs.
-use Rattle.std.specs.Prelude.{◌≡◌, ℕ, ◌↔◌, List}
+use Rattle.std.specs.Prelude.{◌≡◌, ℕ, ◌↔◌, List, Err, Ok}
 use Rattle.scan.specs.Separated.{separator, without_separators}
 use Rattle.scan.specs.Text.{Stands}
 use Rattle.utf8.specs.declared.Reading.{Reading}
@@ -7,14 +7,13 @@ use Rattle.utf8.specs.declared.Reading.TheVariants.{Crate, Documented}
 use Rattle.utf8.specs.laws.Refusals.{Taken}
 use Rattle.decimal.specs.declared.Number.{Number}
 use Rattle.decimal.specs.Value.{decimal_limit}
-use Rattle.number.specs.declared.Parsing.TheVariants.{Value, Refused}
 use Rattle.number.specs.White.{plain_text}
 use Rattle.number.specs.Number.{not_number, number_of, number_in, parsing_of}
 use Rattle.number.specs.laws.Refusals.{SeparatorsPlaced}
 
 -- by document 01's rule no text with a separator is a number
 abbrev pub SeparatorRefused : Type 0
-SeparatorRefused = (t : List ℕ) → Stands separator t → number_of t ≡ Refused not_number
+SeparatorRefused = (t : List ℕ) → Stands separator t → number_of t ≡ Err not_number
 
 -- "The crate reading still refuses all this": it is what it was, and there a separator is placed nowhere
 abbrev pub CrateAsBefore : Type 0
@@ -35,7 +34,7 @@ abbrev pub SeparatorsAside : Type 0
 SeparatorsAside =
     (r : Reading) (xs : List ℕ) (n : Number) →
     let t = plain_text xs in
-    parsing_of r xs ≡ Value n ↔ Taken decimal_limit xs × SeparatorsPlaced r t × (number_of (without_separators t) ≡ Value n)
+    parsing_of r xs ≡ Ok n ↔ Taken decimal_limit xs × SeparatorsPlaced r t × (number_of (without_separators t) ≡ Ok n)
 
 -- a text without separators is read by document 01's rule in each reading, so in both alike
 abbrev pub WithoutAsBefore : Type 0

@@ -1,7 +1,7 @@
 -- Document 01's rows 1, 2, 53, 60 and 61 as conditions on a number's text, and the statement that each answer is given exactly when its row
 -- holds, in each reading; `proofs/Given` has the proof. Rows 1 and 2 are said of the text itself. Where separators stand is said of t, which is the
 -- text without white space and in lower case. All else is said of u, which is t without its separators.
-use Rattle.std.specs.Prelude.{◌≡◌, ℕ, ◌<◌, ◌≤◌, Bool, true, ◌⊎◌, ◌↔◌, List, [], ◌∷◌, length}
+use Rattle.std.specs.Prelude.{◌≡◌, ℕ, ◌<◌, ◌≤◌, Bool, true, ◌⊎◌, ◌↔◌, List, [], ◌∷◌, length, Err, Ok}
 use Prim.Native.Char.{code}
 use Rattle.std.specs.Float.{nan, inf}
 use Rattle.std.specs.Float.Ieee.{unlike}
@@ -20,7 +20,6 @@ use Rattle.scan.specs.Sign.{past_sign, is_minus}
 use Rattle.decimal.specs.Value.{outside_exact, radix_of, plain, decimal_limit, nearest_of}
 use Rattle.decimal.specs.laws.Decimal.{Infinite, Nan, Numeric, Spelled, InExact, OutsideExact}
 use Rattle.numeral.specs.Numeral.{between_digits, behind_prefix}
-use Rattle.number.specs.declared.Parsing.TheVariants.{Value, Refused}
 use Rattle.number.specs.White.{plain_text}
 use Rattle.number.specs.Signed.{most_of}
 use Rattle.number.specs.Integer.{unsigned_of, magnitude_of}
@@ -103,15 +102,15 @@ ParsingGiven =
     let p = parsing_of r xs in
     let t = plain_text xs in
     let u = without_separators t in
-    (p ≡ Refused too_long ↔ TooLong decimal_limit xs)
-    × (p ≡ Refused (not_utf8 (place_at xs (prefix_end xs))) ↔ (¬ (TooLong decimal_limit xs)) × NotUtf8 xs)
-    × (p ≡ Refused not_number ↔ Taken decimal_limit xs × ((¬ (SeparatorsPlaced r t)) ⊎ NotNumber u))
-    × (p ≡ Refused outside_i64 ↔ Taken decimal_limit xs × SeparatorsPlaced r t × OutsideI64 u)
-    × (p ≡ Refused outside_exact ↔ Taken decimal_limit xs × SeparatorsPlaced r t × (¬ (Marked u)) × OutsideExact u)
-    × ((n : Number) → p ≡ Value n ↔ Taken decimal_limit xs × SeparatorsPlaced r t × (IntegerIs u n ⊎ DecimalIs u n))
+    (p ≡ Err too_long ↔ TooLong decimal_limit xs)
+    × (p ≡ Err (not_utf8 (place_at xs (prefix_end xs))) ↔ (¬ (TooLong decimal_limit xs)) × NotUtf8 xs)
+    × (p ≡ Err not_number ↔ Taken decimal_limit xs × ((¬ (SeparatorsPlaced r t)) ⊎ NotNumber u))
+    × (p ≡ Err outside_i64 ↔ Taken decimal_limit xs × SeparatorsPlaced r t × OutsideI64 u)
+    × (p ≡ Err outside_exact ↔ Taken decimal_limit xs × SeparatorsPlaced r t × (¬ (Marked u)) × OutsideExact u)
+    × ((n : Number) → p ≡ Ok n ↔ Taken decimal_limit xs × SeparatorsPlaced r t × (IntegerIs u n ⊎ DecimalIs u n))
 
 -- how far refusals reach: none has a greater number, and no place lies beyond the longest text
 abbrev pub ParsingBound : Type 0
 ParsingBound =
-    (r : Reading) (xs : List ℕ) (e : Refusal) → parsing_of r xs ≡ Refused e →
+    (r : Reading) (xs : List ℕ) (e : Refusal) → parsing_of r xs ≡ Err e →
     (e.number ≤ outside_i64.number) × (e.place.byte.0 ≤ decimal_limit) × (e.place.character.0 ≤ decimal_limit)

@@ -1,10 +1,9 @@
 -- Nothing in an accepted query is unaccounted for, as statements; `proofs/` has the proofs. Document 02, L12: "starts ascend, lexemes don't overlap, and each
 -- byte belongs to exactly one lexeme, run of white space or comment; EOF alone is empty", "for every accepted query, in each reading".
-use Rattle.std.specs.Prelude.{ℕ, suc, ◌+◌, ◌≤◌, ◌<◌, false, List, [], ◌∷◌, ◌++◌, map, ◌↔◌, ◌≡◌, length, get_or}
+use Rattle.std.specs.Prelude.{ℕ, suc, ◌+◌, ◌≤◌, ◌<◌, false, List, [], ◌∷◌, ◌++◌, map, ◌↔◌, ◌≡◌, length, get_or, Ok}
 use Rattle.scan.specs.Text.{has}
 use Rattle.utf8.specs.declared.Reading.{Reading}
 use Rattle.token.specs.Kinds.{eof_kind}
-use Rattle.lex.specs.declared.Lexing.TheVariants.{Count}
 use Rattle.lex.specs.Outcome.{Entry}
 use Rattle.lex.specs.Lex.{eof, entries_of, measured, kind_of}
 use Rattle.calls.specs.laws.Calls.{LexCall, lexemes_left}
@@ -43,10 +42,10 @@ pub record Accounted (r : Reading) (q : List ℕ) (es : List Entry) : Type 0 whe
 
 -- that is every accepted query, in each reading, and of every call of `lexer` what an accepted one leaves in its lists
 abbrev pub QueryAccounted : Type 0
-QueryAccounted = (r : Reading) (q : List ℕ) (n : ℕ) → measured r q ≡ Count n → Accounted r q (entries_of r q)
+QueryAccounted = (r : Reading) (q : List ℕ) (n : ℕ) → measured r q ≡ Ok n → Accounted r q (entries_of r q)
 
 abbrev pub CallAccounted : Type 0
-CallAccounted = (r : Reading) (q : List ℕ) (c : LexCall r q) (n : ℕ) → c.result ≡ Count n → Accounted r q (lexemes_left c n)
+CallAccounted = (r : Reading) (q : List ℕ) (c : LexCall r q) (n : ℕ) → c.result ≡ Ok n → Accounted r q (lexemes_left c n)
 
 -- the bytes and the reading alone tell what a highlighter paints grey: whatever pieces a query is made of, the gaps are the same
 abbrev pub SameGaps : Type 0

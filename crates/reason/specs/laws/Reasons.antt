@@ -1,9 +1,8 @@
 -- What a reason says of its word, as statements; `proofs/Conditions`, `proofs/Given` and `proofs/Bounds` have the proofs.
-use Rattle.std.specs.Prelude.{ℕ, ◌≤◌, ◌<◌, List, ◌↔◌, ◌≡◌, get_or}
+use Rattle.std.specs.Prelude.{ℕ, ◌≤◌, ◌<◌, List, ◌↔◌, ◌≡◌, get_or, Err, Ok}
 use Rattle.utf8.specs.declared.Reading.{Reading}
 use Rattle.utf8.specs.declared.Refusal.{Refusal}
 use Rattle.utf8.specs.Answers.{text_limit}
-use Rattle.lex.specs.declared.Lexing.TheVariants as lexing
 use Rattle.lex.specs.Outcome.{Entry}
 use Rattle.lex.specs.Lex.{eof, entries_of, measured}
 use Rattle.calls.specs.laws.Calls.{LexCall, kinds_left}
@@ -26,7 +25,7 @@ Holds r q number reason = Applies q (entries_of r q) (lexeme_of r q number) reas
 
 -- "The reason is proved to be the rule that applies": in an accepted query that has the lexeme, a reason is given exactly when it holds
 abbrev pub ReasonGiven : Type 0
-ReasonGiven = (r : Reading) (q : List ℕ) (number reason n : ℕ) → measured r q ≡ lexing.Count n → number < n → reasoned r number q ≡ Reason reason ↔ Holds r q number reason
+ReasonGiven = (r : Reading) (q : List ℕ) (number reason n : ℕ) → measured r q ≡ Ok n → number < n → reasoned r number q ≡ Reason reason ↔ Holds r q number reason
 
 -- every word has a reason, and nothing else has
 abbrev pub WordsReasoned : Type 0
@@ -34,16 +33,16 @@ WordsReasoned = (q : List ℕ) (es : List Entry) (e : Entry) → IsWord q es e �
 
 -- "Refusals: those of lexing", whatever the number,
 abbrev pub LexingRefused : Type 0
-LexingRefused = (r : Reading) (q : List ℕ) (number : ℕ) (refusal : Refusal) → measured r q ≡ lexing.Refused refusal → reasoned r number q ≡ Refused refusal
+LexingRefused = (r : Reading) (q : List ℕ) (number : ℕ) (refusal : Refusal) → measured r q ≡ Err refusal → reasoned r number q ≡ Refused refusal
 
 -- "then 72 no such lexeme", exactly where the number is at the count or past it,
 abbrev pub NoLexemeGiven : Type 0
-NoLexemeGiven = (r : Reading) (q : List ℕ) (number n : ℕ) → measured r q ≡ lexing.Count n → reasoned r number q ≡ no_lexeme ↔ n ≤ number
+NoLexemeGiven = (r : Reading) (q : List ℕ) (number n : ℕ) → measured r q ≡ Ok n → reasoned r number q ≡ no_lexeme ↔ n ≤ number
 
 -- "74 not a word", exactly where the lexeme is none
 abbrev pub NoWordGiven : Type 0
 NoWordGiven =
-    (r : Reading) (q : List ℕ) (number n : ℕ) → measured r q ≡ lexing.Count n → number < n →
+    (r : Reading) (q : List ℕ) (number n : ℕ) → measured r q ≡ Ok n → number < n →
     reasoned r number q ≡ no_word ↔ ¬ (IsWord q (entries_of r q) (lexeme_of r q number))
 
 -- the kind of the lexeme is the one that the reason gives, and so is that which any accepted call of `lexer` writes for it
@@ -52,7 +51,7 @@ ReasonKind = (r : Reading) (q : List ℕ) (number reason : ℕ) → reasoned r n
 
 abbrev pub CallKind : Type 0
 CallKind =
-    (r : Reading) (q : List ℕ) (number reason n : ℕ) (c : LexCall r q) → c.result ≡ lexing.Count n → reasoned r number q ≡ Reason reason →
+    (r : Reading) (q : List ℕ) (number reason n : ℕ) (c : LexCall r q) → c.result ≡ Ok n → reasoned r number q ≡ Reason reason →
     Gives (text_of q (lexeme_of r q number)) reason (get_or (kinds_left c) number 0)
 
 -- a reason is one of seven; a refusal's number and place are small

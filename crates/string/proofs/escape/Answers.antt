@@ -6,9 +6,10 @@ use mathlib.Core.Logic.{inl, inr}
 use mathlib.Core.Path.{◌≡◌, refl, ap}
 use lib.Dec.{leb}
 use lib.ListN.{length, length-append}
+use Rattle.utf8.specs.declared.Refusal.{Refusal}
+use Rattle.utf8.specs.declared.CharNumber.{CharNumber}
+use Rattle.std.specs.Prelude.{Err, Ok, Result}
 use Rattle.proving.proofs.Choice.{either}
-use Rattle.utf8.specs.declared.Admission.{Admission}
-use Rattle.utf8.specs.declared.Admission.TheVariants as admission
 use Rattle.utf8.specs.Answers.{text_limit, admitted}
 use Rattle.utf8.proofs.Given.{admitted_text}
 use Rattle.string.specs.Escape.{escaped, escaping_as, escaping_of}
@@ -25,9 +26,9 @@ pub escape_answers : EscapeAnswers
 unfolding escaping_of
 escape_answers room xs = go (admitted text_limit xs) refl
   where
-    go : (a : Admission) → admitted text_limit xs ≡ a → EscapeTells xs (escaping_as room xs a)
-    go (admission.Admitted n) e =
+    go : (a : Result CharNumber Refusal) → admitted text_limit xs ≡ a → EscapeTells xs (escaping_as room xs a)
+    go (Ok n) e =
         let t = admitted_text text_limit xs n e in
         let k = ap length (by_characters_escaped xs t.1) in
         either (EscapeTells xs) (leb (length (escaped xs)) room) (λ f. (t, refl, omega (arith, k, escaped_few xs))) (λ f. inr refl)
-    go (admission.Refused r) e = inl e
+    go (Err r) e = inl e

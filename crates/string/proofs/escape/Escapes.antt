@@ -14,6 +14,7 @@ use lib.Dec.{ltb}
 use lib.ListN.{length, get_or, drop}
 use lib.Seq.{take-length, drop-cons, sets, sets-eq}
 use borrow.Author.Tests.{ne_eqb, le-leb, lt-leb, lt-ltb}
+use Rattle.std.specs.Prelude.{Err, Ok}
 use Rattle.scan.specs.Ascii.{ascii}
 use Rattle.scan.specs.Byte.{peek_at, backslash, double_quote}
 use Rattle.proving.proofs.Choice.{either, and_left, and_right}
@@ -22,7 +23,6 @@ use Rattle.utf8.specs.Code.{code_of, encoded}
 use Rattle.utf8.specs.Text.{WellFormed}
 use Rattle.utf8.specs.declared.CharNumber.{CharNumber}
 use Rattle.utf8.specs.declared.Refusal.{Refusal}
-use Rattle.utf8.specs.declared.Admission.TheVariants as admission
 use Rattle.utf8.specs.Answers.{text_limit, no_room, admitted}
 use Rattle.utf8.specs.laws.Characters.{One}
 use Rattle.utf8.proofs.Texts.{chars_one, by_characters}
@@ -30,7 +30,6 @@ use Rattle.utf8.proofs.Laws.{steps, none_empty, rest_well, none_ascii, ascii_cod
 use Rattle.utf8.proofs.Ascii.{ascii_text, one_ascii}
 use Rattle.utf8.proofs.Given.{admitted_text}
 use Rattle.utf8.proofs.Inverse.{decode_encode, long_code}
-use Rattle.utf8.specs.declared.Writing.TheVariants.{Written, Refused}
 use Rattle.utf8.specs.Writing.{left_by}
 use Rattle.string.specs.Letters.{looked_up, letter_value, is_for, letter_among, letter_of}
 use Rattle.string.specs.Escape.{or_letter, escaped, escaping_of}
@@ -167,21 +166,21 @@ escaped_text xs w = rw (by_characters_escaped xs w) (go xs w)
 
 -- the answers, by what is admitted and the room
 module _ (xs d : List ℕ) where
-  pub refused_first : (r : Refusal) → admitted text_limit xs ≡ admission.Refused r → Refused r ≡ escaping_of (length d) xs
+  pub refused_first : (r : Refusal) → admitted text_limit xs ≡ Err r → Err r ≡ escaping_of (length d) xs
   unfolding escaping_of
   refused_first r a = rw a
 
-  module _ (n : CharNumber) (a : admitted text_limit xs ≡ admission.Admitted n) where
+  module _ (n : CharNumber) (a : admitted text_limit xs ≡ Ok n) where
     by_bytes : escaped xs ≡ escaped_bytes xs
     by_bytes = by_characters_escaped xs (admitted_text text_limit xs n a).1
 
-    pub not_fitted : length d < length (escaped_bytes xs) → Refused no_room ≡ escaping_of (length d) xs
+    pub not_fitted : length d < length (escaped_bytes xs) → Err no_room ≡ escaping_of (length d) xs
     unfolding escaping_of
     not_fitted h = rw (a, by_bytes, lt-leb (length (escaped_bytes xs)) (length d) h)
 
-    pub written : length (escaped_bytes xs) ≤ length d → Written (length (escaped_bytes xs)) ≡ escaping_of (length d) xs
+    pub written : length (escaped_bytes xs) ≤ length d → Ok (length (escaped_bytes xs)) ≡ escaping_of (length d) xs
     unfolding escaping_of
     written h = rw (a, by_bytes, le-leb (length (escaped_bytes xs)) (length d) h)
 
-    pub left : length (escaped_bytes xs) ≤ length d → sets d 0 (escaped_bytes xs) ≡ left_by (Written (length (escaped_bytes xs))) (escaped xs) d
+    pub left : length (escaped_bytes xs) ≤ length d → sets d 0 (escaped_bytes xs) ≡ left_by (Ok (length (escaped_bytes xs))) (escaped xs) d
     left h = rw by_bytes (sets-eq (escaped_bytes xs) d 0 (omega arith) ∙ rw zero-add)

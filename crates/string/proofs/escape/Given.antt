@@ -9,13 +9,13 @@ use mathlib.Core.Path.{◌≡◌, refl}
 use lib.Dec.{eqb}
 use lib.ListN.{length}
 use borrow.Author.Tests.{le-leb, lt-leb}
+use Rattle.utf8.specs.declared.Refusal.{Refusal}
+use Rattle.std.specs.Prelude.{Err, Ok, Result}
 use Rattle.proving.proofs.Choice.{exactly}
 use Rattle.utf8.specs.Text.{prefix_end, WellFormed}
 use Rattle.utf8.specs.Answers.{text_limit, place_at, too_long, not_utf8, no_room}
 use Rattle.utf8.specs.laws.Refusals.{TooLong, NotUtf8, NoRoom, Taken}
 use Rattle.utf8.proofs.Given.{given_exactly}
-use Rattle.utf8.specs.declared.Writing.{Writing}
-use Rattle.utf8.specs.declared.Writing.TheVariants.{Written, Refused}
 use Rattle.string.specs.Escape.{escaped, escaping_of}
 use Rattle.string.specs.laws.Escape.{EscapingGiven}
 
@@ -25,9 +25,9 @@ data Row : Type 0 where
   short : Row
   written : Row
 
-abbrev row_of : Writing → Row
-row_of (Written n) = written
-row_of (Refused r) = cond (eqb r.number 1) long (cond (eqb r.number 2) broken short)
+abbrev row_of : Result ℕ Refusal → Row
+row_of (Ok n) = written
+row_of (Err r) = cond (eqb r.number 1) long (cond (eqb r.number 2) broken short)
 
 module _ (room : ℕ) (xs : List ℕ) where
   abbrev Holds : Row → Type 0
@@ -36,11 +36,11 @@ module _ (room : ℕ) (xs : List ℕ) where
   Holds short = Taken text_limit xs × NoRoom room (escaped xs)
   Holds written = Taken text_limit xs × (NoRoom room (escaped xs) → ⊥)
 
-  abbrev given : Row → Writing
-  given long = Refused too_long
-  given broken = Refused (not_utf8 (place_at xs (prefix_end xs)))
-  given short = Refused no_room
-  given written = Written (length (escaped xs))
+  abbrev given : Row → Result ℕ Refusal
+  given long = Err too_long
+  given broken = Err (not_utf8 (place_at xs (prefix_end xs)))
+  given short = Err no_room
+  given written = Ok (length (escaped xs))
 
   back : (w : Row) → row_of (given w) ≡ w
   back long = refl

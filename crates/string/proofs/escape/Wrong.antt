@@ -6,6 +6,8 @@ use native.Mathlib.Omega.{arith}
 use mathlib.Core.List.{List, [], ◌∷◌}
 use mathlib.Core.Path.{◌≡◌, ap₂, ◌∙◌}
 use lib.ListN.{length, replicate, length-replicate}
+use Rattle.utf8.specs.declared.Refusal.{Refusal}
+use Rattle.std.specs.Prelude.{Err, Ok, Result}
 use Rattle.scan.specs.Ascii.{ascii}
 use Rattle.scan.specs.Byte.{is_within}
 use Rattle.proving.proofs.One.{Answers, Leaves}
@@ -13,8 +15,6 @@ use Rattle.utf8.specs.Table.{fits, size_in, char_length}
 use Rattle.utf8.specs.Code.{code_of, six_bits, encoded}
 use Rattle.utf8.specs.Text.{chars_past, size_of, begun_in, char_number}
 use Rattle.utf8.specs.Answers.{place, at_start, not_utf8, validity_of, admitted}
-use Rattle.utf8.specs.declared.Writing.{Writing}
-use Rattle.utf8.specs.declared.Writing.TheVariants.{Written, Refused}
 use Rattle.utf8.specs.Writing.{left_by}
 use Rattle.string.specs.Letters.{looked_up, letter_value, letter_among, letter_of}
 use Rattle.string.specs.Escape.{escaped, escaping_of}
@@ -23,7 +23,7 @@ use Rattle.string.proofs.escape.escape_string.Kinds as escape_string
 use Rattle.string.proofs.escape.escape_string.Reads as escape_string_reads
 
 -- of a text, with a buffer of so many bytes
-abbrev escape_string_gives : List ℕ → ℕ → Writing → Type 0
+abbrev escape_string_gives : List ℕ → ℕ → Result ℕ Refusal → Type 0
 escape_string_gives xs room v =
     Answers escape_string.ps escape_string.r escape_string_reads.Post (λ κs a. (a.0.now ≡ xs) × (length a.1.0.now ≡ room)) (λ κs. v)
 
@@ -31,30 +31,30 @@ escape_string_at : (xs : List ℕ) (room : ℕ) → escape_string_gives xs room 
 unfolding escaping_of letter_of letter_among letter_value looked_up encoded six_bits admitted validity_of char_number begun_in chars_past size_of char_length size_in fits code_of is_within
 escape_string_at xs room κs a x e p h = p.0 ∙ ap₂ escaping_of h.1 h.0
 
-pub text_that_has_room_is_written : escape_string_gives (ascii "a") 3 (Written 1)
+pub text_that_has_room_is_written : escape_string_gives (ascii "a") 3 (Ok 1)
 unfolding escape_string_at
 text_that_has_room_is_written = escape_string_at _ _
 
-pub room_of_just_the_length_is_enough : escape_string_gives (ascii "ab") 2 (Written 2)
+pub room_of_just_the_length_is_enough : escape_string_gives (ascii "ab") 2 (Ok 2)
 unfolding escape_string_at
 room_of_just_the_length_is_enough = escape_string_at _ _
 
-pub text_without_room_is_refused_as_3 : escape_string_gives (ascii "a") 0 (Refused (at_start 3))
+pub text_without_room_is_refused_as_3 : escape_string_gives (ascii "a") 0 (Err (at_start 3))
 unfolding escape_string_at
 text_without_room_is_refused_as_3 = escape_string_at _ _
 
-pub quote_is_escaped : escape_string_gives (ascii "\"") 2 (Written 2)
+pub quote_is_escaped : escape_string_gives (ascii "\"") 2 (Ok 2)
 unfolding escape_string_at
 quote_is_escaped = escape_string_at _ _
 
-pub single_quote_is_copied : escape_string_gives (ascii "'") 2 (Written 1)
+pub single_quote_is_copied : escape_string_gives (ascii "'") 2 (Ok 1)
 unfolding escape_string_at
 single_quote_is_copied = escape_string_at _ _
 
-pub text_of_65536_bytes_is_too_long : escape_string_gives (replicate 65536 (code "a")) 0 (Refused (at_start 1))
+pub text_of_65536_bytes_is_too_long : escape_string_gives (replicate 65536 (code "a")) 0 (Err (at_start 1))
 text_of_65536_bytes_is_too_long κs a x e p h = escape_string_at _ _ κs a x e p h ∙ (escaping_given _ _).0.1 (rw length-replicate (omega arith))
 
-pub text_that_is_not_utf8_is_refused_where_it_breaks_off : escape_string_gives (code "a" ∷ 0xc3 ∷ []) 3 (Refused (not_utf8 (place 1 1)))
+pub text_that_is_not_utf8_is_refused_where_it_breaks_off : escape_string_gives (code "a" ∷ 0xc3 ∷ []) 3 (Err (not_utf8 (place 1 1)))
 unfolding escape_string_at
 text_that_is_not_utf8_is_refused_where_it_breaks_off = escape_string_at _ _
 

@@ -8,8 +8,8 @@ use mathlib.Core.Path.{◌≡◌, refl, sym, ap, ◌∙◌}
 use lib.ListN.{length}
 use lib.Dec.{leb}
 use borrow.Author.Tests.{leb-true}
-use Rattle.utf8.specs.declared.Writing.{Writing}
-use Rattle.utf8.specs.declared.Writing.TheVariants.{Written}
+use Rattle.utf8.specs.declared.Refusal.{Refusal}
+use Rattle.std.specs.Prelude.{Ok, Result}
 use Rattle.utf8.specs.declared.Reading.{Reading}
 use Rattle.utf8.specs.declared.Reading.TheVariants.{Crate, Documented}
 use Rattle.utf8.specs.Code.{is_scalar, encoded}
@@ -70,7 +70,7 @@ module _ (c : After-encode-e) where
   fits : a.args.at + length (encoded a.args.value) ≤ length a.args.out.now
   fits = omega (arith, a.requires.value_in_bounds, ap length its)
 
-  written : c.encode-e.result ≡ Written (length (encoded a.args.value))
+  written : c.encode-e.result ≡ Ok (length (encoded a.args.value))
   written = c.encode-e.ensures.value ∙ encoding_fits a.args.value (length a.args.out.now) a.args.at (scalar a.args.form a.args.value a.requires.value_value) fits
 
 pub returns-in_default : goal.returns-in_default
@@ -90,5 +90,5 @@ returns c =
     let out = (a d).args.out.now in
     rw (size c, its d) record {
       value = refl;
-      out_after = d.encode-e.ensures.out_after ∙ ap (λ (e : Writing). left_at (a d).args.at e (encoded (a d).args.value) out) (written d) ∙ written_sets (encoded (a d).args.value) out (a d).args.at (fits d);
+      out_after = d.encode-e.ensures.out_after ∙ ap (λ (e : Result ℕ Refusal). left_at (a d).args.at e (encoded (a d).args.value) out) (written d) ∙ written_sets (encoded (a d).args.value) out (a d).args.at (fits d);
     }

@@ -1,10 +1,9 @@
 -- Document 01's rows 1, 2, 40 and 3 as conditions on a literal, with the place of 40 by document 02, L1, and the statement that each answer is
 -- given exactly when its row holds; `proofs/Given`, `proofs/Answers`, `proofs/There`, `proofs/Faults` and `proofs/Before` have the proofs. "Order: 1, 2,
 -- the reading left to right (first refusal wins), 3."
-use Rattle.std.specs.Prelude.{ℕ, suc, ◌+◌, ◌-◌, ◌<◌, ◌≤◌, List, [], ◌∷◌, ◌++◌, ◌↔◌, ◌⊎◌, ◌≡◌, length, take, drop}
+use Rattle.std.specs.Prelude.{ℕ, suc, ◌+◌, ◌-◌, ◌<◌, ◌≤◌, List, [], ◌∷◌, ◌++◌, ◌↔◌, ◌⊎◌, ◌≡◌, length, take, drop, Err}
 use Rattle.scan.specs.Byte.{peek_at, backslash, backquote, double_quote, single_quote}
 use Rattle.scan.specs.Text.{Stands}
-use Rattle.utf8.specs.declared.Admission.TheVariants as admission
 use Rattle.utf8.specs.declared.Reading.{Reading}
 use Rattle.utf8.specs.Text.{prefix_end, WellFormed}
 use Rattle.utf8.specs.Answers.{text_limit, place_at, too_long, not_utf8, no_room, admitted}
@@ -139,7 +138,7 @@ abbrev pub LiteralTells : Reading → List ℕ → Unquoting → Type 0
 LiteralTells r xs (Inner n) = Taken text_limit xs × (n ≡ length (inner_of xs)) × (n ≤ length xs)
 LiteralTells r xs (Written n) = Taken text_limit xs × (n ≡ length (unquoted r xs)) × (n ≤ length xs)
 LiteralTells r xs (Refused s) =
-    (admitted text_limit xs ≡ admission.Refused s) ⊎ (Taken text_limit xs × ((p : ℕ) × ((p < length xs) ⊎ (p ≡ 0)) × (s ≡ bad_literal xs p))) ⊎ (s ≡ no_room)
+    (admitted text_limit xs ≡ Err s) ⊎ (Taken text_limit xs × ((p : ℕ) × ((p < length xs) ⊎ (p ≡ 0)) × (s ≡ bad_literal xs p))) ⊎ (s ≡ no_room)
 
 abbrev pub LiteralAnswers : Type 0
 LiteralAnswers = (r : Reading) (room : ℕ) (xs : List ℕ) → LiteralTells r xs (unquoting_of r room xs)

@@ -8,8 +8,8 @@ use mathlib.Core.Path.{◌≡◌, sym, ap, ◌∙◌}
 use borrow.Author.Tests.{eq-eqb, ne_eqb, lt-ltb, le-ltb}
 use lib.ListN.{length, get_or, take, drop, length-drop}
 use lib.Seq.{length-take-le}
+use Rattle.std.specs.Prelude.{None, Some}
 use Rattle.scan.specs.Byte.{lowered}
-use Rattle.token.specs.declared.Keyword.TheVariants.{Kind, Nothing}
 use Rattle.token.specs.steps.WordRows.{word_count, widest_word, word_row, slots_from, slot_count, table_size, slot_of, is_row, row_in, number_in, found_at, keyword_in}
 use Rattle.token.proofs.keyword_in.Goals as goal
 use Rattle.token.proofs.keyword_in.Goals.{After-row-1, After-slot_of-slot}
@@ -95,11 +95,11 @@ module _ (c : After-row-1) where
   part_length : length part ≡ word_row
   part_length = ap length part_is ∙ length-take-le word_row (drop from (table at)) (omega (arith, length-drop from (table at)))
 
-  row_says : keyword_in (table at) (word at) ≡ cond (is_row part (map lowered (word at))) (Kind (get_or part (suc widest_word) 0)) Nothing
+  row_says : keyword_in (table at) (word at) ≡ cond (is_row part (map lowered (word at))) (Some (get_or part (suc widest_word) 0)) None
   unfolding found_at
   row_says =
       found at
-      ∙ rw (lt-ltb (number at) word_count c.if-number-ge-WORD_COUNT.false) (ap (λ (r : List ℕ). cond (is_row r (map lowered (word at))) (Kind (get_or r (suc widest_word) 0)) Nothing) (sym part_is))
+      ∙ rw (lt-ltb (number at) word_count c.if-number-ge-WORD_COUNT.false) (ap (λ (r : List ℕ). cond (is_row r (map lowered (word at))) (Some (get_or r (suc widest_word) 0)) None) (sym part_is))
 
 pub is_row-requires : goal.is_row-requires
 is_row-requires c = (part_length c, omega arith)

@@ -8,7 +8,7 @@ use mathlib.Core.List.{List}
 use lib.ListN.{length, get_or, set, take}
 use lib.Seq.{take-length, length-take-le, length_front, paste-suc}
 use borrow.Author.Tests.{le-leb, lt-leb}
-use Rattle.utf8.specs.declared.Writing.TheVariants.{Written, Refused}
+use Rattle.std.specs.Prelude.{Err, Ok}
 use Rattle.utf8.specs.Answers.{no_room}
 use Rattle.utf8.specs.Writing.{fitted}
 use Rattle.token.proofs.put.Goals as goal
@@ -24,10 +24,10 @@ module _ (xs d : List ℕ) (room : length xs ≤ length d) where
   front_more i h =
       rw add-one (simp zero-add at (paste-suc d 0 xs i 0 (omega arith) h))
 
-  fits : fitted (length d) xs ≡ Written (length xs)
+  fits : fitted (length d) xs ≡ Ok (length xs)
   fits = rw (le-leb (length xs) (length d) room)
 
-lacks_room : (xs d : List ℕ) → length d < length xs → fitted (length d) xs ≡ Refused no_room
+lacks_room : (xs d : List ℕ) → length d < length xs → fitted (length d) xs ≡ Err no_room
 lacks_room xs d h = rw (lt-leb (length xs) (length d) h)
 
 same_size : (c : At-loop-i) → length c.loop-i.out ≡ length c.args.out.now
@@ -39,7 +39,7 @@ pub returns-then-out-n : goal.returns-then-out-n
 returns-then-out-n c =
     let a = c.args in
     record {
-      value = ap Refused c.at_start.ensures ∙ sym (lacks_room a.text.now a.out.now c.if-out-n.true);
+      value = ap Err c.at_start.ensures ∙ sym (lacks_room a.text.now a.out.now c.if-out-n.true);
       out_after = refl;
     }
 

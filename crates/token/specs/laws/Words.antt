@@ -1,9 +1,7 @@
 -- What the crates above may know of words, as statements; `proofs/Lookup`, `proofs/Fits` and `proofs/Table` have their proofs.
-use Rattle.std.specs.Prelude.{ℕ, ◌<◌, ◌≤◌, true, List, ◌⊎◌, ◌≡◌, length, get_or}
+use Rattle.std.specs.Prelude.{ℕ, ◌<◌, ◌≤◌, true, List, ◌⊎◌, ◌≡◌, length, get_or, None, Option, Some}
 use Prim.Native.Char.{code}
 use Rattle.scan.specs.Text.{same_text, has}
-use Rattle.token.specs.declared.Keyword.{Keyword}
-use Rattle.token.specs.declared.Keyword.TheVariants.{Kind, Nothing}
 use Rattle.token.specs.Kinds.{number, land, end_kind}
 use Rattle.token.specs.Words.{KindText, ◌names◌, words, kind_in, keyword_of}
 use Rattle.token.specs.steps.WordRows.{word_table, keyword_in}
@@ -13,9 +11,9 @@ abbrev pub TableFinds : Type 0
 TableFinds = (xs : List ℕ) → keyword_in word_table xs ≡ keyword_of xs
 
 -- the kind of a word, if any, is that of numbers, or one from that of `and` to that of `end`
-abbrev pub KindFits : Keyword → Type 0
-KindFits (Kind k) = (k ≡ number) ⊎ ((land ≤ k) × (k ≤ end_kind))
-KindFits Nothing = Unit {0}
+abbrev pub KindFits : Option ℕ → Type 0
+KindFits (Some k) = (k ≡ number) ⊎ ((land ≤ k) × (k ≤ end_kind))
+KindFits None = Unit {0}
 
 abbrev pub KeywordFits : Type 0
 KeywordFits = (xs : List ℕ) → KindFits (keyword_of xs)
@@ -31,12 +29,12 @@ OneEntry =
 
 -- and its kind is the word's
 abbrev pub EntryFound : Type 0
-EntryFound = (w : List ℕ) (i : ℕ) → i < length words → same_text w (word_at i).text ≡ true → kind_in words w ≡ Kind (word_at i).kind
+EntryFound = (w : List ℕ) (i : ℕ) → i < length words → same_text w (word_at i).text ≡ true → kind_in words w ≡ Some (word_at i).kind
 
 -- a word that is no row's text has none
 abbrev pub NoneFound : Type 0
-NoneFound = (w : List ℕ) → ((i : ℕ) → i < length words → same_text w (word_at i).text ≡ true → ⊥) → kind_in words w ≡ Nothing
+NoneFound = (w : List ℕ) → ((i : ℕ) → i < length words → same_text w (word_at i).text ≡ true → ⊥) → kind_in words w ≡ None
 
 -- and one with a colon is none
 abbrev pub ColonInNone : Type 0
-ColonInNone = (xs : List ℕ) → has (code ":") xs ≡ true → keyword_of xs ≡ Nothing
+ColonInNone = (xs : List ℕ) → has (code ":") xs ≡ true → keyword_of xs ≡ None

@@ -1,12 +1,10 @@
 -- The table of words as the code has it, to be lent: rows of the padded word, its length and its kind, one after the other, and behind them slots, in
 -- which each word finds the number of its row. It is compared with that row alone. That by the table of `words` the search finds what
 -- `keyword_of` says is a law (`specs/laws/Words`).
-use Rattle.std.specs.Prelude.{ℕ, zero, suc, ◌+◌, ◌-◌, ◌*◌, ◌%◌, Bool, cond, ◌&&◌, ◌||◌, List, [], ◌∷◌, ◌++◌, map, eqb, ltb, length, get_or, take, drop}
+use Rattle.std.specs.Prelude.{ℕ, zero, suc, ◌+◌, ◌-◌, ◌*◌, ◌%◌, Bool, cond, ◌&&◌, ◌||◌, List, [], ◌∷◌, ◌++◌, map, eqb, ltb, length, get_or, take, drop, None, Option, Some}
 use Rattle.scan.specs.Ascii.{ascii}
 use Rattle.scan.specs.Byte.{lowered}
 use Rattle.scan.specs.Text.{same_text}
-use Rattle.token.specs.declared.Keyword.{Keyword}
-use Rattle.token.specs.declared.Keyword.TheVariants.{Kind, Nothing}
 use Rattle.token.specs.steps.Padded.{padded}
 use Rattle.token.specs.Words.{KindText, words}
 
@@ -73,13 +71,13 @@ abbrev pub number_in : List ℕ → List ℕ → ℕ
 number_in t w = get_or t (slots_from + slot_of w) 0
 
 -- what the row of a number says of a word
-unfoldable pub found_at : ℕ → List ℕ → List ℕ → Keyword
-found_at i t w = cond (ltb i word_count && is_row (row_in t i) w) (Kind (get_or (row_in t i) (suc widest_word) 0)) Nothing
+unfoldable pub found_at : ℕ → List ℕ → List ℕ → Option ℕ
+found_at i t w = cond (ltb i word_count && is_row (row_in t i) w) (Some (get_or (row_in t i) (suc widest_word) 0)) None
 
 -- no word is empty, or longer than the longest; and a table that is too short has none
 abbrev pub is_out_of_table : List ℕ → List ℕ → Bool
 is_out_of_table t xs = eqb (length xs) 0 || (ltb widest_word (length xs) || ltb (length t) table_size)
 
 -- the search of a table for a word, letters lowered
-unfoldable pub keyword_in : List ℕ → List ℕ → Keyword
-keyword_in t xs = let w = map lowered xs in cond (is_out_of_table t xs) Nothing (found_at (number_in t w) t w)
+unfoldable pub keyword_in : List ℕ → List ℕ → Option ℕ
+keyword_in t xs = let w = map lowered xs in cond (is_out_of_table t xs) None (found_at (number_in t w) t w)

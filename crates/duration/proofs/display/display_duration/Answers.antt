@@ -3,9 +3,9 @@ use native.Mathlib.Omega.{arith}
 use mathlib.Core.Bool.{false}
 use mathlib.Core.Path.{◌≡◌, refl, sym, ap, ◌∙◌}
 use lib.ListN.{length}
+use Rattle.std.specs.Prelude.{Err}
 use Rattle.scan.specs.Ascii.{ascii}
 use Rattle.duration.specs.declared.span.Duration.{Duration}
-use Rattle.utf8.specs.declared.Writing.TheVariants.{Refused}
 use Rattle.duration.specs.Display.{duration_text}
 use Rattle.duration.specs.steps.Display.{chained, texts_of}
 use Rattle.duration.proofs.display.Steps.{stored_put, chained_size, text_zero, text_written}
@@ -30,7 +30,7 @@ size c =
 
 pub returns-then-duration-ge-NANOS_A_SECOND : goal.returns-then-duration-ge-NANOS_A_SECOND
 returns-then-duration-ge-NANOS_A_SECOND c = record {
-  value = ap Refused c.at_start.ensures ∙ sym (over_range _ c.args.duration c.if-duration-ge-NANOS_A_SECOND.true);
+  value = ap Err c.at_start.ensures ∙ sym (over_range _ c.args.duration c.if-duration-ge-NANOS_A_SECOND.true);
   out_after = refl;
 }
 
@@ -38,7 +38,7 @@ pub returns-then-out-n : goal.returns-then-out-n
 returns-then-out-n c =
     let a = c.args in
     record {
-      value = ap Refused c.at_start-then-out-n.ensures ∙ sym (no_room_left a.duration (omega arith) (length a.out.now) (omega (arith, size (goal.at.returns-then-out-n c).Joined-zero)));
+      value = ap Err c.at_start-then-out-n.ensures ∙ sym (no_room_left a.duration (omega arith) (length a.out.now) (omega (arith, size (goal.at.returns-then-out-n c).Joined-zero)));
       out_after = refl;
     }
 

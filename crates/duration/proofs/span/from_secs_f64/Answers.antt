@@ -8,7 +8,7 @@ use lib.Ieee.{of_bits, le, lt}
 use lib.Ieee.Exact.{HasValue}
 use lib.Ieee.Nearest.{closest}
 use mathlib.Core.Bool.{false}
-use Rattle.duration.specs.declared.span.Conversion.TheVariants.{Lasts}
+use Rattle.std.specs.Prelude.{Some}
 use Rattle.duration.specs.Spans.{duration_at, from_secs, nanos_of, least_timed, two_to64}
 use Rattle.duration.proofs.span.Spans.{too_long_holds, negative, accepted, above_nought, tiny, by_value, by_parts, at_most_a_second, carry}
 use Rattle.duration.proofs.span.from_secs_f64.Goals as goal
@@ -23,7 +23,7 @@ enough : (c : Then-x-2) → T (le least_timed c.args.x)
 unfolding of_bits
 enough c = subst T (sym c.if-x-2.true) tt
 
-accept : (c : Then-x-2) → Lasts (duration_at (nanos_of c.args.x)) ≡ from_secs c.args.x
+accept : (c : Then-x-2) → Some (duration_at (nanos_of c.args.x)) ≡ from_secs c.args.x
 unfolding of_bits
 accept c = accepted c.args.x c.if-x.true (above_nought c.args.x (enough c))
 
@@ -55,7 +55,7 @@ pub returns-then-k-gt63 : goal.returns-then-k-gt63
 returns-then-k-gt63 c =
     let at = (goal.at.returns-then-k-gt63 c).After-dyadic_of-p in
     let p = at.dyadic_of-p.result in
-    ap Lasts
+    ap Some
     (c.whole.ensures
     ∙ ap duration_at (zero-add _ ∙ c.nanos.ensures ∙ by_value at.args.x p.digits (2 ^ p.shift) (pow_pos p.shift) at.dyadic_of-p.ensures.value))
     ∙ accept (goal.at.After-dyadic_of-p at).Then-x-2
@@ -94,7 +94,7 @@ returns-then-x-2 c =
     let b = c.pow2-b.result in
     let B = divides (goal.at.returns-then-x-2 c).After-pow2-b in
     let v = subst (λ (n : ℕ). HasValue at.args.x false d n) (sym c.pow2-b.ensures) at.dyadic_of-p.ensures.value in
-    ap Lasts
+    ap Some
     (c.whole-then-x-2.ensures
     ∙ ap duration_at (ap (λ (n : ℕ). d / b * 1000000000 + n) (nanos_are (goal.at.returns-then-x-2 c).After-nanos-then-x-2) ∙ by_parts d b B ∙ by_value at.args.x d b B v))
     ∙ accept (goal.at.After-dyadic_of-p at).Then-x-2
@@ -104,7 +104,7 @@ pub returns-then-x-3 : goal.returns-then-x-3
 unfolding of_bits
 returns-then-x-3 c =
     let x = c.args.x in
-    ap (λ (n : ℕ). Lasts (duration_at n)) (sym (tiny x c.if-x.true c.if-x-2.false c.if-x-3.true))
+    ap (λ (n : ℕ). Some (duration_at n)) (sym (tiny x c.if-x.true c.if-x-2.false c.if-x-3.true))
     ∙ accepted x c.if-x.true c.if-x-3.true
 
 pub returns-else-x-3 : goal.returns-else-x-3

@@ -4,8 +4,9 @@ use Prim.Native.Nat.{ℕ}
 use mathlib.Core.List.{List}
 use mathlib.Core.Path.{◌≡◌, sym, ap, ◌∙◌}
 use lib.ListN.{length}
+use Rattle.utf8.specs.declared.Refusal.{Refusal}
+use Rattle.std.specs.Prelude.{Result}
 use Rattle.duration.specs.declared.span.Duration.{Duration}
-use Rattle.utf8.specs.declared.Writing.{Writing}
 use Rattle.utf8.specs.Writing.{left_by, not_written}
 use Rattle.duration.specs.Display.{duration_text, displaying_of}
 use Rattle.exports.specs.Packed.{packed_of}
@@ -21,15 +22,15 @@ module _ (c : After-display_duration-d) where
   abbrev shown : Duration
   shown = duration_of c.args.secs c.args.nanos
 
-  abbrev answer : Writing
+  abbrev answer : Result ℕ Refusal
   answer = displaying_of (length lent) shown
 
   -- the code of the answer in whose arm we are
-  code_is : (d : Writing) → c.display_duration-d.result ≡ d → written_code d ≡ written_code answer
+  code_is : (d : Result ℕ Refusal) → c.display_duration-d.result ≡ d → written_code d ≡ written_code answer
   code_is d t = ap written_code (sym t ∙ c.display_duration-d.ensures.value)
 
   left_is : c.display_duration-d.new.out ≡ left_by answer (duration_text shown) lent
-  left_is = c.display_duration-d.ensures.out_after ∙ ap (λ (d : Writing). left_by d (duration_text shown) lent) c.display_duration-d.ensures.value
+  left_is = c.display_duration-d.ensures.out_after ∙ ap (λ (d : Result ℕ Refusal). left_by d (duration_text shown) lent) c.display_duration-d.ensures.value
 
 pub returns-in_default : goal.returns-in_default
 returns-in_default c =

@@ -1,7 +1,9 @@
 -- It is the code of the answer that it is given, and the duration is written where that is one.
 use Prim.Native.Nat.{ℕ}
 use mathlib.Core.Path.{◌≡◌, sym, ap, ◌∙◌}
-use Rattle.duration.specs.declared.Timing.{Timing}
+use Rattle.utf8.specs.declared.Refusal.{Refusal}
+use Rattle.duration.specs.declared.span.Duration.{Duration}
+use Rattle.std.specs.Prelude.{Result}
 use Rattle.duration.specs.Duration.{not_timed}
 use Rattle.exports.specs.Packed.{packed_of}
 use Rattle.exports.specs.Duration.{duration_code, secs_left, nanos_left}
@@ -17,8 +19,8 @@ module _ (c : Start) where
   abbrev n : ℕ
   n = c.args.nanos.now
 
-  answers : (t : Timing) → c.args.t ≡ t → Tells s n (duration_code t) (secs_left t s) (nanos_left t n) c.args.t
-  answers t e = (ap duration_code (sym e), (ap (λ (u : Timing). secs_left u s) (sym e), ap (λ (u : Timing). nanos_left u n) (sym e)))
+  answers : (t : Result Duration Refusal) → c.args.t ≡ t → Tells s n (duration_code t) (secs_left t s) (nanos_left t n) c.args.t
+  answers t e = (ap duration_code (sym e), (ap (λ (u : Result Duration Refusal). secs_left u s) (sym e), ap (λ (u : Result Duration Refusal). nanos_left u n) (sym e)))
 
 pub returns-in_default : goal.returns-in_default
 returns-in_default c =

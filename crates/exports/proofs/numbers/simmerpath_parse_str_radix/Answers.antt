@@ -3,8 +3,10 @@
 use Prim.Native.Nat.{ℕ}
 use mathlib.Core.List.{List}
 use mathlib.Core.Path.{◌≡◌, sym, ap, ◌∙◌}
+use Rattle.decimal.specs.declared.Number.{Number}
+use Rattle.utf8.specs.declared.Refusal.{Refusal}
+use Rattle.std.specs.Prelude.{Result}
 use Rattle.utf8.specs.declared.Reading.{Reading}
-use Rattle.number.specs.declared.Parsing.{Parsing}
 use Rattle.number.specs.Number.{parsing_of, not_parsed}
 use Rattle.exports.specs.Packed.{packed_of}
 use Rattle.exports.specs.Number.{parse_code, parse_left}
@@ -26,10 +28,10 @@ module _ (c : After-parse_str_radix-p) where
   old = start.args.bits.now
 
   -- the code and what is left are those of the answer in whose arm we are
-  answers : (p : Parsing) → c.parse_str_radix-p.result ≡ p → (parse_code p ≡ parse_code (parsing_of reads xs)) × (parse_left p old ≡ parse_left (parsing_of reads xs) old)
+  answers : (p : Result Number Refusal) → c.parse_str_radix-p.result ≡ p → (parse_code p ≡ parse_code (parsing_of reads xs)) × (parse_left p old ≡ parse_left (parsing_of reads xs) old)
   answers p t =
       let e = sym t ∙ c.parse_str_radix-p.ensures ∙ ap (λ (r : Reading). parsing_of r xs) c.reading_of.ensures in
-      (ap parse_code e, ap (λ (q : Parsing). parse_left q old) e)
+      (ap parse_code e, ap (λ (q : Result Number Refusal). parse_left q old) e)
 
 pub returns-in_default : goal.returns-in_default
 returns-in_default c =

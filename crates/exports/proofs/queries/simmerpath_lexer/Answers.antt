@@ -4,8 +4,9 @@ use Prim.Native.Nat.{ℕ}
 use mathlib.Core.List.{List}
 use mathlib.Core.Path.{◌≡◌, sym, ap, ◌∙◌}
 use lib.ListN.{length}
+use Rattle.utf8.specs.declared.Refusal.{Refusal}
+use Rattle.std.specs.Prelude.{Result}
 use Rattle.utf8.specs.declared.Reading.{Reading}
-use Rattle.lex.specs.declared.Lexing.{Lexing}
 use Rattle.lex.specs.Outcome.{Entry}
 use Rattle.lex.specs.Lex.{lexed, listed, left_after, kind_of, starts_at, length_of, depth_of, shortest, not_lexed}
 use Rattle.exports.specs.Packed.{packed_of}
@@ -56,7 +57,7 @@ module _ (c : After-lexer-l) where
   )
 
   -- the code of the answer in whose arm we are
-  code_is : (x : Lexing) → c.lexer-l.result ≡ x → lexer_code x ≡ lexer_code (lexed reads room q)
+  code_is : (x : Result ℕ Refusal) → c.lexer-l.result ≡ x → lexer_code x ≡ lexer_code (lexed reads room q)
   code_is x t = ap lexer_code (sym t ∙ c.lexer-l.ensures.value ∙ ap (λ (r : Reading). lexed r room q) c.reading_of.ensures)
 
 pub returns-in_default : goal.returns-in_default

@@ -1,8 +1,8 @@
 -- What is refused is refused first, with nothing written; then the room decides, by the length of the text escaped byte by byte.
 use mathlib.Core.Path.{refl, sym, ap, ◌∙◌}
 use native.Mathlib.Omega.{arith}
+use Rattle.std.specs.Prelude.{Err}
 use Rattle.utf8.specs.Answers.{text_limit, not_admitted}
-use Rattle.utf8.specs.declared.Writing.TheVariants.{Refused}
 use Rattle.utf8.proofs.Given.{admitted_text}
 use Rattle.string.proofs.escape.Escapes.{refused_first, not_fitted, written, left}
 use Rattle.string.proofs.escape.escape_string.Goals as goal
@@ -12,7 +12,7 @@ returns-in_default c =
     let d = c.args.out.now in
     let e = c.in_default.is in
     record {
-      value = ap Refused (c.not_admitted.ensures ∙ ap not_admitted e) ∙ refused_first _ d _ (sym c.admit-a.ensures ∙ e);
+      value = ap Err (c.not_admitted.ensures ∙ ap not_admitted e) ∙ refused_first _ d _ (sym c.admit-a.ensures ∙ e);
       out_after = refl;
     }
 
@@ -25,7 +25,7 @@ returns-then-out-n c =
     let a = sym c.admit-a.ensures ∙ c.in-Admitted.is in
     let d = c.args.out.now in
     record {
-      value = ap Refused c.at_start.ensures ∙ not_fitted _ d _ a (omega (arith, c.escaped_length-n.ensures));
+      value = ap Err c.at_start.ensures ∙ not_fitted _ d _ a (omega (arith, c.escaped_length-n.ensures));
       out_after = refl;
     }
 
