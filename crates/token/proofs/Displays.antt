@@ -1,22 +1,19 @@
--- Laws of the table of texts, by one test that the check computes: each kind is below `past_kinds` and another than each that follows, and
--- each text is short.
+-- Laws of the table of texts, by one test that the check computes: each kind is another than each that follows, and each text is short.
 use Prim.Native.Nat.{ℕ, ◌≤◌}
-use native.Mathlib.Omega.{arith}
 use mathlib.Core.Bool.{Bool, true, ◌&&◌, not}
 use mathlib.Core.Path.{◌≡◌, refl, sym, ◌∙◌}
 use mathlib.Core.List.{List}
-use lib.Dec.{leb, ltb, eqb, lit≤}
+use lib.Dec.{leb, eqb, lit≤}
 use lib.ListN.{length}
-use borrow.Author.Tests.{leb-true, ltb-true, eq-eqb, eqb-true, eqb-false, not-true}
+use borrow.Author.Tests.{leb-true, eq-eqb, eqb-true, eqb-false, not-true}
 use Rattle.proving.proofs.Choice.{and_left, and_right}
 use Rattle.token.specs.Words.{KindText, ◌names◌, words}
-use Rattle.token.specs.Display.{wordless, own_kinds, displays, text_in, display_of, unknown}
-use Rattle.token.specs.laws.Display.{shown_at, KindsDistinct, KindShown, OtherUnknown, DisplayShort}
-use Rattle.token.specs.steps.DisplayRows.{past_kinds, text_size}
+use Rattle.token.specs.Display.{wordless, own_kinds, displays, text_in}
+use Rattle.token.specs.laws.Display.{shown_at, KindsDistinct, KindShown, OtherUnknown, text_size, DisplayShort}
 use Rattle.token.proofs.Every.{every, distinct, Search, each_found, none_hit, one_hit, hit_found}
 
 abbrev is_shown : KindText → Bool
-is_shown e = ltb e.kind past_kinds && leb (length e.text) text_size
+is_shown e = leb (length e.text) text_size
 
 -- the search for a kind, which is not both of two that differ
 abbrev differs : KindText → KindText → Bool
@@ -55,15 +52,8 @@ pub other_unknown : OtherUnknown
 unfolding text_in
 other_unknown k n = none_hit (searched k) ("" names 0) displays (λ i h e. n i h (eqb-true (shown_at i).kind k e))
 
--- a number above all kinds is unknown
-pub past_kinds_holds : (k : ℕ) → past_kinds ≤ k → display_of k ≡ unknown
-unfolding text_in
-past_kinds_holds k h =
-    each_found (searched k) is_shown (λ xs. xs ≡ unknown) refl
-    (λ e t s. absurd (omega (arith, ltb-true e.kind past_kinds (and_left _ _ t), eqb-true e.kind k s))) displays entries
-
 pub short : DisplayShort
 unfolding text_in
 short k =
     each_found (searched k) is_shown (λ xs. length xs ≤ text_size) (lit≤ tt)
-    (λ e t s. leb-true _ _ (and_right (ltb e.kind past_kinds) _ t)) displays entries
+    (λ e t s. leb-true _ _ t) displays entries

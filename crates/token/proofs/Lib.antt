@@ -1,7 +1,6 @@
 pub mod Padding
 pub mod Every
 pub mod Displays
-pub mod DisplayRows
 pub mod Table
 pub mod Lookup
 pub mod Fits

@@ -1,3 +1,2 @@
-pub mod DisplayRows
 pub mod Padded
 pub mod WordRows

@@ -5,196 +5,143 @@
 pub mod kinds;
 
 ghost use Rattle.std.specs.Prelude.{◌≡◌, map, ◌≤◌, ◌<◌, length};
-ghost use Rattle.scan.specs.Byte.{is_within, lowered};
-ghost use Rattle.utf8.specs.Writing.{fitted, left_by};
+ghost use Rattle.scan.specs.Byte.{lowered};
+ghost use Rattle.utf8.specs.Writing.{left_by};
 ghost use Rattle.token.specs.Classes.{is_operator, is_comparison_operator, is_set_operator, is_aggregator, is_aggregator_with_param};
 ghost use Rattle.token.specs.Display.{display_of, displayed};
-ghost use Rattle.token.specs.steps.DisplayRows.{past_kinds, table};
 ghost use Rattle.token.specs.Words.{keyword_of};
 ghost use Rattle.token.specs.steps.WordRows.{widest_word, word_row, slot_of, word_table, is_row, keyword_in};
 ghost use Rattle.token.specs.Label.{is_label};
 
 use scan::byte;
 use scan::byte::Class;
-use utf8::Writing;
-
-const PAST_KINDS: usize = kinds::T_END as usize + 1;
-
-const DISPLAY_ROW: usize = 14;
-
-const LENGTH_AT: usize = DISPLAY_ROW - 1;
-
-const DISPLAY_TABLE: usize = (PAST_KINDS + 1) * DISPLAY_ROW;
-
-// A row for each number through the last kind and one for all above: the text, padded, and its length.
-const DISPLAYS: [u8; DISPLAY_TABLE] = *b"\
-    <eof>        \x05\
-    {ID}         \x04\
-    {Metric_ID}  \x0b\
-    {Str}        \x05\
-    {Num}        \x05\
-    [du]         \x04\
-    (            \x01\
-    )            \x01\
-    {            \x01\
-    }            \x01\
-    [            \x01\
-    ]            \x01\
-    ,            \x01\
-    :            \x01\
-    =            \x01\
-    unknown token\x0d\
-    unknown token\x0d\
-    unknown token\x0d\
-    unknown token\x0d\
-    unknown token\x0d\
-    +            \x01\
-    -            \x01\
-    *            \x01\
-    /            \x01\
-    %            \x01\
-    ^            \x01\
-    ==           \x02\
-    !=           \x02\
-    <=           \x02\
-    <            \x01\
-    >=           \x02\
-    >            \x01\
-    =~           \x02\
-    !~           \x02\
-    @            \x01\
-    and          \x03\
-    or           \x02\
-    unless       \x06\
-    atan2        \x05\
-    unknown token\x0d\
-    sum          \x03\
-    avg          \x03\
-    count        \x05\
-    min          \x03\
-    max          \x03\
-    group        \x05\
-    stddev       \x06\
-    stdvar       \x06\
-    topk         \x04\
-    bottomk      \x07\
-    count_values \x0c\
-    quantile     \x08\
-    limitk       \x06\
-    limit_ratio  \x0b\
-    unknown token\x0d\
-    unknown token\x0d\
-    unknown token\x0d\
-    unknown token\x0d\
-    unknown token\x0d\
-    unknown token\x0d\
-    offset       \x06\
-    by           \x02\
-    without      \x07\
-    on           \x02\
-    ignoring     \x08\
-    group_left   \x0a\
-    group_right  \x0b\
-    bool         \x04\
-    smoothed     \x08\
-    anchored     \x08\
-    fill         \x04\
-    fill_left    \x09\
-    fill_right   \x0a\
-    unknown token\x0d\
-    unknown token\x0d\
-    unknown token\x0d\
-    unknown token\x0d\
-    unknown token\x0d\
-    unknown token\x0d\
-    unknown token\x0d\
-    start        \x05\
-    end          \x03\
-    unknown token\x0d";
-
-// From lo to hi, both included.
-fn is_between(lo: u16, hi: u16, kind: u16) -> bool
-    ensures { result ≡ is_within lo hi kind }
-{
-    lo <= kind && kind <= hi
-}
+use utf8::Refusal;
 
 // An operator.
+#[tactic(auto, unfolding(scan::specs::Byte::is_within))]
 pub fn is_operator(kind: u16) -> bool
     ensures { result ≡ is_operator kind }
 {
-    is_between(kinds::T_ADD, kinds::T_ATAN2, kind)
+    matches!(kind, kinds::T_ADD..=kinds::T_ATAN2)
 }
 
 // An operator that compares.
+#[tactic(auto, unfolding(scan::specs::Byte::is_within))]
 pub fn is_comparison_operator(kind: u16) -> bool
     ensures { result ≡ is_comparison_operator kind }
 {
-    is_between(kinds::T_EQLC, kinds::T_GTR, kind)
+    matches!(kind, kinds::T_EQLC..=kinds::T_GTR)
 }
 
 // An operator on sets.
+#[tactic(auto, unfolding(scan::specs::Byte::is_within))]
 pub fn is_set_operator(kind: u16) -> bool
     ensures { result ≡ is_set_operator kind }
 {
-    is_between(kinds::T_LAND, kinds::T_LUNLESS, kind)
+    matches!(kind, kinds::T_LAND..=kinds::T_LUNLESS)
 }
 
 // An aggregator.
+#[tactic(auto, unfolding(scan::specs::Byte::is_within))]
 pub fn is_aggregator(kind: u16) -> bool
     ensures { result ≡ is_aggregator kind }
 {
-    is_between(kinds::T_SUM, kinds::T_LIMIT_RATIO, kind)
+    matches!(kind, kinds::T_SUM..=kinds::T_LIMIT_RATIO)
 }
 
 // An aggregator that takes a parameter.
+#[tactic(auto, unfolding(scan::specs::Byte::is_within))]
 pub fn is_aggregator_with_param(kind: u16) -> bool
     ensures { result ≡ is_aggregator_with_param kind }
 {
-    is_between(kinds::T_TOPK, kinds::T_LIMIT_RATIO, kind)
+    matches!(kind, kinds::T_TOPK..=kinds::T_LIMIT_RATIO)
 }
 
-// Writes a text at the front of a lent buffer; nothing where it has no room.
-fn put(text: &[u8], out: &mut [u8]) -> Writing
-    ensures value { result ≡ fitted (length out.old) text.now }
-    ensures out_after { out.new ≡ left_by result text.now out.old }
+// The text that a kind is shown as.
+#[tactic(auto, unfolding(crate::specs::Display::text_in, crate::specs::Display::displays, crate::specs::Display::wordless, crate::specs::Display::own_kinds, crate::specs::Words::words))]
+fn display_of(kind: u16) -> &'static [u8]
+    ensures { result.now ≡ display_of kind }
 {
-    let n = text.len();
-    if out.len() < n {
-        return Writing::Refused(utf8::at_start(utf8::NO_ROOM));
+    match kind {
+        kinds::T_EOF => b"<eof>",
+        kinds::T_IDENTIFIER => b"{ID}",
+        kinds::T_METRIC_IDENTIFIER => b"{Metric_ID}",
+        kinds::T_STRING => b"{Str}",
+        kinds::T_NUMBER => b"{Num}",
+        kinds::T_DURATION => b"[du]",
+        kinds::T_LEFT_PAREN => b"(",
+        kinds::T_RIGHT_PAREN => b")",
+        kinds::T_LEFT_BRACE => b"{",
+        kinds::T_RIGHT_BRACE => b"}",
+        kinds::T_LEFT_BRACKET => b"[",
+        kinds::T_RIGHT_BRACKET => b"]",
+        kinds::T_COMMA => b",",
+        kinds::T_COLON => b":",
+        kinds::T_EQL => b"=",
+        kinds::T_ADD => b"+",
+        kinds::T_SUB => b"-",
+        kinds::T_MUL => b"*",
+        kinds::T_DIV => b"/",
+        kinds::T_MOD => b"%",
+        kinds::T_POW => b"^",
+        kinds::T_EQLC => b"==",
+        kinds::T_NEQ => b"!=",
+        kinds::T_LTE => b"<=",
+        kinds::T_LSS => b"<",
+        kinds::T_GTE => b">=",
+        kinds::T_GTR => b">",
+        kinds::T_EQL_REGEX => b"=~",
+        kinds::T_NEQ_REGEX => b"!~",
+        kinds::T_AT => b"@",
+        kinds::T_LAND => b"and",
+        kinds::T_LOR => b"or",
+        kinds::T_LUNLESS => b"unless",
+        kinds::T_ATAN2 => b"atan2",
+        kinds::T_SUM => b"sum",
+        kinds::T_AVG => b"avg",
+        kinds::T_COUNT => b"count",
+        kinds::T_MIN => b"min",
+        kinds::T_MAX => b"max",
+        kinds::T_GROUP => b"group",
+        kinds::T_STDDEV => b"stddev",
+        kinds::T_STDVAR => b"stdvar",
+        kinds::T_TOPK => b"topk",
+        kinds::T_BOTTOMK => b"bottomk",
+        kinds::T_COUNT_VALUES => b"count_values",
+        kinds::T_QUANTILE => b"quantile",
+        kinds::T_LIMITK => b"limitk",
+        kinds::T_LIMIT_RATIO => b"limit_ratio",
+        kinds::T_OFFSET => b"offset",
+        kinds::T_BY => b"by",
+        kinds::T_WITHOUT => b"without",
+        kinds::T_ON => b"on",
+        kinds::T_IGNORING => b"ignoring",
+        kinds::T_GROUP_LEFT => b"group_left",
+        kinds::T_GROUP_RIGHT => b"group_right",
+        kinds::T_BOOL => b"bool",
+        kinds::T_SMOOTHED => b"smoothed",
+        kinds::T_ANCHORED => b"anchored",
+        kinds::T_FILL => b"fill",
+        kinds::T_FILL_LEFT => b"fill_left",
+        kinds::T_FILL_RIGHT => b"fill_right",
+        kinds::T_START => b"start",
+        kinds::T_END => b"end",
+        _ => b"unknown token",
     }
-    let mut i = 0;
-    while i < n {
-        out[i] = text[i];
-        i += 1;
-    }
-    Writing::Written(n)
-}
-
-// The row that has the text of a kind: that of its number, or the last for a number above all kinds.
-fn row_of(kind: u16) -> usize
-    ensures { (result ≤ past_kinds) × (display_of result ≡ display_of kind) }
-{
-    let row = kind as usize;
-    if row < PAST_KINDS { row } else { PAST_KINDS }
-}
-
-// The rows of all numbers through PAST_KINDS.
-fn display_table() -> [u8; DISPLAY_TABLE]
-    ensures { result ≡ table }
-{
-    DISPLAYS
 }
 
 // Writes the text that a kind is shown as at the front of a lent buffer; nothing where it has no room.
-pub fn token_display(kind: u16, out: &mut [u8]) -> Writing
+pub fn token_display(kind: u16, out: &mut [u8]) -> Result<usize, Refusal>
     ensures value { result ≡ displayed (length out.old) kind }
     ensures out_after { out.new ≡ left_by result (display_of kind) out.old }
 {
-    let table = display_table();
-    let from = row_of(kind) * DISPLAY_ROW;
-    let to = from + table[from + LENGTH_AT] as usize;
-    put(&table[from..to], out)
+    let text = display_of(kind);
+    let n = text.len();
+    if out.len() < n {
+        return Err(utf8::at_start(utf8::NO_ROOM));
+    }
+    out[..n].copy_from_slice(text);
+    Ok(n)
 }
 
 // How many words have a kind, the bytes of the longest, and those of a row of their table.
@@ -262,14 +209,8 @@ const WORDS: [u8; WORD_TABLE] = *b"\
     \x1a\x1b\x1c\x1d\x1e\x1f\x20\x21\x22\x00\x01\x00\x03\x04\x05\x06\
     \x1b\x08\x09\x0a\x0b\x0c\x0d\x0e\x19\x10\x0d\x20\x13\x14\x15\x16";
 
-// The kind that a word has of its own, if any.
-#[derive(Clone, Copy)]
-pub enum Keyword {
-    Kind(u16),
-    Nothing,
-}
-
 // The table of words, to be lent to `keyword_in` for as many words as there are.
+#[tactic(auto, unfolding(crate::specs::steps::Padded::padded, crate::specs::steps::WordRows::row_for, crate::specs::steps::WordRows::slot_of, crate::specs::steps::WordRows::slots_of, crate::specs::steps::WordRows::table_of, crate::specs::steps::WordRows::word_table, crate::specs::Words::words))]
 pub fn words() -> [u8; WORD_TABLE]
     ensures { result ≡ word_table }
 {
@@ -277,6 +218,7 @@ pub fn words() -> [u8; WORD_TABLE]
 }
 
 // The slot of a word, in any case of its letters: by the first, the last and how many there are.
+#[tactic(auto, unfolding(crate::specs::steps::WordRows::slot_of))]
 fn slot_of(word: &[u8]) -> usize
     requires { (0 < length word.now) × (length word.now ≤ widest_word) }
     ensures { result ≡ slot_of (map lowered word.now) }
@@ -288,54 +230,54 @@ fn slot_of(word: &[u8]) -> usize
 }
 
 // Whether a row of the table holds a word, in any case of its letters, which are compared where they stand.
+#[tactic(auto, unfolding(crate::specs::steps::WordRows::is_row))]
 fn is_row(row: &[u8], word: &[u8]) -> bool
     requires { (length row.now ≡ word_row) × (length word.now ≤ widest_word) }
     ensures { result ≡ is_row row.now (map lowered word.now) }
 {
-    let n = word.len();
-    if row[WIDEST_WORD] as usize != n {
+    if row[WIDEST_WORD] as usize != word.len() {
         return false;
     }
-    let mut i = 0;
-    while i < n {
-        if byte::lowered(word[i] as usize) != row[i] as usize {
+    for (i, &letter) in word.iter().enumerate() {
+        if byte::lowered(letter as usize) != row[i] as usize {
             return false;
         }
-        i += 1;
     }
     true
 }
 
-// The kind of a word, in any case of its letters, by a table: that of the one row that the word's slot names, if it holds the word.
-pub fn keyword_in(table: &[u8], word: &[u8]) -> Keyword
+// The kind that a word has of its own, if any, in any case of its letters, by a table: that of the one row that the word's slot names, if it holds the
+// word.
+#[tactic(auto, unfolding(crate::specs::steps::WordRows::found_at, crate::specs::steps::WordRows::keyword_in, crate::specs::steps::WordRows::slot_of))]
+pub fn keyword_in(table: &[u8], word: &[u8]) -> Option<u16>
     ensures { result ≡ keyword_in table.now word.now }
 {
     let n = word.len();
     if n == 0 {
-        return Keyword::Nothing;
+        return None;
     }
     if WIDEST_WORD < n {
-        return Keyword::Nothing;
+        return None;
     }
     if table.len() < WORD_TABLE {
-        return Keyword::Nothing;
+        return None;
     }
     let slot = SLOTS_FROM + slot_of(word);
     let number = table[slot] as usize;
     if WORD_COUNT <= number {
-        return Keyword::Nothing;
+        return None;
     }
     let from = number * WORD_ROW;
     let to = from + WORD_ROW;
     let row = &table[from..to];
     if is_row(row, word) {
-        return Keyword::Kind(row[KIND_AT] as u16);
+        return Some(row[KIND_AT] as u16);
     }
-    Keyword::Nothing
+    None
 }
 
-// The kind of a word, in any case of its letters.
-pub fn get_keyword_token(word: &[u8]) -> Keyword
+// The kind that a word has of its own, if any, in any case of its letters.
+pub fn get_keyword_token(word: &[u8]) -> Option<u16>
     ensures { result ≡ keyword_of word.now }
 {
     let table = words();

@@ -1,4 +1,3 @@
-use Prim.Native.Nat.{◌-◌, ◌≤◌}
 use mathlib.Core.List.{map}
 use mathlib.Core.Path.{◌≡◌}
 use lib.ListN.{length, take, drop}
@@ -9,7 +8,4 @@ use Rattle.token.proofs.is_row.Given as goal
 
 abbrev pub invariant-loop-i : goal.invariant-loop-i
 invariant-loop-i l =
-    (l.i ≤ length l.word) × (l.n ≡ length l.word) × (is_row l.row (map lowered l.word) ≡ same_text (drop l.i (map lowered l.word)) (drop l.i (take (length l.word) l.row)))
-
-abbrev pub decreases-loop-i : goal.decreases-loop-i
-decreases-loop-i l = length l.word - l.i
+    is_row l.row (map lowered l.word) ≡ same_text (drop l.i (map lowered l.word)) (drop l.i (take (length l.word) l.row))

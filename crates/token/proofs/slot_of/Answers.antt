@@ -2,18 +2,10 @@
 use Prim.Native.Nat.{ℕ, ◌-◌, ◌<◌}
 use native.Mathlib.Omega.{arith}
 use mathlib.Core.List.{List}
-use lib.ListN.{length, get_or, length-map}
-use Rattle.scan.specs.Byte.{lowered}
-use Rattle.scan.proofs.byte.Classes.{lowered_at, lowered_below}
-use Rattle.token.specs.steps.WordRows.{slot_of}
+use lib.ListN.{length, get_or}
+use Rattle.scan.proofs.byte.Classes.{lowered_below}
 use Rattle.token.proofs.slot_of.Goals as goal
 use Rattle.token.proofs.slot_of.Goals.{After-lowered-last}
-
-pub overflow_cast-word : goal.overflow_cast-word
-overflow_cast-word c = omega (arith, c.shared_slice_known-2-1.given 0)
-
-pub overflow_cast-word-2 : goal.overflow_cast-word-2
-overflow_cast-word-2 c = omega (arith, c.shared_slice_known-3-1.given (length c.args.word.now - 1))
 
 module _ (c : After-lowered-last) where
   abbrev word : List ℕ
@@ -34,8 +26,3 @@ overflow_add-result c = omega (arith, first_few c, last_few c)
 
 pub overflow_add-result-2 : goal.overflow_add-result-2
 overflow_add-result-2 c = omega (arith, first_few c, last_few c)
-
-pub returns : goal.returns
-unfolding slot_of
-returns c =
-    rw (length-map (word c) lowered, lowered_at (word c) 0, lowered_at (word c) (length (word c) - 1), ← c.lowered-first.ensures, ← c.lowered-last.ensures)

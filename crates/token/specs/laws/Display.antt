@@ -4,7 +4,6 @@ use Rattle.token.specs.Kinds.{number}
 use Rattle.token.specs.Words.{KindText, ◌names◌, words}
 use Rattle.token.specs.Display.{displays, display_of, unknown}
 use Rattle.token.specs.laws.Words.{word_at}
-use Rattle.token.specs.steps.DisplayRows.{text_size}
 
 -- a row of the texts, and none past the last
 abbrev pub shown_at : ℕ → KindText
@@ -26,6 +25,9 @@ OtherUnknown = (k : ℕ) → ((i : ℕ) → i < length displays → (shown_at i)
 abbrev pub WordShown : Type 0
 WordShown = (i : ℕ) → i < length words → ((word_at i).kind ≡ number → ⊥) → display_of (word_at i).kind ≡ (word_at i).text
 
--- and no text is longer than `unknown token`
+-- the longest text, `unknown token`, and no text is longer
+abbrev pub text_size : ℕ
+text_size = 13
+
 abbrev pub DisplayShort : Type 0
 DisplayShort = (k : ℕ) → length (display_of k) ≤ text_size
