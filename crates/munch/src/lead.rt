@@ -1,6 +1,6 @@
 // What a byte may begin, as one number that a table of all bytes gives: its class, or the kind of a sign that is whole with its one byte.
-ghost use Rattle.std.specs.Prelude.{◌≡◌};
-ghost use Rattle.scan.specs.Run.{run_end};
+ghost use Rattle.std.specs.Prelude.{◌≡◌, ◌≤◌, length};
+ghost use Rattle.scan.specs.Run.{run_length};
 ghost use Rattle.munch.specs.steps.Leads.{is_sign_lead, starts_word, is_from};
 
 use crate::BYTES;
@@ -50,13 +50,15 @@ pub fn starts_word(lead: u8) -> bool
     lead == COLON || lead == LETTER
 }
 
-// Where the run ends that starts at `from`, of bytes whose leads are `least` or above.
-pub fn run_end(leads: &[u8; BYTES], least: u8, s: &[u8], from: usize) -> usize
-    ensures { result ≡ run_end (is_from leads.now least) s.now from }
+// How many of the first bytes have leads that are `least` or above.
+pub fn run_length(leads: &[u8; BYTES], least: u8, s: &[u8]) -> usize
+    ensures value { result ≡ run_length (is_from leads.now least) s.now }
+    ensures within { result ≤ length s.now }
 {
-    let mut n = from;
-    while n < s.len() && least <= leads[s[n] as usize] {
-        n += 1;
+    for (n, &c) in s.iter().enumerate() {
+        if leads[c as usize] < least {
+            return n;
+        }
     }
-    n
+    s.len()
 }

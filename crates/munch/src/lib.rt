@@ -17,7 +17,7 @@ ghost use Rattle.munch.specs.steps.Lent.{quoted_end, word_step_by, brace_word_by
 use numeral::Numeral;
 use quoted::Quoted;
 use scan::byte;
-use token::{Keyword, kinds};
+use token::kinds;
 use utf8::Reading;
 
 // How many bytes there are, each of which has a lead.
@@ -108,31 +108,34 @@ fn comment_step(s: &[u8]) -> Step
     requires { 0 < length s.now }
     ensures { result ≡ comment_step s.now }
 {
-    let length = 1 + quoted::comment_end(&s[1..]);
-    Step::Comment { length }
+    Step::Comment {
+        length: 1 + quoted::comment_end(&s[1..]),
+    }
 }
 
 // A word outside braces, by the tables of leads and words. It has a colon where it goes on behind the letters and digits that it begins with.
+#[tactic(auto, unfolding(crate::specs::steps::Lent::word_step_by))]
 fn word_step(leads: &[u8; BYTES], words: &[u8], s: &[u8], mode: Mode) -> Step
     ensures { result ≡ word_step_by leads.now words.now mode s.now }
 {
-    let label = lead::run_end(leads, lead::DIGIT, s, 0);
-    let n = lead::run_end(leads, lead::COLON, s, label);
+    let label = lead::run_length(leads, lead::DIGIT, s);
+    let n = label + lead::run_length(leads, lead::COLON, &s[label..]);
     if label < n {
         return lexeme(kinds::T_METRIC_IDENTIFIER, n, mode);
     }
-    let own = token::keyword_in(words, &s[..n]);
-    let Keyword::Kind(kind) = own else {
-        return lexeme(kinds::T_IDENTIFIER, n, mode);
+    let kind = match token::keyword_in(words, &s[..n]) {
+        Some(own) => word::kind_by(word::table_rule(own, s, n)),
+        None => kinds::T_IDENTIFIER,
     };
-    lexeme(word::kind_by(word::table_rule(kind, s, n)), n, mode)
+    lexeme(kind, n, mode)
 }
 
 // A word in braces, by the table of leads.
+#[tactic(auto, unfolding(crate::specs::steps::Lent::brace_word_by))]
 fn brace_word(leads: &[u8; BYTES], s: &[u8], mode: Mode) -> Step
     ensures { result ≡ brace_word_by leads.now mode s.now }
 {
-    let n = lead::run_end(leads, lead::DIGIT, s, 0);
+    let n = lead::run_length(leads, lead::DIGIT, s);
     let kind = word::kind_by(word::brace_rule(s, n));
     lexeme(kind, n, mode)
 }
@@ -145,18 +148,18 @@ fn in_mode(depth: usize, inside: Inside) -> Mode
 }
 
 // A point outside: a digit has to follow.
+#[tactic(auto, unfolding(crate::specs::Munch::dot_step, crate::specs::Munch::number_step))]
 fn dot_step(s: &[u8], reading: Reading, mode: Mode) -> Step
     ensures { result ≡ dot_step reading mode s.now }
 {
-    if byte::is_digit(byte::peek(s, 1)) {
+    let next = byte::peek(s, 1);
+    if byte::is_digit(next) {
         return number_by(numeral::scan_number(s, reading), mode);
     }
-    second::if_next(
-        s,
-        byte::END,
-        refused(refusals::END_AFTER_DOT, 0),
-        refused(refusals::AFTER_DOT, 1),
-    )
+    if next == byte::END {
+        return refused(refusals::END_AFTER_DOT, 0);
+    }
+    refused(refusals::AFTER_DOT, 1)
 }
 
 // A closing parenthesis.

@@ -1,4 +1,4 @@
-// The signs that a step is told by as first bytes.
+// The signs that a step is told by, as bytes.
 pub const LEFT_BRACE: usize = b'{' as usize;
 
 pub const RIGHT_BRACE: usize = b'}' as usize;
@@ -22,3 +22,5 @@ pub const DOT: usize = b'.' as usize;
 pub const COLON: usize = b':' as usize;
 
 pub const HASH: usize = b'#' as usize;
+
+pub const TILDE: usize = b'~' as usize;

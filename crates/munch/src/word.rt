@@ -1,11 +1,10 @@
 // The rule that gives a word its kind. A word is the first n bytes of those that are left.
-ghost use Rattle.std.specs.Prelude.{◌≡◌};
-ghost use Rattle.token.specs.declared.Keyword.TheVariants.{Kind};
+ghost use Rattle.std.specs.Prelude.{◌≡◌, Some};
 ghost use Rattle.munch.specs.Word.{is_fill, has_colon, past_white, rule_by, is_or, brace_rule, kind_by};
 
 use scan::byte;
 use scan::byte::Class;
-use token::{Keyword, kinds};
+use token::kinds;
 
 // `or` before a space in braces, any other word in braces; outside braces a word of the table that is no fill word, a fill word with `(`
 // next, white space aside, and without; a word with a colon, and any other.
@@ -24,10 +23,11 @@ pub enum Rule {
 const OR_LENGTH: usize = 2;
 
 // The kind of a fill word.
+#[tactic(auto, unfolding(crate::specs::Word::is_fill, scan::specs::Byte::is_within))]
 fn is_fill(kind: u16) -> bool
     ensures { result ≡ is_fill kind }
 {
-    kinds::T_FILL <= kind && kind <= kinds::T_FILL_RIGHT
+    matches!(kind, kinds::T_FILL..=kinds::T_FILL_RIGHT)
 }
 
 // Whether a word has a colon.
@@ -49,7 +49,7 @@ fn past_white(s: &[u8], n: usize) -> usize
 
 // The rule of a word of the table outside braces, by its kind.
 pub fn table_rule(kind: u16, s: &[u8], n: usize) -> Rule
-    ensures { result ≡ rule_by (Kind kind) s.now n }
+    ensures { result ≡ rule_by (Some kind) s.now n }
 {
     if !is_fill(kind) {
         return Rule::Table(kind);
@@ -61,28 +61,26 @@ pub fn table_rule(kind: u16, s: &[u8], n: usize) -> Rule
 }
 
 // The rule of a word outside braces, by the kind that it has of its own.
-pub fn rule_by(own: Keyword, s: &[u8], n: usize) -> Rule
+#[tactic(auto, unfolding(crate::specs::Word::rule_by))]
+pub fn rule_by(own: Option<u16>, s: &[u8], n: usize) -> Rule
     ensures { result ≡ rule_by own s.now n }
 {
-    let Keyword::Kind(kind) = own else {
-        if has_colon(s, n) {
-            return Rule::WithColon;
-        }
-        return Rule::Plain;
-    };
-    table_rule(kind, s, n)
+    match own {
+        Some(kind) => table_rule(kind, s, n),
+        None if has_colon(s, n) => Rule::WithColon,
+        None => Rule::Plain,
+    }
 }
 
 // Whether a word is `or` in any case, with a space next.
+#[tactic(auto, using(crate::proofs::word::Words::or_letters, crate::proofs::word::Words::or_other))]
 fn is_or(s: &[u8], n: usize) -> bool
     ensures { result ≡ is_or s.now n }
 {
-    if n != OR_LENGTH {
-        return false;
-    }
-    byte::lowered(byte::peek(s, 0)) == b'o' as usize
-        && (byte::lowered(byte::peek(s, 1)) == b'r' as usize
-            && byte::peek(s, OR_LENGTH) == b' ' as usize)
+    n == OR_LENGTH
+        && byte::lowered(byte::peek(s, 0)) == b'o' as usize
+        && byte::lowered(byte::peek(s, 1)) == b'r' as usize
+        && byte::peek(s, OR_LENGTH) == b' ' as usize
 }
 
 // The rule of a word in braces.

@@ -210,7 +210,6 @@ const WORDS: [u8; WORD_TABLE] = *b"\
     \x1b\x08\x09\x0a\x0b\x0c\x0d\x0e\x19\x10\x0d\x20\x13\x14\x15\x16";
 
 // The table of words, to be lent to `keyword_in` for as many words as there are.
-#[tactic(auto, unfolding(crate::specs::steps::Padded::padded, crate::specs::steps::WordRows::row_for, crate::specs::steps::WordRows::slot_of, crate::specs::steps::WordRows::slots_of, crate::specs::steps::WordRows::table_of, crate::specs::steps::WordRows::word_table, crate::specs::Words::words))]
 pub fn words() -> [u8; WORD_TABLE]
     ensures { result ≡ word_table }
 {

@@ -8,14 +8,14 @@ use Rattle.quoted.proofs.Comments.{comment_within}
 use Rattle.munch.specs.declared.Step.TheVariants.{Comment}
 use Rattle.munch.specs.Munch.{comment_step}
 use Rattle.munch.proofs.comment_step.Goals as goal
-use Rattle.munch.proofs.comment_step.Goals.{After-comment_end-length}
+use Rattle.munch.proofs.comment_step.Goals.{After-comment_end}
 
 -- where it ends, of the bytes behind the sign
-there : (c : After-comment_end-length) → c.comment_end-length.result ≡ comment_end (drop 1 c.args.s.now)
-there c = c.comment_end-length.ensures ∙ ap comment_end (rest_of c.args.s.now 1)
+there : (c : After-comment_end) → c.comment_end.result ≡ comment_end (drop 1 c.args.s.now)
+there c = c.comment_end.ensures ∙ ap comment_end (rest_of c.args.s.now 1)
 
-pub overflow_add-length : goal.overflow_add-length
-overflow_add-length c = let s = c.args.s.now in omega (arith, (comment_within (drop 1 s)).0, length-drop 1 s, there c)
+pub overflow_add-result : goal.overflow_add-result
+overflow_add-result c = let s = c.args.s.now in omega (arith, (comment_within (drop 1 s)).0, length-drop 1 s, there c)
 
 pub returns : goal.returns
 unfolding comment_step
