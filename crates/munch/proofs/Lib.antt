@@ -3,7 +3,7 @@ pub mod Openings
 pub mod Starts
 pub mod Classes
 pub mod Labels
-pub mod Tables
+pub mod Known
 pub mod Ends
 pub mod Goes
 pub mod Marks

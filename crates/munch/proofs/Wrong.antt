@@ -43,7 +43,7 @@ use Rattle.munch.proofs.munch.Kinds as munch
 use Rattle.munch.proofs.munch.Reads as munch_reads
 
 -- what computes at the bytes that are left
-munching : Unit {0}
+unfoldable pub munching : Unit {0}
 unfolding munched outside_by outside_led brace_by brace_led lead_table leads_from lead_of sign_lead is_sign_lead starts_word brace_word_by brace_signs step_in outside_table brace_table bracket_table quoted_step comment_step word_step word_step_by brace_word number_step bang_step right_paren_step end_step dot_step colon_step is_word_start is_quote is_fill rule_by is_or brace_rule kind_by keyword_in found_at is_row slot_of padded keyword_of words kind_in is_escape quoted_from is_raw raw_from comment_end numeral_of number_end exponent_end fraction_end is_hex is_unit separated_length chars_past size_of char_length size_in fits code_of is_within is_in is_space is_alpha is_alpha_numeric is_word is_line lowered run_length same_text has
 munching = tt
 

@@ -6,6 +6,7 @@ mod lead;
 mod refusals;
 mod second;
 mod signs;
+pub mod tables;
 pub mod word;
 
 ghost use Rattle.std.specs.Prelude.{◌≡◌, true, false, ◌^◌, ◌<◌, length};
@@ -14,6 +15,7 @@ ghost use Rattle.munch.specs.Munch.{mode, deeper, number_by, quoted_by, dot_step
 ghost use Rattle.munch.specs.steps.Leads.{lead_table};
 ghost use Rattle.munch.specs.steps.Lent.{quoted_end, word_step_by, brace_word_by, sign_step, other_table, brace_signs, outside_by, brace_by};
 
+use crate::tables::Tables;
 use numeral::Numeral;
 use quoted::Quoted;
 use scan::byte;
@@ -345,12 +347,5 @@ pub fn leads() -> [u8; BYTES]
 pub fn munch(s: &[u8], reading: Reading, mode: Mode) -> Step
     ensures { result ≡ munched reading mode s.now }
 {
-    let leads = leads();
-    let words = token::words();
-    let inside = mode.inside;
-    match inside {
-        Inside::Nothing => outside_step(&leads, &words, s, reading, mode.depth),
-        Inside::Braces => brace_step(&leads, s, reading, mode.depth),
-        Inside::Brackets { seen, fresh } => bracket_step(s, reading, mode.depth, seen, fresh),
-    }
+    Tables::new().step(s, reading, mode)
 }

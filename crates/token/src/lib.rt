@@ -160,7 +160,7 @@ const SLOT_COUNT: usize = 128;
 
 const FIRST_WEIGHT: usize = 4;
 
-const WORD_TABLE: usize = SLOTS_FROM + SLOT_COUNT;
+pub const WORD_TABLE: usize = SLOTS_FROM + SLOT_COUNT;
 
 // The words in the order of the Rust's KEYWORDS: each padded to WIDEST_WORD bytes, then its length and its kind. Behind them, in the slot of each word
 // the number of its row. Padding and free slots hold bytes that differ from their neighbours, which are stored faster than runs of one byte.

@@ -5,7 +5,7 @@ use mathlib.Core.Bool.{Bool}
 use mathlib.Core.Path.{ap, sym, ◌∙◌}
 use Rattle.munch.specs.Munch.{mode, munched}
 use Rattle.munch.specs.steps.Lent.{brace_by}
-use Rattle.munch.proofs.Tables.{braces_by_table}
+use Rattle.munch.proofs.Known.{braces_by_table}
 use Rattle.lex.specs.steps.Pass.{inside_by}
 use Rattle.lex.proofs.inner_step.Goals as goal
 use Rattle.lex.proofs.inner_step.Goals.{Start}

@@ -15,7 +15,7 @@ use Rattle.token.specs.steps.WordRows.{word_table}
 use Rattle.munch.specs.steps.Leads.{lead_table}
 use Rattle.munch.specs.steps.Lent.{outside_by}
 use Rattle.munch.proofs.Modes.{step_leads}
-use Rattle.munch.proofs.Tables.{outside_by_tables}
+use Rattle.munch.proofs.Known.{outside_by_tables}
 use Rattle.lex.specs.declared.Run.{Run}
 use Rattle.lex.specs.declared.Run.TheVariants.{To}
 use Rattle.lex.specs.Outcome.{outcome_of}

@@ -1,4 +1,4 @@
--- What the crates above may know of a step, as statements; `proofs/Goes`, `proofs/Fits`, `proofs/Seam` and `proofs/Tables`
+-- What the crates above may know of a step, as statements; `proofs/Goes`, `proofs/Fits`, `proofs/Seam` and `proofs/Known`
 -- have their proofs.
 use Rattle.std.specs.Prelude.{ℕ, suc, ◌^◌, ◌≤◌, ◌<◌, true, List, ◌∷◌, ◌++◌, ◌≡◌, length, take, Some}
 use Prim.Native.Char.{code}

@@ -1,7 +1,7 @@
 -- The tables are those of document 01 (`outside_by_tables`, `braces_by_table`); the arms are those of the definition.
 use mathlib.Core.Path.{◌∙◌}
 use Rattle.munch.specs.Munch.{munched}
-use Rattle.munch.proofs.Tables.{outside_by_tables, braces_by_table}
+use Rattle.munch.proofs.Known.{outside_by_tables, braces_by_table}
 use Rattle.reason.proofs.step.Goals as goal
 
 pub returns-in-Nothing : goal.returns-in-Nothing

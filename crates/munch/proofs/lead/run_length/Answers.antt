@@ -1,6 +1,6 @@
 -- A byte whose lead is high enough takes the run one further (`run_on`); any other stops it (`run_off`), and so does the end (`run_out`).
-use Rattle.std.proofs.Common.{◌∙◌, sym, arith, length}
-use borrow.Author.Tests.{lt-ltb, le-leb, lt-leb}
+use Rattle.std.proofs.Common.{◌∙◌, arith}
+use borrow.Author.Tests.{le-leb, lt-leb}
 use Rattle.munch.specs.steps.Leads.{is_from}
 use Rattle.munch.proofs.Runs.{run_on, run_off, run_out}
 use Rattle.munch.proofs.lead.run_length.Goals as goal
