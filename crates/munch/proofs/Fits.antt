@@ -18,8 +18,8 @@ use Rattle.utf8.specs.declared.Reading.{Reading}
 use Rattle.numeral.specs.declared.Numeral.{Numeral}
 use Rattle.numeral.specs.declared.Numeral.TheVariants.{Number, Duration, Neither}
 use Rattle.numeral.specs.Numeral.{numeral_of}
-use Rattle.quoted.specs.declared.Quoted.{Quoted}
-use Rattle.quoted.specs.declared.Quoted.TheVariants as quoting
+use Rattle.quoted.specs.declared.Fault.{Fault}
+use Rattle.std.specs.Prelude.{Err, Ok, Result}
 use Rattle.quoted.specs.Quoted.{quoted_of}
 use Rattle.munch.proofs.word.Fits.{small, word_fits, brace_word_fits}
 use Rattle.munch.specs.declared.Inside.{Inside}
@@ -44,9 +44,9 @@ module _ (m : Mode) (xs : List ℕ) where
   unfolding quoted_step
   string_fits r = go (quoted_of r (peek_at xs 0) (drop 1 xs))
     where
-      go : (q : Quoted) → Fits (quoted_by m q)
-      go (quoting.Closed n) = omega arith
-      go (quoting.Refused number n) = tt
+      go : (q : Result ℕ Fault) → Fits (quoted_by m q)
+      go (Ok n) = omega arith
+      go (Err e') = tt
 
   -- one step or another
   next_fits : (c : ℕ) (s t : Step) → Fits s → Fits t → Fits (if_next xs c s t)

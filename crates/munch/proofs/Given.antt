@@ -23,8 +23,9 @@ use Rattle.numeral.specs.Texts.{Begun}
 use Rattle.numeral.proofs.Given.{number_given, duration_given}
 use Rattle.numeral.proofs.Places.{neither_given}
 use Rattle.token.specs.Kinds.{string, number, duration}
-use Rattle.quoted.specs.declared.Quoted.{Quoted}
-use Rattle.quoted.specs.declared.Quoted.TheVariants as quoting
+use Rattle.quoted.specs.declared.Fault.{Fault}
+use Rattle.quoted.specs.Quoted.{fault}
+use Rattle.std.specs.Prelude.{Err, Ok, Result}
 use Rattle.quoted.specs.Quoted.{unknown_escape, end_in_escape, end_in_string, is_raw, quoted_of}
 use Rattle.quoted.specs.laws.Quoted.{Numbered}
 use Rattle.quoted.specs.laws.Texts.{IsString}
@@ -75,11 +76,11 @@ module _ (r : Reading) (m : Mode) (xs : List ℕ) where
   unfolding quoted_step
   string_told b m' = go (quoted_of r (peek_at xs 0) (drop 1 xs)) refl (string_numbered r (peek_at xs 0) (drop 1 xs))
     where
-      go : (q : Quoted) → quoted_of r (peek_at xs 0) (drop 1 xs) ≡ q → Numbered q → Told r m xs (quoted_by m' q)
-      go (quoting.Closed n) e h = tt
-      go (quoting.Refused number n) e (inl f) = rw f (row21 n (b, (string_given r (peek_at xs 0) b.1 (drop 1 xs) n).1.0 (e ∙ rw f)))
-      go (quoting.Refused number n) e (inr (inl f)) = rw f (row22 n (b, (string_given r (peek_at xs 0) b.1 (drop 1 xs) n).2.0 (e ∙ rw f)))
-      go (quoting.Refused number n) e (inr (inr f)) = rw f (row23 n (b, (string_given r (peek_at xs 0) b.1 (drop 1 xs) n).3.0 (e ∙ rw f)))
+      go : (q : Result ℕ Fault) → quoted_of r (peek_at xs 0) (drop 1 xs) ≡ q → Numbered q → Told r m xs (quoted_by m' q)
+      go (Ok n) e h = tt
+      go (Err e') e (inl f) = rw f (row21 e'.at (b, (string_given r (peek_at xs 0) b.1 (drop 1 xs) e'.at).1.0 (e ∙ rw f)))
+      go (Err e') e (inr (inl f)) = rw f (row22 e'.at (b, (string_given r (peek_at xs 0) b.1 (drop 1 xs) e'.at).2.0 (e ∙ rw f)))
+      go (Err e') e (inr (inr f)) = rw f (row23 e'.at (b, (string_given r (peek_at xs 0) b.1 (drop 1 xs) e'.at).3.0 (e ∙ rw f)))
 
   -- of the bytes that are left
   abbrev Telling : (List ℕ → Step) → Type 0
@@ -193,7 +194,7 @@ module _ (r : Reading) (m : Mode) (xs : List ℕ) where
   string_begun (inl o, q) = outside_by_tables o (quote_outside r m.depth (peek_at xs 0) q) ∙ rw o
   string_begun (inr i, q) = braces_by i (quote_in_braces r m.depth (peek_at xs 0) q) ∙ rw i
 
-  string_fails : (number n : ℕ) → StringBegins m xs → quoted_of r (peek_at xs 0) (drop 1 xs) ≡ quoting.Refused number n → munched r m xs ≡ Refused number (suc n)
+  string_fails : (number n : ℕ) → StringBegins m xs → quoted_of r (peek_at xs 0) (drop 1 xs) ≡ Err (fault number n) → munched r m xs ≡ Refused number (suc n)
   string_fails number n b e = string_begun b ∙ ap (quoted_by _) e
 
   -- where no row is for the byte
@@ -332,9 +333,9 @@ strings_given r m m' xs n q = (λ e. to m.inside refl e, from)
     there : StringBegins m xs → munched r m xs ≡ Lexeme string (suc n) m' → StringBegins m xs × IsString r (peek_at xs 0) (drop 1 xs) n × (m' ≡ mode m.depth m.inside)
     there b e = let p = back (quoted_of r (peek_at xs 0) (drop 1 xs)) (sym (string_begun r m xs b) ∙ e) in (b, (string_given r (peek_at xs 0) q (drop 1 xs) n).0.0 p.0, p.1)
       where
-        back : (v : Quoted) → quoted_by (mode m.depth m.inside) v ≡ Lexeme string (suc n) m' → (v ≡ quoting.Closed n) × (m' ≡ mode m.depth m.inside)
-        back (quoting.Closed k) f = (ap quoting.Closed (omega (arith, ap size_in f)), sym (ap (mode_in m') f))
-        back (quoting.Refused number k) f = choice.told kind_in f refl (λ h. absurd (omega (arith, h)))
+        back : (v : Result ℕ Fault) → quoted_by (mode m.depth m.inside) v ≡ Lexeme string (suc n) m' → (v ≡ Ok n) × (m' ≡ mode m.depth m.inside)
+        back (Ok k) f = (ap Ok (omega (arith, ap size_in f)), sym (ap (mode_in m') f))
+        back (Err e') f = choice.told kind_in f refl (λ h. absurd (omega (arith, h)))
 
     to : (i : Inside) → m.inside ≡ i → munched r m xs ≡ Lexeme string (suc n) m' → StringBegins m xs × IsString r (peek_at xs 0) (drop 1 xs) n × (m' ≡ mode m.depth m.inside)
     to Nothing i e = there (inl i, q) e

@@ -25,8 +25,8 @@ use Rattle.numeral.specs.declared.Numeral.TheVariants.{Number, Duration, Neither
 use Rattle.numeral.specs.Numeral.{numeral_of}
 use Rattle.numeral.specs.Numeral.{taken}
 use Rattle.numeral.proofs.Within.{numeral_within}
-use Rattle.quoted.specs.declared.Quoted.{Quoted}
-use Rattle.quoted.specs.declared.Quoted.TheVariants as quoting
+use Rattle.quoted.specs.declared.Fault.{Fault}
+use Rattle.std.specs.Prelude.{Err, Ok, Result}
 use Rattle.quoted.specs.Quoted.{quoted_of, comment_end}
 use Rattle.quoted.specs.laws.Quoted.{Lies}
 use Rattle.quoted.proofs.Strings.{string_within}
@@ -103,9 +103,9 @@ module _ (m : Mode) (xs : List ℕ) where
     unfolding quoted_step
     string_goes r = go (quoted_of r (peek_at xs 0) (drop 1 xs)) (string_within r (peek_at xs 0) (drop 1 xs) h)
       where
-        go : (q : Quoted) → Lies (drop 1 xs) q → Goes m xs (quoted_by m q)
-        go (quoting.Closed n) l = past_edge xs (suc n) (omega arith) (edge_next xs h l.1)
-        go (quoting.Refused number n) l = edge_next xs h l
+        go : (q : Result ℕ Fault) → Lies (drop 1 xs) q → Goes m xs (quoted_by m q)
+        go (Ok n) l = past_edge xs (suc n) (omega arith) (edge_next xs h l.1)
+        go (Err e') l = edge_next xs h l
 
     -- two bytes, the second of them ASCII, or another step
     two_goes : (c k : ℕ) (s : Step) → c < 0x80 → Goes m xs s → Goes m xs (if_next xs c (Lexeme k 2 m) s)

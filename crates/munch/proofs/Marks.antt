@@ -21,8 +21,8 @@ use Rattle.utf8.specs.declared.Reading.{Reading}
 use Rattle.numeral.specs.declared.Numeral.{Numeral}
 use Rattle.numeral.specs.declared.Numeral.TheVariants.{Number, Duration, Neither}
 use Rattle.numeral.specs.Numeral.{numeral_of}
-use Rattle.quoted.specs.declared.Quoted.{Quoted}
-use Rattle.quoted.specs.declared.Quoted.TheVariants as quoting
+use Rattle.quoted.specs.declared.Fault.{Fault}
+use Rattle.std.specs.Prelude.{Err, Ok, Result}
 use Rattle.quoted.specs.Quoted.{quoted_of, comment_end}
 use Rattle.munch.specs.declared.Inside.{Inside}
 use Rattle.munch.specs.declared.Inside.TheVariants.{Nothing, Braces, Brackets}
@@ -69,9 +69,9 @@ module _ (r : Reading) (d : ℕ) (i : Inside) (xs : List ℕ) where
   unfolding quoted_step has
   string_does = go (quoted_of r (peek_at xs 0) (drop 1 xs))
     where
-      go : (q : Quoted) → Here (quoted_by next q)
-      go (quoting.Closed n) = (other string (suc n) refl, refl)
-      go (quoting.Refused number n) = tt
+      go : (q : Result ℕ Fault) → Here (quoted_by next q)
+      go (Ok n) = (other string (suc n) refl, refl)
+      go (Err e') = tt
 
   word_does : Here (word_step next xs)
   unfolding word_step

@@ -24,8 +24,8 @@ use Rattle.utf8.specs.declared.Reading.{Reading}
 use Rattle.token.specs.Kinds.{identifier, lss, lte, gtr, gte}
 use Rattle.token.specs.Words.{keyword_of}
 use Rattle.numeral.proofs.Seam.{numeral_seam}
-use Rattle.quoted.specs.declared.Quoted.{Quoted}
-use Rattle.quoted.specs.declared.Quoted.TheVariants as quoting
+use Rattle.quoted.specs.declared.Fault.{Fault}
+use Rattle.std.specs.Prelude.{Err, Ok, Result}
 use Rattle.quoted.specs.Quoted.{quoted_of, comment_end}
 use Rattle.quoted.proofs.Strings.{string_seam}
 use Rattle.quoted.proofs.Comments.{comment_seam}
@@ -145,9 +145,9 @@ module _ (x : ℕ) (xs ys : List ℕ) where
     unfolding quoted_step
     quoted_seam r = go (quoted_of r x xs) refl
       where
-        go : (q : Quoted) → quoted_of r x xs ≡ q → Seamed (quoted_by m q) (quoted_by m (quoted_of r x (lined xs ys)))
-        go (quoting.Closed n) e = rw (string_seam r x xs (code "\n" ∷ ys) n e) (same _)
-        go (quoting.Refused number n) e = refused number (suc n) _
+        go : (q : Result ℕ Fault) → quoted_of r x xs ≡ q → Seamed (quoted_by m q) (quoted_by m (quoted_of r x (lined xs ys)))
+        go (Ok n) e = rw (string_seam r x xs (code "\n" ∷ ys) n e) (same _)
+        go (Err e') e = refused e'.number (suc e'.at) _
 
     equals_seam : Seamed (equals_step m (x ∷ xs)) (equals_step m on)
     unfolding equals_step

@@ -27,8 +27,8 @@ use Rattle.numeral.specs.Texts.{Begun}
 use Rattle.numeral.specs.laws.Texts.{is_apart}
 use Rattle.numeral.proofs.Given.{number_given, duration_given}
 use Rattle.numeral.proofs.Plain.{none_apart}
-use Rattle.quoted.specs.declared.Quoted.{Quoted}
-use Rattle.quoted.specs.declared.Quoted.TheVariants as quoting
+use Rattle.quoted.specs.declared.Fault.{Fault}
+use Rattle.std.specs.Prelude.{Err, Ok, Result}
 use Rattle.quoted.specs.Quoted.{quoted_of}
 use Rattle.quoted.proofs.Texts.{string_given}
 use Rattle.munch.specs.Word.{is_word_start}
@@ -100,9 +100,9 @@ module _ (r : Reading) (xs : List ℕ) where
   unfolding quoted_step
   string_text m h = go (quoted_of r (peek_at xs 0) (drop 1 xs)) refl
     where
-      go : (v : Quoted) → quoted_of r (peek_at xs 0) (drop 1 xs) ≡ v → Text (quoted_by m v)
-      go (quoting.Closed n) e = quoted n h ((string_given r (peek_at xs 0) h (drop 1 xs) n).0.0 e)
-      go (quoting.Refused number n) e = tt
+      go : (v : Result ℕ Fault) → quoted_of r (peek_at xs 0) (drop 1 xs) ≡ v → Text (quoted_by m v)
+      go (Ok n) e = quoted n h ((string_given r (peek_at xs 0) h (drop 1 xs) n).0.0 e)
+      go (Err e') e = tt
 
   outside_text : (d : ℕ) → Text (step_in r d Nothing (peek_at xs 0) xs)
   unfolding step_in outside_table comment_step dot_step equals_step bang_step compare_step right_paren_step end_step is_apart is_space is_quote

@@ -2,7 +2,7 @@
 -- differ. Document 01, "Lexing rules", and document 02, L2 and L5; 01's refusals 10 to 32, of which "11, 12 and 14 to 18 are given only outside braces
 -- and brackets, 13 also in braces". The three tables say what each first byte does.
 -- A refusal's place is its offset in the bytes that are left: "it" is 0, or 1 behind a `!`; "end" is where they end, which is 1 behind a `!`.
-use Rattle.std.specs.Prelude.{ℕ, suc, ◌-◌, Bool, true, false, cond, List, [], ◌∷◌, eqb, ltb, take, drop}
+use Rattle.std.specs.Prelude.{ℕ, suc, ◌-◌, Bool, true, false, cond, List, [], ◌∷◌, eqb, ltb, take, drop, Err, Ok, Result}
 use Prim.Native.Char.{Char, code}
 use Rattle.scan.specs.declared.byte.Class.TheVariants.{AlphaNumeric, Word}
 use Rattle.scan.specs.Byte.{end, peek_at, is_space, is_alpha, is_digit, is_quote, is_in}
@@ -13,8 +13,7 @@ use Rattle.token.specs.Kinds.{string, number, duration, left_paren, right_paren,
 use Rattle.numeral.specs.declared.Numeral.{Numeral}
 use Rattle.numeral.specs.declared.Numeral.TheVariants.{Number, Duration, Neither}
 use Rattle.numeral.specs.Numeral.{numeral_of}
-use Rattle.quoted.specs.declared.Quoted.{Quoted}
-use Rattle.quoted.specs.declared.Quoted.TheVariants as quoting
+use Rattle.quoted.specs.declared.Fault.{Fault}
 use Rattle.quoted.specs.Quoted.{quoted_of, comment_end}
 use Rattle.munch.specs.Word.{is_word_start, rule_by, brace_rule, kind_by}
 use Rattle.munch.specs.declared.Inside.{Inside}
@@ -71,9 +70,9 @@ unfoldable pub dot_step : Reading → Mode → List ℕ → Step
 dot_step r m xs = cond (is_digit (peek_at xs 1)) (number_step r m xs) (if_next xs end (Refused 15 0) (Refused 14 1))
 
 -- "The lexeme includes both signs." 21 to 23 are given where `quoted` says, one byte on for the opening sign
-abbrev pub quoted_by : Mode → Quoted → Step
-quoted_by m (quoting.Closed n) = Lexeme string (suc n) m
-quoted_by m (quoting.Refused refusal n) = Refused refusal (suc n)
+abbrev pub quoted_by : Mode → Result ℕ Fault → Step
+quoted_by m (Ok n) = Lexeme string (suc n) m
+quoted_by m (Err fault) = Refused fault.number (suc fault.at)
 
 unfoldable pub quoted_step : Reading → Mode → List ℕ → Step
 quoted_step r m xs = quoted_by m (quoted_of r (peek_at xs 0) (drop 1 xs))

@@ -17,7 +17,7 @@ ghost use Rattle.munch.specs.steps.Lent.{quoted_end, word_step_by, brace_word_by
 
 use crate::tables::Tables;
 use numeral::Numeral;
-use quoted::Quoted;
+use quoted::Fault;
 use scan::byte;
 use token::kinds;
 use utf8::Reading;
@@ -95,13 +95,13 @@ fn number_by(n: Numeral, mode: Mode) -> Step
 }
 
 // A string, or its refusal, one byte on for the opening sign.
-fn quoted_by(q: Quoted, mode: Mode) -> Step
+fn quoted_by(q: Result<usize, Fault>, mode: Mode) -> Step
     requires { quoted_end q < 2 ^ 64 }
     ensures { result ≡ quoted_by mode q }
 {
     match q {
-        Quoted::Closed(n) => lexeme(kinds::T_STRING, n + 1, mode),
-        Quoted::Refused { number, at } => refused(number, at + 1),
+        Ok(n) => lexeme(kinds::T_STRING, n + 1, mode),
+        Err(fault) => refused(fault.number, fault.at + 1),
     }
 }
 
