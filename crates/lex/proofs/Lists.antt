@@ -11,10 +11,9 @@ use lib.ListN.{length, take, drop, set, get_or, drop_of_length-le, length-set, l
 use lib.Seq.{sets, take-nil, take_all, take_at, length-take-le, paste-suc}
 use Rattle.utf8.specs.declared.Reading.{Reading}
 use Rattle.token.specs.Kinds.{eof_kind}
-use Rattle.lex.specs.declared.Run.TheVariants as run
 use Rattle.lex.specs.Outcome.{Entry, Outcome, reads, ends, refuses, outcome_of}
 use Rattle.lex.specs.Lex.{entries_of, listed, kind_of, starts_at, length_of, depth_of}
-use Rattle.lex.specs.steps.Tally.{refused_by, tallied, tally_of}
+use Rattle.lex.specs.steps.Tally.{read_to, refused_by, tallied, tally_of}
 use Rattle.lex.specs.steps.Pass.{filled, Alike, State, state, Kept, Leads}
 
 -- stores behind the head, and in no list
@@ -79,7 +78,7 @@ module _ (r : Reading) (q : List ℕ) {ks₀ ss₀ ls₀ ds₀ ks ss ls ds : Lis
 
   -- where it ends, behind the writing of the end's lexeme
   pub leads_end : {o : ℕ} {ks' ss' ls' ds' : List ℕ} → Leads (state ks₀ ss₀ ls₀ ds₀ 0 (outcome_of r q)) (state ks ss ls ds i (ends o))
-      → (ks' ≡ set ks i eof_kind) × ((ss' ≡ set ss i o) × ((ls' ≡ set ls i 0) × (ds' ≡ set ds i 0))) → (run.To o (i + 1) ≡ tally_of r q) × Filled r q ks₀ ss₀ ls₀ ds₀ ks' ss' ls' ds'
+      → (ks' ≡ set ks i eof_kind) × ((ss' ≡ set ss i o) × ((ls' ≡ set ls i 0) × (ds' ≡ set ds i 0))) → (read_to o (i + 1) ≡ tally_of r q) × Filled r q ks₀ ss₀ ls₀ ds₀ ks' ss' ls' ds'
   unfolding tallied
   leads_end w p = (sym w.tally, (fill r kind_of q ks₀ (w.kinds.goes ∙ sym p.0), (fill r starts_at q ss₀ (w.starts.goes ∙ sym p.1.0), (fill r length_of q ls₀ (w.lengths.goes ∙ sym p.1.1.0), fill r depth_of q ds₀ (w.depths.goes ∙ sym p.1.1.1)))))
 

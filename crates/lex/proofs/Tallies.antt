@@ -3,13 +3,14 @@ use Prim.Native.Nat.{ℕ, ◌+◌}
 use native.Mathlib.Nat.{zero-add}
 use native.Mathlib.Omega.{arith}
 use mathlib.Core.List.{List}
-use mathlib.Core.Path.{◌≡◌, refl, ap, ◌∙◌}
+use mathlib.Core.Path.{◌≡◌, refl, sym, ap, ◌∙◌}
 use lib.ListN.{length}
-use Rattle.std.specs.Prelude.{Ok}
+use Rattle.std.specs.Prelude.{Err, Ok, Result}
+use Rattle.quoted.specs.declared.Fault.{Fault}
 use Rattle.utf8.specs.declared.Reading.{Reading}
 use Rattle.utf8.specs.declared.CharNumber.{CharNumber}
 use Rattle.utf8.specs.Answers.{text_limit, admitted}
-use Rattle.lex.specs.declared.Run.TheVariants as run
+use Rattle.lex.specs.declared.Run.{Run}
 use Rattle.lex.specs.Outcome.{Outcome, reads, ends, refuses, outcome_of}
 use Rattle.lex.specs.Lex.{entries, entries_of, answer_by, measured}
 use Rattle.lex.specs.steps.Tally.{tallied, tally_of, answer_in}
@@ -24,14 +25,19 @@ pub tally_answer : (r : Reading) (q : List ℕ) → answer_in q (tally_of r q) �
 tally_answer r q = tally_answers q (outcome_of r q) 0 ∙ ap (λ (k : ℕ). answer_by q k (outcome_of r q)) (zero-add (length (entries_of r q)))
 
 -- a count is that of the lexemes
-counts : (r : Outcome) (k at n : ℕ) → tallied k r ≡ run.To at n → n ≡ k + length (entries r)
+counts : (r : Outcome) (k : ℕ) (run : Run) → tallied k r ≡ Ok run → run.count ≡ k + length (entries r)
 unfolding tallied
-counts (reads e r) k at n h = counts r (k + 1) at n h ∙ omega arith
-counts (ends o) k at n h = let z : k + 1 ≡ n = cc in omega arith
-counts (refuses r o) k at n h = let z : ◌≡◌ {A = ℕ} 0 1 = cc in absurd (omega arith)
+counts (reads e r) k run h = counts r (k + 1) run h ∙ omega arith
+counts (ends o) k run h = let z : record { at = o; count = k + 1 } ≡ run = cc in sym (ap (λ (t : Run). t.count) z)
+counts (refuses r o) k run h = let z : ◌≡◌ {A = ℕ} 0 1 = cc in absurd (omega arith)
 
-pub tally_counts : (r : Reading) (q : List ℕ) (at n : ℕ) → tally_of r q ≡ run.To at n → n ≡ length (entries_of r q)
-tally_counts r q at n h = counts (outcome_of r q) 0 at n h ∙ zero-add (length (entries_of r q))
+pub tally_counts : (r : Reading) (q : List ℕ) (run : Run) → tally_of r q ≡ Ok run → run.count ≡ length (entries_of r q)
+tally_counts r q run h = counts (outcome_of r q) 0 run h ∙ zero-add (length (entries_of r q))
+
+-- and so is what is answered by it
+pub answer_counts : (r : Reading) (q : List ℕ) {n : ℕ} (t : Result Run Fault) → t ≡ tally_of r q → answer_in q t ≡ Ok n → n ≡ length (entries_of r q)
+answer_counts r q {n = n} (Ok run) e h = let z : run.count ≡ n = cc in sym z ∙ tally_counts r q run (sym e)
+answer_counts r q (Err f) e h = absurd (cc)
 
 -- so a text that is admitted is measured by its tally
 pub tally_measured : (r : Reading) (q : List ℕ) {k : CharNumber} → admitted text_limit q ≡ Ok k → answer_in q (tally_of r q) ≡ measured r q

@@ -2,7 +2,7 @@
 -- there, as the theorem's name says, cannot be proved. `FUNCTION-gives` and `FUNCTION-leaves-LIST` say what, at the query and the lists.
 use Prim.Native.Nat.{ℕ}
 use mathlib.Core.List.{List, [], ◌∷◌}
-use mathlib.Core.Path.{◌≡◌, ap, ◌∙◌}
+use mathlib.Core.Path.{◌≡◌}
 use lib.ListN.{length}
 use contract.Lifetimes.{Lfts}
 use borrow.Fn.Kinds.{Dens}
@@ -18,7 +18,7 @@ use Rattle.utf8.specs.declared.Reading.TheVariants.{Crate, Documented}
 use Rattle.utf8.specs.Table.{fits, size_in, char_length}
 use Rattle.utf8.specs.Code.{code_of}
 use Rattle.utf8.specs.Text.{chars_past, size_of, begun_in, char_number}
-use Rattle.utf8.specs.Answers.{place, no_room, validity_of, admitted, at_start, not_utf8}
+use Rattle.utf8.specs.Answers.{place, no_room, validity_of, admitted}
 use Rattle.token.specs.Kinds.{identifier, string, number, left_brace, right_brace, left_bracket, right_bracket, comma}
 use Rattle.token.specs.Words.{words, kind_in, keyword_of}
 use Rattle.numeral.specs.Numeral.{is_hex, fraction_end, exponent_end, number_end, is_unit, numeral_of}
@@ -26,14 +26,12 @@ use Rattle.quoted.specs.Quoted.{is_escape, quoted_from, is_raw, raw_from, commen
 use Rattle.munch.specs.Word.{is_word_start, rule_by, kind_by}
 use Rattle.munch.specs.Munch.{number_step, quoted_step, word_step, comment_step, bang_step, right_paren_step, deeper, end_step, outside_table, brace_table, bracket_table, step_in, munched}
 use Rattle.lex.specs.Outcome.{steps_past, read_from}
-use Rattle.lex.specs.Lex.{answer_by, measured, lexed, listed, left_after, kind_of, starts_at, length_of, depth_of, shortest, not_lexed}
+use Rattle.lex.specs.Lex.{answer_by, measured, lexed, listed, left_after, kind_of, starts_at, length_of, depth_of, shortest}
 use Rattle.utf8.specs.declared.Refusal.{Refusal}
 use Rattle.lex.proofs.measure.Kinds as measure
 use Rattle.lex.proofs.measure.Reads as measure_reads
 use Rattle.lex.proofs.lexer.Kinds as lexer
 use Rattle.lex.proofs.lexer.Reads as lexer_reads
-use Rattle.lex.proofs.not_lexed.Kinds as not_lexed_kinds
-use Rattle.lex.proofs.not_lexed.Reads as not_lexed_reads
 
 -- what computes at a query
 lexing : Unit {0}
@@ -255,15 +253,3 @@ parenthesis_in_a_string_is_none = lexer_left_depths _ _ _ _ _ _
 pub refused_query_leaves_the_depths : lexer_leaves_depths Crate (ascii "(a") eights eights eights eights eights
 unfolding lexing
 refused_query_leaves_the_depths = lexer_left_depths _ _ _ _ _ _
-
-abbrev not_lexed_gives : Result ℕ Refusal → Refusal → Type 0
-not_lexed_gives t v = Answers not_lexed_kinds.ps not_lexed_kinds.r not_lexed_reads.Post (λ κs a. a.0 ≡ t) (λ κs. v)
-
-not_lexed_at : (t : Result ℕ Refusal) → not_lexed_gives t (not_lexed t)
-not_lexed_at t κs a x e p h = p ∙ ap not_lexed h
-
-pub refusal_is_told_with_its_place : not_lexed_gives (Err (not_utf8 (place 3 2))) (not_utf8 (place 3 2))
-refusal_is_told_with_its_place = not_lexed_at _
-
-pub query_that_is_lexed_has_no_refusal : not_lexed_gives (Ok 1) (at_start 0)
-query_that_is_lexed_has_no_refusal = not_lexed_at _

@@ -4,7 +4,7 @@ use Rattle.std.specs.Prelude.{ℕ, min, cond, List, [], ◌∷◌, ◌++◌, map
 use Rattle.utf8.specs.declared.Reading.{Reading}
 use Rattle.utf8.specs.declared.Refusal.{Refusal}
 use Rattle.token.specs.Kinds.{eof_kind}
-use Rattle.utf8.specs.Answers.{text_limit, refused_at, no_room, no_refusal, admitted}
+use Rattle.utf8.specs.Answers.{text_limit, refused_at, no_room, admitted}
 use Rattle.lex.specs.Outcome.{Entry, entry, Outcome, reads, ends, refuses, outcome_of}
 
 -- the lexemes that were read; "EOF: start at the query's length, length 0", and nothing is open there
@@ -40,11 +40,6 @@ roomed room (Err refusal) = Err refusal
 
 unfoldable pub lexed : Reading → ℕ → List ℕ → Result ℕ Refusal
 lexed r room q = roomed room (measured r q)
-
--- why a query is refused
-abbrev pub not_lexed : Result ℕ Refusal → Refusal
-not_lexed (Ok n) = no_refusal
-not_lexed (Err refusal) = refusal
 
 -- "the first count entries of the three lent lists .. are written, no other", and of a fourth since document 02's L7
 abbrev pub listed : Reading → (Entry → ℕ) → List ℕ → List ℕ → List ℕ

@@ -23,7 +23,7 @@ use Rattle.lex.specs.steps.Pass.{in_braces, has_colon, inside_by, outcome_at, St
 use Rattle.lex.proofs.Lists.{leads_alike}
 use Rattle.lex.proofs.Turns.{same_depth, lexeme_further, space_further, comment_further, refused_within, turn_lexeme, turn_space, turn_comment, turn_refused, in_mode, same_mode, Stands, stands_start}
 use Rattle.lex.proofs.opened.Goals as goal
-use Rattle.lex.proofs.opened.Goals.{After-inner_step-s, After-placed-lexeme, After-slice_known-in-Lexeme-4-1, Start}
+use Rattle.lex.proofs.opened.Goals.{After-inner_step-s, In-Lexeme, After-slice_known-in-Lexeme-4-1, Start}
 
 -- what is open at first, by whether it is braces
 opening : (i : Inside) {b : Bool} → Opens i → (i ≡ Nothing → ⊥) → b ≡ in_braces i → i ≡ inside_by b false true
@@ -105,9 +105,9 @@ module _ (c : After-inner_step-s) where
       subst (λ (m : Mode). Leads (state a.kinds.now a.starts.now a.lengths.now a.depths.now a.first (outcome_at reading bytes a.from m)) b) (sym e) w
 
 -- where the step is a lexeme, and how far it goes
-module _ (c : After-placed-lexeme) where
+module _ (c : In-Lexeme) where
   abbrev place : After-inner_step-s
-  place = (goal.at.After-placed-lexeme c).After-inner_step-s
+  place = (goal.at.In-Lexeme c).After-inner_step-s
 
   abbrev size : ℕ
   size = c.in-Lexeme.length
@@ -138,49 +138,37 @@ returns-in-Nothing c =
 pub loop-kind-init : goal.loop-kind-init
 loop-kind-init c = let g = c.requires.placed in (omega arith, omega (arith, g), stands_start _ _ _ _ (omega (arith, g)))
 
-pub inner_step-s-requires : goal.inner_step-s-requires
-inner_step-s-requires c = c.requires.table
-
 pub put-requires : goal.put-requires
 put-requires c =
-    let d = (goal.at.put-requires c).After-placed-lexeme in
+    let d = (goal.at.put-requires c).In-Lexeme in
     let p = place d in
     let g = further d in
     let h = (start p).requires in
     record {
       alike = alike p;
-      small = rw d.placed-lexeme.ensures (omega (arith, h), omega (arith, h), omega (arith, h));
+      small = (omega (arith, h), omega (arith, h), omega (arith, h));
     }
 
 pub overflow_add-at : goal.overflow_add-at
-overflow_add-at c = let d = (goal.at.overflow_add-at c).After-placed-lexeme in omega (arith, further d, (start (place d)).requires.limited)
+overflow_add-at c = let d = (goal.at.overflow_add-at c).In-Lexeme in omega (arith, further d, (start (place d)).requires.limited)
 
 pub overflow_add-i : goal.overflow_add-i
-overflow_add-i c = let p = place (goal.at.overflow_add-i c).After-placed-lexeme in let v = p.loop-kind.invariant in omega (arith, (start p).requires.limited, (stand p).inside)
+overflow_add-i c = let p = place (goal.at.overflow_add-i c).In-Lexeme in let v = p.loop-kind.invariant in omega (arith, (start p).requires.limited, (stand p).inside)
 
 -- the lexeme is written, and what is behind it is still to come
 wrote : (c : After-slice_known-in-Lexeme-4-1) →
-    let d = (goal.at.After-slice_known-in-Lexeme-4-1 c).After-placed-lexeme in
+    let d = (goal.at.After-slice_known-in-Lexeme-4-1 c).In-Lexeme in
     let p = place d in
     let w = c.put.new in
     Stands (reading p) (begun p) (bytes p) w.kinds w.starts w.lengths w.depths (p.loop-kind.i + 1) (at p + size d) (behind d)
 wrote c =
-    let d = (goal.at.After-slice_known-in-Lexeme-4-1 c).After-placed-lexeme in
+    let d = (goal.at.After-slice_known-in-Lexeme-4-1 c).In-Lexeme in
     let p = place d in
-    turn_lexeme (stand p) (lexed d) (same_depth (stand p) (lexed d) (omega (arith, (start p).requires)) (kept d)) (
-      rw d.placed-lexeme.ensures at c.put.ensures.kinds_after,
-      (
-        rw d.placed-lexeme.ensures at c.put.ensures.starts_after,
-        (
-          rw d.placed-lexeme.ensures at c.put.ensures.lengths_after,
-          rw d.placed-lexeme.ensures at c.put.ensures.depths_after,
-        ),
-      ),
-    )
+    turn_lexeme (stand p) (lexed d) (same_depth (stand p) (lexed d) (omega (arith, (start p).requires)) (kept d)) (c.put.ensures.kinds_after, (c.put.ensures.starts_after, (c.put.ensures.lengths_after, c.put.ensures.depths_after)))
 
 pub returns-in-Nothing-inside : goal.returns-in-Nothing-inside
 returns-in-Nothing-inside c =
-    let d = (goal.at.returns-in-Nothing-inside c).After-placed-lexeme in
+    let d = (goal.at.returns-in-Nothing-inside c).In-Lexeme in
     let p = place d in
     let g = further d in
     let v = p.loop-kind.invariant in
@@ -190,11 +178,11 @@ returns-in-Nothing-inside c =
     }
 
 pub loop-kind-smaller-in-Lexeme : goal.loop-kind-smaller-in-Lexeme
-loop-kind-smaller-in-Lexeme c = let d = (goal.at.loop-kind-smaller-in-Lexeme c).After-placed-lexeme in omega (arith, further d)
+loop-kind-smaller-in-Lexeme c = let d = (goal.at.loop-kind-smaller-in-Lexeme c).In-Lexeme in omega (arith, further d)
 
 pub loop-kind-preserved-in-Lexeme : goal.loop-kind-preserved-in-Lexeme
 loop-kind-preserved-in-Lexeme c =
-    let d = (goal.at.loop-kind-preserved-in-Lexeme c).After-placed-lexeme in
+    let d = (goal.at.loop-kind-preserved-in-Lexeme c).In-Lexeme in
     let p = place d in
     let g = further d in
     let v = p.loop-kind.invariant in

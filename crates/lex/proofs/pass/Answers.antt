@@ -1,9 +1,9 @@
 -- A turn has its step's share of what is still to come (`Turns`), and so has what a lexeme opens (`opened`). A refusal, or the end, says what all has come to.
-use Prim.Native.Nat.{ℕ, ◌+◌, ◌-◌, ◌≤◌}
+use Prim.Native.Nat.{ℕ, ◌+◌, ◌≤◌}
 use native.Mathlib.Omega.{arith}
 use mathlib.Core.List.{List}
-use mathlib.Core.Path.{◌≡◌, sym, ap, ap₂, ◌∙◌, subst}
-use lib.ListN.{length, take, drop}
+use mathlib.Core.Path.{◌≡◌, sym, ap, ◌∙◌, subst}
+use lib.ListN.{length, drop}
 use Rattle.proving.proofs.Lists.{rest_of}
 use Rattle.utf8.specs.declared.Reading.{Reading}
 use Rattle.munch.specs.declared.Inside.TheVariants.{Nothing}
@@ -11,26 +11,25 @@ use Rattle.munch.specs.declared.Mode.{Mode}
 use Rattle.munch.specs.declared.Step.{Step}
 use Rattle.munch.specs.Munch.{mode, munched}
 use Rattle.munch.specs.laws.Modes.{LeadsTo}
-use Rattle.token.specs.steps.WordRows.{word_table}
-use Rattle.munch.specs.steps.Leads.{lead_table}
-use Rattle.munch.specs.steps.Lent.{outside_by}
 use Rattle.munch.proofs.Modes.{step_leads}
-use Rattle.munch.proofs.Known.{outside_by_tables}
+use Rattle.std.proofs.Common.{rules}
+use Rattle.std.proofs.lemmas.Result.{err_from_is_err_and}
+use Rattle.std.specs.Prelude.{min, Err, Result}
+use Rattle.quoted.specs.declared.Fault.{Fault}
 use Rattle.lex.specs.declared.Run.{Run}
-use Rattle.lex.specs.declared.Run.TheVariants.{To}
 use Rattle.lex.specs.Outcome.{outcome_of}
 use Rattle.lex.specs.steps.Pass.{State, state, state_behind, Alike, Leads, Reached}
 use Rattle.lex.proofs.Lists.{leads_on, leads_alike, leads_refused, leads_end}
 use Rattle.lex.proofs.Turns.{lexeme_depth, lexeme_opens, lexeme_further, space_further, comment_further, refused_within, turn_lexeme, turn_space, turn_comment, turn_refused, turn_finished, in_mode, Stands, stands_start}
 use Rattle.lex.proofs.pass.Goals as goal
-use Rattle.lex.proofs.pass.Goals.{After-opened-r, After-outside_step-s, After-slice_known-in-Lexeme-4-1, Start}
+use Rattle.lex.proofs.pass.Goals.{After-opened, After-outside-s, After-slice_known-in-Lexeme-4-1, Start}
 
 -- once a step is known: where the loop stood
 abbrev Place : Type 0
-Place = After-outside_step-s
+Place = After-outside-s
 
 abbrev start : Place → Start
-start c = (goal.at.After-outside_step-s c).Start
+start c = (goal.at.After-outside-s c).Start
 
 abbrev bytes : Place → List ℕ
 bytes c = (start c).args.query.now
@@ -47,13 +46,9 @@ depth c = c.loop-kind.depth
 abbrev here : Place → Mode
 here c = mode (depth c) Nothing
 
-module _ (c : Place) {s : Step} (e : c.outside_step-s.result ≡ s) where
+module _ (c : Place) {s : Step} (e : c.outside-s.result ≡ s) where
   told : munched (reading c) (here c) (drop (at c) (bytes c)) ≡ s
-  told =
-      sym (c.outside_step-s.ensures ∙ lent ∙ outside_by_tables (reading c) (depth c) (drop (at c) (bytes c))) ∙ e
-    where
-      lent : outside_by (reading c) (start c).args.leads.now (start c).args.words.now (depth c) (take (length (bytes c) - at c) (drop (at c) (bytes c))) ≡ outside_by (reading c) lead_table word_table (depth c) (drop (at c) (bytes c))
-      lent = ap (λ (t : List ℕ). outside_by (reading c) (start c).args.leads.now (start c).args.words.now (depth c) t) (rest_of (bytes c) (at c)) ∙ ap₂ (λ (l w : List ℕ). outside_by (reading c) l w (depth c) (drop (at c) (bytes c))) (start c).requires.tables.0 (start c).requires.tables.1
+  told = rw rest_of at (sym c.outside-s.ensures ∙ e)
 
   leads_to : LeadsTo (depth c) Nothing s
   leads_to = rw told at (step_leads (reading c) (depth c) Nothing (drop (at c) (bytes c)))
@@ -73,18 +68,18 @@ loop-kind-init c = (omega arith, omega arith, stands_start _ _ _ _ (omega arith)
 
 pub put-requires : goal.put-requires
 put-requires c =
-    let p = (goal.at.put-requires c).After-outside_step-s in
+    let p = (goal.at.put-requires c).After-outside-s in
     let g = lexeme_further (stand p) (told p c.in-Lexeme.is) in
     let q = (start p).requires.limited in
     let v = p.loop-kind.invariant in
     record {
       alike = alike p;
-      small = rw (c.placed-lexeme.ensures, c.least.ensures) (omega arith, omega arith, omega arith);
+      small = (omega arith, omega arith, omega arith);
     }
 
 -- behind `put`: where the step was known, and how far the lexeme goes
 abbrev place : After-slice_known-in-Lexeme-4-1 → Place
-place c = (goal.at.After-slice_known-in-Lexeme-4-1 c).After-outside_step-s
+place c = (goal.at.After-slice_known-in-Lexeme-4-1 c).After-outside-s
 
 further : (c : After-slice_known-in-Lexeme-4-1) → let p = place c in let n = c.in-Lexeme.length in (1 ≤ n) × (at p + n ≤ length (bytes p))
 further c = let p = place c in lexeme_further (stand p) (told p c.in-Lexeme.is)
@@ -99,16 +94,8 @@ behind c =
     let p = place c in
     let e = told p c.in-Lexeme.is in
     let v = p.loop-kind.invariant in
-    turn_lexeme (stand p) e (c.least.ensures ∙ lexeme_depth (stand p) e (omega (arith, (start p).requires, (stand p).inside))) (
-      rw c.placed-lexeme.ensures at c.put.ensures.kinds_after,
-      (
-        rw c.placed-lexeme.ensures at c.put.ensures.starts_after,
-        (
-          rw c.placed-lexeme.ensures at c.put.ensures.lengths_after,
-          rw c.placed-lexeme.ensures at c.put.ensures.depths_after,
-        ),
-      ),
-    )
+    let lesser : c.min.result ≡ min (depth p) c.in-Lexeme.mode.depth = search rules in
+    turn_lexeme (stand p) e (lesser ∙ lexeme_depth (stand p) e (omega (arith, (start p).requires, (stand p).inside))) (c.put.ensures.kinds_after, (c.put.ensures.starts_after, (c.put.ensures.lengths_after, c.put.ensures.depths_after)))
 
 pub overflow_add-at : goal.overflow_add-at
 overflow_add-at c = let d = (goal.at.overflow_add-at c).After-slice_known-in-Lexeme-4-1 in omega (arith, further d, (start (place d)).requires.limited)
@@ -116,15 +103,14 @@ overflow_add-at c = let d = (goal.at.overflow_add-at c).After-slice_known-in-Lex
 pub overflow_add-i : goal.overflow_add-i
 overflow_add-i c = let p = place (goal.at.overflow_add-i c).After-slice_known-in-Lexeme-4-1 in omega (arith, p.loop-kind.invariant.0, (stand p).inside, (start p).requires.limited)
 
-pub opened-r-requires : goal.opened-r-requires
-opened-r-requires c =
-    let d = (goal.at.opened-r-requires c).After-slice_known-in-Lexeme-4-1 in
+pub opened-requires : goal.opened-requires
+opened-requires c =
+    let d = (goal.at.opened-requires c).After-slice_known-in-Lexeme-4-1 in
     let p = place d in
     let g = further d in
     let v = p.loop-kind.invariant in
     let h = (start p).requires in
     record {
-      table = h.tables.0;
       limited = h.limited;
       alike = leads_alike (behind d).leads h.alike;
       opens = leads_to p d.in-Lexeme.is;
@@ -132,9 +118,9 @@ opened-r-requires c =
     }
 
 -- behind `opened`: what the lexeme and what it has opened have led to
-module _ (c : After-opened-r) where
+module _ (c : After-opened) where
   abbrev put : After-slice_known-in-Lexeme-4-1
-  put = (goal.at.After-opened-r c).After-slice_known-in-Lexeme-4-1
+  put = (goal.at.After-opened c).After-slice_known-in-Lexeme-4-1
 
   abbrev stood : Place
   stood = place put
@@ -145,83 +131,84 @@ module _ (c : After-opened-r) where
   abbrev query : List ℕ
   query = bytes stood
 
-  abbrev Passed : Run → Type 0
+  abbrev Passed : Result Run Fault → Type 0
   Passed r =
       let a = (start stood).args in
-      let l = c.opened-r.new in
+      let l = c.opened.new in
       Reached query (at stood + c.in-Lexeme.length) r
       × Leads (state a.kinds.now a.starts.now a.lengths.now a.depths.now 0 (outcome_of read query)) (state_behind read query l.kinds l.starts l.lengths l.depths c.in-Lexeme.mode.depth r)
 
-  passed : {r : Run} → c.opened-r.result ≡ r → Passed r
-  passed e = subst Passed e (c.opened-r.ensures.reached, leads_on (behind put).leads c.opened-r.ensures.leads)
+  passed : {r : Result Run Fault} → c.opened.result ≡ r → Passed r
+  passed e = subst Passed e (c.opened.ensures.reached, leads_on (behind put).leads c.opened.ensures.leads)
 
-pub returns-in_default : goal.returns-in_default
-returns-in_default c =
-    let o = (goal.at.returns-in_default c).After-opened-r in
-    let e = c.in_default.is in
+pub returns-in_err-run-in-Lexeme : goal.returns-in_err-run-in-Lexeme
+returns-in_err-run-in-Lexeme c =
+    let o = (goal.at.returns-in_err-run-in-Lexeme c).After-opened in
+    let e = c.in_err-run-in-Lexeme.was in
     let w = leads_refused (read o) (query o) (passed o e).1 in
-    rw e record { value = w.0; kinds_after = w.1.0; starts_after = w.1.1.0; lengths_after = w.1.1.1.0; depths_after = w.1.1.1.1 }
+    let r = err_from_is_err_and c.from_residual.result c.from_residual.ensures.1 in
+    record { value = r.1 ∙ ap Err r.2 ∙ w.0; kinds_after = w.1.0; starts_after = w.1.1.0; lengths_after = w.1.1.1.0; depths_after = w.1.1.1.1 }
 
 pub loop-kind-smaller-in-Lexeme : goal.loop-kind-smaller-in-Lexeme
 loop-kind-smaller-in-Lexeme c =
-    let o = (goal.at.loop-kind-smaller-in-Lexeme c).After-opened-r in
+    let o = (goal.at.loop-kind-smaller-in-Lexeme c).After-opened in
     let g = further (put o) in
-    let b = (passed o c.in-To.is).0 in
+    let b = (passed o c.in_ok-run-in-Lexeme.was).0 in
     omega arith
 
 pub loop-kind-preserved-in-Lexeme : goal.loop-kind-preserved-in-Lexeme
 loop-kind-preserved-in-Lexeme c =
-    let o = (goal.at.loop-kind-preserved-in-Lexeme c).After-opened-r in
-    let w = passed o c.in-To.is in
+    let o = (goal.at.loop-kind-preserved-in-Lexeme c).After-opened in
+    let w = passed o c.in_ok-run-in-Lexeme.was in
     let p = stood o in
     let v = p.loop-kind.invariant in
     let g = further (put o) in
     (w.0.2, omega (arith, lexeme_opens (stand p) (told p c.in-Lexeme.is), w.0.0), record { inside = w.0.1; leads = w.1 })
 
 pub overflow_add-at-in-Space : goal.overflow_add-at-in-Space
-overflow_add-at-in-Space c = let p = (goal.at.overflow_add-at-in-Space c).After-outside_step-s in let g = space_further (stand p) (told p c.in-Space.is) in omega (arith, (start p).requires.limited)
+overflow_add-at-in-Space c = let p = (goal.at.overflow_add-at-in-Space c).After-outside-s in let g = space_further (stand p) (told p c.in-Space.is) in omega (arith, (start p).requires.limited)
 
 pub loop-kind-smaller-in-Space : goal.loop-kind-smaller-in-Space
-loop-kind-smaller-in-Space c = let p = (goal.at.loop-kind-smaller-in-Space c).After-outside_step-s in let g = space_further (stand p) (told p c.in-Space.is) in omega arith
+loop-kind-smaller-in-Space c = let p = (goal.at.loop-kind-smaller-in-Space c).After-outside-s in let g = space_further (stand p) (told p c.in-Space.is) in omega arith
 
 pub loop-kind-preserved-in-Space : goal.loop-kind-preserved-in-Space
 loop-kind-preserved-in-Space c =
-    let p = (goal.at.loop-kind-preserved-in-Space c).After-outside_step-s in
+    let p = (goal.at.loop-kind-preserved-in-Space c).After-outside-s in
     let e = c.in-Space.is in
     let v = p.loop-kind.invariant in
     (omega arith, omega arith, in_mode (leads_to p e) (turn_space (stand p) (told p e)))
 
 pub overflow_add-at-in-Comment : goal.overflow_add-at-in-Comment
-overflow_add-at-in-Comment c = let p = (goal.at.overflow_add-at-in-Comment c).After-outside_step-s in let g = comment_further (stand p) (told p c.in-Comment.is) in omega (arith, (start p).requires.limited)
+overflow_add-at-in-Comment c = let p = (goal.at.overflow_add-at-in-Comment c).After-outside-s in let g = comment_further (stand p) (told p c.in-Comment.is) in omega (arith, (start p).requires.limited)
 
 pub loop-kind-smaller : goal.loop-kind-smaller
-loop-kind-smaller c = let p = (goal.at.loop-kind-smaller c).After-outside_step-s in let g = comment_further (stand p) (told p c.in-Comment.is) in omega arith
+loop-kind-smaller c = let p = (goal.at.loop-kind-smaller c).After-outside-s in let g = comment_further (stand p) (told p c.in-Comment.is) in omega arith
 
 pub loop-kind-preserved : goal.loop-kind-preserved
 loop-kind-preserved c =
-    let p = (goal.at.loop-kind-preserved c).After-outside_step-s in
+    let p = (goal.at.loop-kind-preserved c).After-outside-s in
     let e = told p c.in-Comment.is in
     let v = p.loop-kind.invariant in
     let g = comment_further (stand p) e in
     (omega arith, omega arith, turn_comment (stand p) e)
 
 pub overflow_add-at-in-Refused : goal.overflow_add-at-in-Refused
-overflow_add-at-in-Refused c = let p = (goal.at.overflow_add-at-in-Refused c).After-outside_step-s in omega (arith, refused_within (stand p) (told p c.in-Refused.is), (start p).requires.limited)
+overflow_add-at-in-Refused c = let p = (goal.at.overflow_add-at-in-Refused c).After-outside-s in omega (arith, refused_within (stand p) (told p c.in-Refused.is), (start p).requires.limited)
 
 pub returns-in-Refused : goal.returns-in-Refused
 returns-in-Refused c =
-    let p = (goal.at.returns-in-Refused c).After-outside_step-s in
+    let p = (goal.at.returns-in-Refused c).After-outside-s in
     let w = leads_refused (reading p) (bytes p) (turn_refused (stand p) (told p c.in-Refused.is)) in
     rw c.refused_by.ensures record { value = w.0; kinds_after = w.1.0; starts_after = w.1.1.0; lengths_after = w.1.1.1.0; depths_after = w.1.1.1.1 }
 
 pub put-requires-in-Finished : goal.put-requires-in-Finished
 put-requires-in-Finished c =
-    let p = (goal.at.put-requires-in-Finished c).After-outside_step-s in
+    let p = (goal.at.put-requires-in-Finished c).After-outside-s in
     let v = p.loop-kind.invariant in
     let q = (start p).requires.limited in
     record {
       alike = alike p;
-      small = rw c.placed-end.ensures (omega (arith, (stand p).inside), omega arith, omega arith);
+      small = (omega (arith, (stand p).inside), omega arith, omega arith);
     }
 
 pub overflow_add-count : goal.overflow_add-count
@@ -229,15 +216,6 @@ overflow_add-count c = let v = c.loop-kind.invariant in omega (arith, c.requires
 
 pub returns-in-Finished : goal.returns-in-Finished
 returns-in-Finished c =
-    let p = (goal.at.returns-in-Finished c).After-outside_step-s in
-    let w = leads_end (reading p) (bytes p) (turn_finished (stand p) (told p c.in-Finished.is)) (
-      rw c.placed-end.ensures at c.put-in-Finished.ensures.kinds_after,
-      (
-        rw c.placed-end.ensures at c.put-in-Finished.ensures.starts_after,
-        (
-          rw c.placed-end.ensures at c.put-in-Finished.ensures.lengths_after,
-          rw c.placed-end.ensures at c.put-in-Finished.ensures.depths_after,
-        ),
-      ),
-    ) in
-    record { value = ap (To (at p)) (omega arith) ∙ w.0; kinds_after = w.1.0; starts_after = w.1.1.0; lengths_after = w.1.1.1.0; depths_after = w.1.1.1.1 }
+    let p = (goal.at.returns-in-Finished c).After-outside-s in
+    let w = leads_end (reading p) (bytes p) (turn_finished (stand p) (told p c.in-Finished.is)) (c.put-in-Finished.ensures.kinds_after, (c.put-in-Finished.ensures.starts_after, (c.put-in-Finished.ensures.lengths_after, c.put-in-Finished.ensures.depths_after))) in
+    record { value = w.0; kinds_after = w.1.0; starts_after = w.1.1.0; lengths_after = w.1.1.1.0; depths_after = w.1.1.1.1 }

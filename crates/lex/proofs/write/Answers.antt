@@ -23,7 +23,6 @@ pass-requires c =
     let r = c.requires.room in
     let k = length-take-le c.args.n c.args.kinds.now r.0 in
     record {
-      tables = c.requires.tables;
       limited = c.requires.limited;
       alike = (length-take-le _ _ r.1 ∙ sym k, length-take-le _ _ r.2 ∙ sym k, length-take-le _ _ r.3 ∙ sym k);
     }

@@ -1,15 +1,14 @@
 -- A pass over a query, which writes lexemes to four lists as far as they have room. What a part of it has done is said by what is left to do: all ends
 -- as it would have (`Leads`). A store past the end of a list changes nothing, so that room is no condition.
-use Rattle.std.specs.Prelude.{ℕ, ◌≤◌, Bool, true, false, List, ◌++◌, map, ◌≡◌, length, take, drop}
+use Rattle.std.specs.Prelude.{ℕ, ◌≤◌, Bool, true, false, List, ◌++◌, map, ◌≡◌, length, take, drop, Err, Ok, Result}
 use Rattle.std.proofs.lemmas.List.Edits.{sets}
 use Rattle.utf8.specs.declared.Reading.{Reading}
 use Rattle.munch.specs.declared.Inside.{Inside}
 use Rattle.munch.specs.declared.Inside.TheVariants.{Nothing, Braces, Brackets}
 use Rattle.munch.specs.declared.Mode.{Mode}
 use Rattle.munch.specs.Munch.{mode}
+use Rattle.quoted.specs.declared.Fault.{Fault}
 use Rattle.lex.specs.declared.Run.{Run}
-use Rattle.lex.specs.declared.Lexeme.{Lexeme}
-use Rattle.lex.specs.declared.Run.TheVariants as run
 use Rattle.lex.specs.Outcome.{Entry, Outcome, refuses, steps_past, read_from}
 use Rattle.lex.specs.Lex.{entries, entries_of, kind_of, starts_at, length_of, depth_of}
 use Rattle.lex.specs.steps.Tally.{tallied}
@@ -37,10 +36,6 @@ inside_by false seen fresh = Brackets seen fresh
 -- what comes of a query from an offset on, in a mode
 abbrev pub outcome_at : Reading → List ℕ → ℕ → Mode → Outcome
 outcome_at r q at m = read_from at (steps_past r 0 m (drop at q))
-
--- a lexeme that begins at an offset
-abbrev pub lexeme_of : ℕ → ℕ → ℕ → ℕ → Lexeme
-lexeme_of k at n d = record { kind = k; start = record { 0 = at }; length = n; depth = d }
 
 -- the four lists are equally long
 abbrev pub Alike : List ℕ → List ℕ → List ℕ → List ℕ → Type 0
@@ -75,11 +70,11 @@ pub record Leads (a b : State) : Type 0 where
   pub depths : Kept depth_of a.depths a b.depths b
 
 -- where a pass is behind braces or brackets in so many parentheses; once refused, no lexeme is to come
-abbrev pub state_behind : Reading → List ℕ → List ℕ → List ℕ → List ℕ → List ℕ → ℕ → Run → State
-state_behind r q ks ss ls ds d (run.To at n) = state ks ss ls ds n (outcome_at r q at (mode d Nothing))
-state_behind r q ks ss ls ds d (run.Refused number o) = state ks ss ls ds 0 (refuses number o.0)
+abbrev pub state_behind : Reading → List ℕ → List ℕ → List ℕ → List ℕ → List ℕ → ℕ → Result Run Fault → State
+state_behind r q ks ss ls ds d (Ok run) = state ks ss ls ds run.count (outcome_at r q run.at (mode d Nothing))
+state_behind r q ks ss ls ds d (Err f) = state ks ss ls ds 0 (refuses f.number f.at)
 
 -- a run goes on from where it began, within the query, and no lexeme is empty
-abbrev pub Reached : List ℕ → ℕ → Run → Type 0
-Reached q from (run.To at n) = (from ≤ at) × (at ≤ length q) × (n ≤ at)
-Reached q from (run.Refused r o) = Unit {0}
+abbrev pub Reached : List ℕ → ℕ → Result Run Fault → Type 0
+Reached q from (Ok run) = (from ≤ run.at) × (run.at ≤ length q) × (run.count ≤ run.at)
+Reached q from (Err f) = Unit {0}
