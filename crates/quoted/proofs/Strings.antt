@@ -14,8 +14,8 @@ use Rattle.scan.specs.Text.{has}
 use Rattle.scan.specs.laws.Edge.{Edge, first, last, behind}
 use Rattle.proving.proofs.Choice.{either}
 use Rattle.scan.proofs.Edges.{one_ascii}
-use Rattle.quoted.specs.declared.Quoted.{Quoted}
-use Rattle.quoted.specs.declared.Quoted.TheVariants.{Closed}
+use Rattle.std.specs.Prelude.{Result, Ok}
+use Rattle.quoted.specs.declared.Fault.{Fault}
 use Rattle.quoted.specs.Quoted.{is_escape, quoted_from, is_raw, raw_from}
 use Rattle.quoted.specs.laws.Quoted.{Lies, StringWithin, Numbered, StringNumbered, StringSeam, BackslashAlone}
 use Rattle.quoted.proofs.Turns.{past_end, escaped_turn, plain_turn, raw_end, raw_turn}
@@ -65,19 +65,19 @@ pub string_numbered : StringNumbered
 string_numbered r symbol xs = either Numbered (is_raw r symbol) (λ e. raw_numbered symbol 0 xs) (λ e. numbered symbol false 0 xs)
 
 -- what each arm of a choice keeps, the choice keeps
-kept : (b : Bool) {u v w z r : Quoted} → (u ≡ r → w ≡ r) → (v ≡ r → z ≡ r) → cond b u v ≡ r → cond b w z ≡ r
+kept : (b : Bool) {u v w z r : Result ℕ Fault} → (u ≡ r → w ≡ r) → (v ≡ r → z ≡ r) → cond b u v ≡ r → cond b w z ≡ r
 kept true f g = f
 kept false f g = g
 
 -- a string that is closed stays so
-closed_stays : (symbol : ℕ) (xs ys : List ℕ) (escaped : Bool) (n r : ℕ) → quoted_from symbol escaped n xs ≡ Closed r → quoted_from symbol escaped n (xs ++ ys) ≡ Closed r
+closed_stays : (symbol : ℕ) (xs ys : List ℕ) (escaped : Bool) (n r : ℕ) → quoted_from symbol escaped n xs ≡ Ok r → quoted_from symbol escaped n (xs ++ ys) ≡ Ok r
 unfolding quoted_from
 closed_stays symbol [] ys true n r h = cc
 closed_stays symbol [] ys false n r h = cc
 closed_stays symbol (x ∷ xs) ys true n r h = kept (is_escape symbol x) (closed_stays symbol xs ys false (n + 1) r) (λ e. e) h
 closed_stays symbol (x ∷ xs) ys false n r h = kept (eqb x symbol) (λ e. e) (closed_stays symbol xs ys (eqb x backslash) (n + 1) r) h
 
-raw_stays : (symbol : ℕ) (xs ys : List ℕ) (n r : ℕ) → raw_from symbol n xs ≡ Closed r → raw_from symbol n (xs ++ ys) ≡ Closed r
+raw_stays : (symbol : ℕ) (xs ys : List ℕ) (n r : ℕ) → raw_from symbol n xs ≡ Ok r → raw_from symbol n (xs ++ ys) ≡ Ok r
 unfolding raw_from
 raw_stays symbol [] ys n r h = cc
 raw_stays symbol (x ∷ xs) ys n r h = kept (eqb x symbol) (λ e. e) (raw_stays symbol xs ys (n + 1) r) h
@@ -92,9 +92,9 @@ no_escape symbol n [] h = refl
 no_escape symbol n (x ∷ xs) h = go (eqb x backslash) h (no_escape symbol (n + 1) xs)
   where
     go : (b : Bool) → b || has backslash xs ≡ false → (has backslash xs ≡ false → quoted_from symbol false (n + 1) xs ≡ raw_from symbol (n + 1) xs)
-        → cond (eqb x symbol) (Closed (n + 1)) (quoted_from symbol b (n + 1) xs) ≡ cond (eqb x symbol) (Closed (n + 1)) (raw_from symbol (n + 1) xs)
+        → cond (eqb x symbol) (Ok (n + 1)) (quoted_from symbol b (n + 1) xs) ≡ cond (eqb x symbol) (Ok (n + 1)) (raw_from symbol (n + 1) xs)
     go true e f = absurd (true≢false e)
-    go false e f = ap (cond (eqb x symbol) (Closed (n + 1))) (f e)
+    go false e f = ap (cond (eqb x symbol) (Ok (n + 1))) (f e)
 
 pub backslash_alone : BackslashAlone
 unfolding is_raw

@@ -10,14 +10,14 @@ use lib.Dec.{eqb}
 use lib.Seq.{take-append_seam, length-take-le}
 use lib.ListN.{length, take, drop, length-append, take-append-drop}
 use borrow.Author.Tests.{ne_eqb, eqb-true, eqb-false}
-use Rattle.proving.proofs.Choice.{told}
+use Rattle.proving.proofs.Choice.{either, told}
 use Rattle.scan.specs.Byte.{backslash, backquote, is_quote}
 use Rattle.scan.specs.Language.{One, one}
 use Rattle.utf8.specs.declared.Reading.{Reading}
 use Rattle.utf8.specs.declared.Reading.TheVariants.{Crate, Documented}
-use Rattle.quoted.specs.declared.Quoted.{Quoted}
-use Rattle.quoted.specs.declared.Quoted.TheVariants.{Closed, Refused}
-use Rattle.quoted.specs.Quoted.{unknown_escape, end_in_escape, end_in_string, is_escape, quoted_from, is_raw, raw_from, quoted_of}
+use Rattle.std.specs.Prelude.{Result, Ok, Err}
+use Rattle.quoted.specs.declared.Fault.{Fault}
+use Rattle.quoted.specs.Quoted.{unknown_escape, end_in_escape, end_in_string, fault, is_escape, quoted_from, is_raw, raw_from, quoted_of}
 use Rattle.quoted.specs.Texts.{HasEscapes, Piece, plain, escape, Content, none, more, StringText}
 use Rattle.quoted.specs.laws.Texts.{IsString, UnknownEscape, EndInEscape, EndInString, StringGiven, NoEscapes}
 
@@ -42,25 +42,17 @@ no_backslash symbol q = go (eqb backslash symbol) refl
 
 module _ (r : Reading) (symbol : ℕ) (quote : is_quote symbol ≡ true) where
   -- a string read from its n-th byte on
-  abbrev read : ℕ → List ℕ → Quoted
+  abbrev read : ℕ → List ℕ → Result ℕ Fault
   read n xs = cond (is_raw r symbol) (raw_from symbol n xs) (quoted_from symbol false n xs)
 
   -- what a byte or two at the front do
-  read_end : (n : ℕ) → read n [] ≡ Refused end_in_string n
+  read_end : (n : ℕ) → read n [] ≡ Err (fault end_in_string n)
   unfolding raw_from quoted_from
-  read_end n = go (is_raw r symbol)
-    where
-      go : (b : Bool) → cond b (Refused end_in_string n) (Refused end_in_string n) ≡ Refused end_in_string n
-      go true = refl
-      go false = refl
+  read_end n = either (λ v. v ≡ Err (fault end_in_string n)) (is_raw r symbol) (λ e. refl) (λ e. refl)
 
-  read_sign : (n x : ℕ) (xs : List ℕ) → eqb x symbol ≡ true → read n (x ∷ xs) ≡ Closed (n + 1)
+  read_sign : (n x : ℕ) (xs : List ℕ) → eqb x symbol ≡ true → read n (x ∷ xs) ≡ Ok (n + 1)
   unfolding raw_from quoted_from
-  read_sign n x xs e = rw e (go (is_raw r symbol))
-    where
-      go : (b : Bool) → cond b (Closed (n + 1)) (Closed (n + 1)) ≡ Closed (n + 1)
-      go true = refl
-      go false = refl
+  read_sign n x xs e = rw e (either (λ v. v ≡ Ok (n + 1)) (is_raw r symbol) (λ e. refl) (λ e. refl))
 
   read_plain : (n x : ℕ) (xs : List ℕ) → eqb x symbol ≡ false → (HasEscapes r symbol → eqb x backslash ≡ false) → read n (x ∷ xs) ≡ read (n + 1) xs
   unfolding raw_from quoted_from
@@ -90,20 +82,20 @@ module _ (r : Reading) (symbol : ℕ) (quote : is_quote symbol ≡ true) where
       ∙ ap (λ m. read m rest) (omega (arith, length-append u v))
 
   -- what it comes to behind its content
-  data Way (n : ℕ) (xs : List ℕ) (v : Quoted) : Type 0 where
-    closed : (u rest : List ℕ) (x : ℕ) → Content r symbol u → eqb x symbol ≡ true → xs ≡ u ++ (x ∷ rest) → v ≡ Closed (n + length u + 1) → Way n xs v
-    unknown : (u rest : List ℕ) (x : ℕ) → Content r symbol u → HasEscapes r symbol → is_escape symbol x ≡ false → xs ≡ u ++ (backslash ∷ x ∷ rest) → v ≡ Refused unknown_escape (n + length u + 1) → Way n xs v
-    cut : (u : List ℕ) → Content r symbol u → HasEscapes r symbol → xs ≡ u ++ (backslash ∷ []) → v ≡ Refused end_in_escape (n + length u + 1) → Way n xs v
-    unclosed : Content r symbol xs → v ≡ Refused end_in_string (n + length xs) → Way n xs v
+  data Way (n : ℕ) (xs : List ℕ) (v : Result ℕ Fault) : Type 0 where
+    closed : (u rest : List ℕ) (x : ℕ) → Content r symbol u → eqb x symbol ≡ true → xs ≡ u ++ (x ∷ rest) → v ≡ Ok (n + length u + 1) → Way n xs v
+    unknown : (u rest : List ℕ) (x : ℕ) → Content r symbol u → HasEscapes r symbol → is_escape symbol x ≡ false → xs ≡ u ++ (backslash ∷ x ∷ rest) → v ≡ Err (fault unknown_escape (n + length u + 1)) → Way n xs v
+    cut : (u : List ℕ) → Content r symbol u → HasEscapes r symbol → xs ≡ u ++ (backslash ∷ []) → v ≡ Err (fault end_in_escape (n + length u + 1)) → Way n xs v
+    unclosed : Content r symbol xs → v ≡ Err (fault end_in_string (n + length xs)) → Way n xs v
 
-  further : (n : ℕ) (p xs : List ℕ) (v : Quoted) → Piece r symbol p → Way (n + length p) xs v → Way n (p ++ xs) v
+  further : (n : ℕ) (p xs : List ℕ) (v : Result ℕ Fault) → Piece r symbol p → Way (n + length p) xs v → Way n (p ++ xs) v
   further n p xs v q (closed u rest x c s e f) =
-      closed (p ++ u) rest x (more p u q c) s (ap (λ (t : List ℕ). p ++ t) e ∙ sym (append_assoc p u (x ∷ rest))) (f ∙ ap Closed (omega (arith, length-append p u)))
+      closed (p ++ u) rest x (more p u q c) s (ap (λ (t : List ℕ). p ++ t) e ∙ sym (append_assoc p u (x ∷ rest))) (f ∙ ap Ok (omega (arith, length-append p u)))
   further n p xs v q (unknown u rest x c h s e f) =
-      unknown (p ++ u) rest x (more p u q c) h s (ap (λ (t : List ℕ). p ++ t) e ∙ sym (append_assoc p u (backslash ∷ x ∷ rest))) (f ∙ ap (Refused unknown_escape) (omega (arith, length-append p u)))
+      unknown (p ++ u) rest x (more p u q c) h s (ap (λ (t : List ℕ). p ++ t) e ∙ sym (append_assoc p u (backslash ∷ x ∷ rest))) (f ∙ ap (λ m. Err (fault unknown_escape m)) (omega (arith, length-append p u)))
   further n p xs v q (cut u c h e f) =
-      cut (p ++ u) (more p u q c) h (ap (λ (t : List ℕ). p ++ t) e ∙ sym (append_assoc p u (backslash ∷ []))) (f ∙ ap (Refused end_in_escape) (omega (arith, length-append p u)))
-  further n p xs v q (unclosed c f) = unclosed (more p xs q c) (f ∙ ap (Refused end_in_string) (omega (arith, length-append p xs)))
+      cut (p ++ u) (more p u q c) h (ap (λ (t : List ℕ). p ++ t) e ∙ sym (append_assoc p u (backslash ∷ []))) (f ∙ ap (λ m. Err (fault end_in_escape m)) (omega (arith, length-append p u)))
+  further n p xs v q (unclosed c f) = unclosed (more p xs q c) (f ∙ ap (λ m. Err (fault end_in_string m)) (omega (arith, length-append p xs)))
 
   -- a byte that is content by itself
   past_plain : (n x : ℕ) (xs : List ℕ) → eqb x symbol ≡ false → (HasEscapes r symbol → eqb x backslash ≡ false) → Way (n + 1) xs (read (n + 1) xs) → Way n (x ∷ xs) (read n (x ∷ xs))
@@ -114,21 +106,21 @@ module _ (r : Reading) (symbol : ℕ) (quote : is_quote symbol ≡ true) where
   -- a backslash that begins an escape
   at_escape : (n : ℕ) (xs : List ℕ) → HasEscapes r symbol → ((y : ℕ) (ys : List ℕ) → xs ≡ y ∷ ys → Way (n + 2) ys (read (n + 2) ys)) → Way n (backslash ∷ xs) (read n (backslash ∷ xs))
   unfolding quoted_from
-  at_escape n [] h f = cut [] none h refl (read_escape n [] h ∙ ap (Refused end_in_escape) (omega arith))
+  at_escape n [] h f = cut [] none h refl (read_escape n [] h ∙ ap (λ m. Err (fault end_in_escape m)) (omega arith))
   at_escape n (y ∷ ys) h f = go (is_escape symbol y) refl
     where
       go : (b : Bool) → is_escape symbol y ≡ b → Way n (backslash ∷ y ∷ ys) (read n (backslash ∷ y ∷ ys))
       go true e =
           subst (Way n (backslash ∷ y ∷ ys)) (sym (read_escape n (y ∷ ys) h ∙ read_known (n + 1) y ys h e ∙ ap (λ m. read m ys) (omega arith)))
           (further n (backslash ∷ y ∷ []) ys _ (escape y h e) (f y ys refl))
-      go false e = unknown [] ys y none h e refl (read_escape n (y ∷ ys) h ∙ rw e (ap (Refused unknown_escape) (omega arith)))
+      go false e = unknown [] ys y none h e refl (read_escape n (y ∷ ys) h ∙ rw e (ap (λ m. Err (fault unknown_escape m)) (omega arith)))
 
   -- a byte, by what it is
   one_way : (n x : ℕ) (xs : List ℕ) → ((m : ℕ) → Way m xs (read m xs)) → ((m y : ℕ) (ys : List ℕ) → xs ≡ y ∷ ys → Way m ys (read m ys)) → Way n (x ∷ xs) (read n (x ∷ xs))
   one_way n x xs next second = go (eqb x symbol) refl (is_raw r symbol) refl (eqb x backslash) refl
     where
       go : (s : Bool) → eqb x symbol ≡ s → (t : Bool) → is_raw r symbol ≡ t → (b : Bool) → eqb x backslash ≡ b → Way n (x ∷ xs) (read n (x ∷ xs))
-      go true s t h b e = closed [] xs x none s refl (read_sign n x xs s ∙ ap Closed (omega arith))
+      go true s t h b e = closed [] xs x none s refl (read_sign n x xs s ∙ ap Ok (omega arith))
       go false s true h b e = past_plain n x xs s (λ g. absurd (true≢false (sym h ∙ not_raw r symbol g))) (next (n + 1))
       go false s false h false e = past_plain n x xs s (λ g. e) (next (n + 1))
       go false s false h true e =
@@ -136,25 +128,25 @@ module _ (r : Reading) (symbol : ℕ) (quote : is_quote symbol ≡ true) where
           subst (λ (ys : List ℕ). Way n ys (read n ys)) p (at_escape n xs (has_escapes r symbol h) (second (n + 2)))
 
   way : (xs : List ℕ) (n : ℕ) → Way n xs (read n xs)
-  way [] n = unclosed none (read_end n ∙ ap (Refused end_in_string) (sym (add-zero n)))
+  way [] n = unclosed none (read_end n ∙ ap (λ m. Err (fault end_in_string m)) (sym (add-zero n)))
   way (x ∷ []) n = one_way n x [] (λ m. way [] m) (λ m y ys e. absurd (omega (arith, ap (λ (t : List ℕ). length t) e)))
   way (x ∷ y ∷ ys) n = one_way n x (y ∷ ys) (λ m. way (y ∷ ys) m) (λ m z zs e. subst (λ (t : List ℕ). Way m t (read m t)) (ap (λ (t : List ℕ). drop 1 t) e) (way ys m))
 
 -- the kinds of answers are told apart by their numbers
-abbrev number_of : Quoted → ℕ
-number_of (Closed n) = 0
-number_of (Refused number n) = number
+abbrev number_of : Result ℕ Fault → ℕ
+number_of (Ok n) = 0
+number_of (Err f) = f.number
 
-abbrev size_of : Quoted → ℕ
-size_of (Closed n) = n
-size_of (Refused number n) = n
+abbrev size_of : Result ℕ Fault → ℕ
+size_of (Ok n) = n
+size_of (Err f) = f.at
 
 module _ (r : Reading) (symbol : ℕ) (quote : is_quote symbol ≡ true) (xs : List ℕ) (n : ℕ) where
   -- what stands before and behind a place
   front_take : (t rest : List ℕ) → xs ≡ t ++ rest → n ≡ length t → take n xs ≡ t
   front_take t rest e l = ap₂ (λ (m : ℕ) (ys : List ℕ). take m ys) l e ∙ take-append_seam t rest
 
-  string_of : Way r symbol quote 0 xs (Closed n) → IsString r symbol xs n
+  string_of : Way r symbol quote 0 xs (Ok n) → IsString r symbol xs n
   string_of (closed u rest x c s e f) =
       let t = u ++ (x ∷ []) in
       let w : xs ≡ t ++ rest = e ∙ sym (append_assoc u (x ∷ []) rest) in
@@ -166,21 +158,21 @@ module _ (r : Reading) (symbol : ℕ) (quote : is_quote symbol ≡ true) (xs : L
   string_of (cut u c h e f) = told number_of f refl (λ k. absurd (omega (arith, k)))
   string_of (unclosed c f) = told number_of f refl (λ k. absurd (omega (arith, k)))
 
-  unknown_of : Way r symbol quote 0 xs (Refused unknown_escape n) → UnknownEscape r symbol xs n
+  unknown_of : Way r symbol quote 0 xs (Err (fault unknown_escape n)) → UnknownEscape r symbol xs n
   unknown_of (closed u rest x c s e f) = told number_of f refl (λ k. absurd (omega (arith, k)))
   unknown_of (unknown u rest x c h s e f) =
       record { content = u; character = x; rest = rest; before = c; escapes = h; unknown = s; whole = e; place = omega (arith, ap size_of f) }
   unknown_of (cut u c h e f) = told number_of f refl (λ k. absurd (omega (arith, k)))
   unknown_of (unclosed c f) = told number_of f refl (λ k. absurd (omega (arith, k)))
 
-  cut_of : Way r symbol quote 0 xs (Refused end_in_escape n) → EndInEscape r symbol xs n
+  cut_of : Way r symbol quote 0 xs (Err (fault end_in_escape n)) → EndInEscape r symbol xs n
   cut_of (closed u rest x c s e f) = told number_of f refl (λ k. absurd (omega (arith, k)))
   cut_of (unknown u rest x c h s e f) = told number_of f refl (λ k. absurd (omega (arith, k)))
   cut_of (cut u c h e f) =
       record { content = u; before = c; escapes = h; whole = e; place = omega (arith, ap size_of f, ap (λ (t : List ℕ). length t) e, length-append u (backslash ∷ [])) }
   cut_of (unclosed c f) = told number_of f refl (λ k. absurd (omega (arith, k)))
 
-  unclosed_of : Way r symbol quote 0 xs (Refused end_in_string n) → EndInString r symbol xs n
+  unclosed_of : Way r symbol quote 0 xs (Err (fault end_in_string n)) → EndInString r symbol xs n
   unclosed_of (closed u rest x c s e f) = told number_of f refl (λ k. absurd (omega (arith, k)))
   unclosed_of (unknown u rest x c h s e f) = told number_of f refl (λ k. absurd (omega (arith, k)))
   unclosed_of (cut u c h e f) = told number_of f refl (λ k. absurd (omega (arith, k)))
@@ -190,30 +182,30 @@ module _ (r : Reading) (symbol : ℕ) (quote : is_quote symbol ≡ true) (xs : L
   behind : (u rest : List ℕ) → Content r symbol u → xs ≡ u ++ rest → quoted_of r symbol xs ≡ read r symbol quote (length u) rest
   behind u rest c e = ap (read r symbol quote 0) e ∙ content_read r symbol quote 0 u rest c ∙ ap (λ m. read r symbol quote m rest) (zero-add (length u))
 
-  of_string : IsString r symbol xs n → quoted_of r symbol xs ≡ Closed n
+  of_string : IsString r symbol xs n → quoted_of r symbol xs ≡ Ok n
   of_string (l, t) = go t.front t.back t.first t.second t.whole
     where
-      go : (u v : List ℕ) → Content r symbol u → One (λ c. eqb c symbol) v → take n xs ≡ u ++ v → quoted_of r symbol xs ≡ Closed n
+      go : (u v : List ℕ) → Content r symbol u → One (λ c. eqb c symbol) v → take n xs ≡ u ++ v → quoted_of r symbol xs ≡ Ok n
       go u _ c (one x s) e =
           let w : xs ≡ u ++ (x ∷ drop n xs) = sym (take-append-drop n xs) ∙ ap (λ (ys : List ℕ). ys ++ drop n xs) e ∙ append_assoc u (x ∷ []) (drop n xs) in
           behind u (x ∷ drop n xs) c w ∙ read_sign r symbol quote (length u) x (drop n xs) s
-          ∙ ap Closed (omega (arith, ap (λ (ys : List ℕ). length ys) e, length-append u (x ∷ []), length-take-le n xs l))
+          ∙ ap Ok (omega (arith, ap (λ (ys : List ℕ). length ys) e, length-append u (x ∷ []), length-take-le n xs l))
 
-  of_unknown : UnknownEscape r symbol xs n → quoted_of r symbol xs ≡ Refused unknown_escape n
+  of_unknown : UnknownEscape r symbol xs n → quoted_of r symbol xs ≡ Err (fault unknown_escape n)
   unfolding quoted_from
   of_unknown i =
       behind i.content _ i.before i.whole ∙ read_escape r symbol quote (length i.content) _ i.escapes
-      ∙ rw i.unknown (ap (Refused unknown_escape) (omega (arith, i.place)))
+      ∙ rw i.unknown (ap (λ m. Err (fault unknown_escape m)) (omega (arith, i.place)))
 
-  of_cut : EndInEscape r symbol xs n → quoted_of r symbol xs ≡ Refused end_in_escape n
+  of_cut : EndInEscape r symbol xs n → quoted_of r symbol xs ≡ Err (fault end_in_escape n)
   unfolding quoted_from
   of_cut i =
       behind i.content _ i.before i.whole ∙ read_escape r symbol quote (length i.content) [] i.escapes
-      ∙ ap (Refused end_in_escape) (omega (arith, i.place, ap (λ (t : List ℕ). length t) i.whole, length-append i.content (backslash ∷ [])))
+      ∙ ap (λ m. Err (fault end_in_escape m)) (omega (arith, i.place, ap (λ (t : List ℕ). length t) i.whole, length-append i.content (backslash ∷ [])))
 
-  of_unclosed : EndInString r symbol xs n → quoted_of r symbol xs ≡ Refused end_in_string n
+  of_unclosed : EndInString r symbol xs n → quoted_of r symbol xs ≡ Err (fault end_in_string n)
   of_unclosed (c, l) =
-      behind xs [] c (sym (append-nil xs)) ∙ read_end r symbol quote (length xs) ∙ ap (Refused end_in_string) (sym l)
+      behind xs [] c (sym (append-nil xs)) ∙ read_end r symbol quote (length xs) ∙ ap (λ m. Err (fault end_in_string m)) (sym l)
 
 pub string_given : StringGiven
 string_given r symbol q xs n =

@@ -8,11 +8,11 @@ ghost use Rattle.quoted.specs.Quoted.{is_escape, is_raw, raw_from, escaped_of, q
 use scan::byte::Class;
 use utf8::Reading;
 
-// How the bytes behind a string's opening sign go on: so many belong to it, with its closing sign; or why they do not, and where.
+// Why bytes are refused: document 01's number, and the offset of the byte.
 #[derive(Clone, Copy)]
-pub enum Quoted {
-    Closed(usize),
-    Refused { number: usize, at: usize },
+pub struct Fault {
+    pub number: usize,
+    pub at: usize,
 }
 
 // Document 01's refusals of a string: an unknown escape, the end behind a backslash, the end within a string.
@@ -28,6 +28,7 @@ const BACKQUOTE: u8 = b'`';
 const ESCAPE_SYMBOLS: [u8; 19] = *b"abfnrtv\\01234567xuU";
 
 // Whether a byte may stand behind a backslash in a string.
+#[tactic(auto, unfolding(crate::specs::Quoted::is_escape))]
 fn is_escape(symbol: u8, c: u8) -> bool
     ensures { result ≡ is_escape symbol c }
 {
@@ -35,6 +36,7 @@ fn is_escape(symbol: u8, c: u8) -> bool
 }
 
 // Whether a string that a sign opened has no escapes.
+#[tactic(auto, unfolding(crate::specs::Quoted::is_raw))]
 fn is_raw(symbol: u8, reading: Reading) -> bool
     ensures { result ≡ is_raw reading symbol }
 {
@@ -45,65 +47,64 @@ fn is_raw(symbol: u8, reading: Reading) -> bool
 }
 
 // Where a string without escapes ends.
-fn accept_raw(symbol: u8, s: &[u8]) -> Quoted
+fn accept_raw(symbol: u8, s: &[u8]) -> Result<usize, Fault>
     ensures { result ≡ raw_from symbol 0 s.now }
 {
-    let mut n = 0;
-    while n < s.len() {
-        if s[n] == symbol {
-            return Quoted::Closed(n + 1);
-        }
-        n += 1;
-    }
-    Quoted::Refused {
-        number: END_IN_STRING,
-        at: n,
+    match s.iter().position(|&c| c == symbol) {
+        Some(n) => Ok(n + 1),
+        None => Err(Fault {
+            number: END_IN_STRING,
+            at: s.len(),
+        }),
     }
 }
 
 // Where a string with escapes ends.
-fn accept_escaped(symbol: u8, s: &[u8]) -> Quoted
+#[tactic(auto, unfolding(crate::specs::Quoted::quoted_from))]
+fn accept_escaped(symbol: u8, s: &[u8]) -> Result<usize, Fault>
     ensures { result ≡ escaped_of symbol s.now }
 {
-    let mut n = 0;
-    while n < s.len() {
-        if s[n] == symbol {
-            return Quoted::Closed(n + 1);
+    let mut rest = s;
+    while let Some((&c, behind)) = rest.split_first() {
+        if c == symbol {
+            return Ok(s.len() - behind.len());
         }
-        if s[n] == b'\\' {
-            n += 1;
-            if n == s.len() {
-                return Quoted::Refused {
+        rest = behind;
+        if c == b'\\' {
+            let Some((&escape, after)) = behind.split_first() else {
+                return Err(Fault {
                     number: END_IN_ESCAPE,
-                    at: n,
-                };
-            }
-            if !is_escape(symbol, s[n]) {
-                return Quoted::Refused {
+                    at: s.len(),
+                });
+            };
+            if !is_escape(symbol, escape) {
+                return Err(Fault {
                     number: UNKNOWN_ESCAPE,
-                    at: n,
-                };
+                    at: s.len() - behind.len(),
+                });
             }
+            rest = after;
         }
-        n += 1;
     }
-    Quoted::Refused {
+    Err(Fault {
         number: END_IN_STRING,
-        at: n,
-    }
+        at: s.len(),
+    })
 }
 
-// Where a string ends that was opened by a sign, in a reading.
-pub fn accept_string(symbol: u8, s: &[u8], reading: Reading) -> Quoted
+// How many of the bytes behind a string's opening sign belong to it in a reading, with its closing sign; or why none do.
+pub fn accept_string(symbol: u8, s: &[u8], reading: Reading) -> Result<usize, Fault>
     ensures { result ≡ quoted_of reading symbol s.now }
 {
     if is_raw(symbol, reading) {
-        return accept_raw(symbol, s);
+        accept_raw(symbol, s)
+    } else {
+        accept_escaped(symbol, s)
     }
-    accept_escaped(symbol, s)
 }
 
 // Where a comment ends, by the bytes behind its `#`: past the first CR or LF, or at the end.
+#[tactic(auto, unfolding(crate::specs::Quoted::comment_end))]
 pub fn comment_end(s: &[u8]) -> usize
     ensures { result ≡ comment_end s.now }
 {

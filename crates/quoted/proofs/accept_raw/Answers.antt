@@ -1,42 +1,33 @@
--- The invariant: a string without escapes, read from n on, is the whole string. A turn reads one byte.
-use Prim.Native.Nat.{ℕ, ◌+◌, ◌<◌}
-use native.Mathlib.Omega.{arith}
-use mathlib.Core.Bool.{cond}
-use mathlib.Core.List.{List}
-use mathlib.Core.Path.{◌≡◌, refl, sym, ◌∙◌}
-use lib.Dec.{eqb}
-use lib.ListN.{length, get_or, drop}
-use borrow.Author.Tests.{eq-eqb, ne_eqb}
-use Rattle.quoted.specs.declared.Quoted.TheVariants.{Closed}
-use Rattle.quoted.specs.Quoted.{raw_from}
-use Rattle.quoted.proofs.Turns.{raw_end, raw_turn}
+-- A string without escapes ends behind the first of its bytes that is its sign: `first`, by induction on the bytes.
+use Rattle.std.proofs.Common.{◌≡◌, ℕ, ◌+◌, List, [], ◌∷◌, length, eqb, arith, rules, tests, Result, Ok, Err, Option, Some, None, position}
+use native.Mathlib.Nat.{zero-add}
+use Rattle.std.specs.List.{position_from}
+use Rattle.std.proofs.lemmas.Iterator.{YieldsList-from_slice}
+use Rattle.std.proofs.lemmas.Iterator.Search.{position_from_yields_List}
+use Rattle.std.proofs.lemmas.Iterator.Adapters.{position_from-zero}
+use Rattle.std.proofs.lemmas.Grind.{common_steps}
+use Rattle.quoted.specs.declared.Fault.{Fault}
+use Rattle.quoted.specs.Quoted.{end_in_string, fault, raw_from}
 use Rattle.quoted.proofs.accept_raw.Goals as goal
 
-pub loop-n-init : goal.loop-n-init
-loop-n-init c = (omega arith, refl)
+abbrev ended : ℕ → Option ℕ → Result ℕ Fault
+ended size (Some n) = Ok (n + 1)
+ended size None = Err (fault end_in_string size)
 
-pub bounds-s-n : goal.bounds-s-n
-bounds-s-n c = c.loop-n-test.true
+first : (symbol n : ℕ) (xs : List ℕ) → ended (n + length xs) (position_from (λ x. eqb x symbol) n xs) ≡ raw_from symbol n xs
+unfolding raw_from
+first symbol n [] = grind arith
+first symbol n (x ∷ xs) = grind (arith, common_steps, first symbol (n + 1) xs)
 
--- the whole string is what the byte at n and the rest say
-turn : (symbol n : ℕ) (s : List ℕ) → n < length s → raw_from symbol 0 s ≡ raw_from symbol n (drop n s)
-    → raw_from symbol 0 s ≡ cond (eqb (get_or s n 0) symbol) (Closed (n + 1)) (raw_from symbol (n + 1) (drop (n + 1) s))
-turn symbol n s h e = e ∙ raw_turn symbol n s 0 h
+ends : (symbol : ℕ) (s : List ℕ) (p : Option ℕ) → p ≡ position (λ x. eqb x symbol) s → ended (length s) p ≡ raw_from symbol 0 s
+ends symbol s p e = rw (e, position_from-zero (λ x. eqb x symbol) s) (rw zero-add at (first symbol 0 s))
 
-pub overflow_add-result : goal.overflow_add-result
-overflow_add-result c = omega arith
+pub returns-in-Some : goal.returns-in-Some
+returns-in-Some c =
+    let a = c.args in
+    ends _ _ _ (position_from_yields_List (λ x. eqb x a.symbol) _ _ _ c.in-Some.ensures.ran (YieldsList-from_slice a.s.now cc) (λ x b q k. search (rules, tests)))
 
-pub returns-then-s-n : goal.returns-then-s-n
-returns-then-s-n c = sym (turn _ _ _ c.loop-n-test.true c.loop-n.invariant.1 ∙ rw (eq-eqb _ _ c.if-s-n.true))
-
-pub overflow_add-n : goal.overflow_add-n
-overflow_add-n c = omega arith
-
-pub loop-n-smaller : goal.loop-n-smaller
-loop-n-smaller c = omega arith
-
-pub loop-n-preserved : goal.loop-n-preserved
-loop-n-preserved c = (omega arith, turn _ _ _ c.loop-n-test.true c.loop-n.invariant.1 ∙ rw (ne_eqb _ _ c.if-s-n.false))
-
-pub returns : goal.returns
-returns c = sym (c.loop-n.invariant.1 ∙ raw_end _ _ _ c.loop-n-test.false)
+pub returns-in-None : goal.returns-in-None
+returns-in-None c =
+    let a = c.args in
+    ends _ _ None (position_from_yields_List (λ x. eqb x a.symbol) _ _ _ c.in-None.ensures.ran (YieldsList-from_slice a.s.now cc) (λ x b q k. search (rules, tests)))

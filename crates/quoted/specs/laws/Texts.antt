@@ -1,11 +1,10 @@
 -- What is read of a string is what the documents' sentences say of texts, and where it is refused, as statements; `proofs/Texts` has their proofs. They
 -- are said of the bytes behind the sign that opens it.
-use Rattle.std.specs.Prelude.{ℕ, suc, ◌≤◌, true, false, List, [], ◌∷◌, ◌++◌, ◌↔◌, ◌≡◌, length, take}
+use Rattle.std.specs.Prelude.{ℕ, suc, ◌≤◌, true, false, List, [], ◌∷◌, ◌++◌, ◌↔◌, ◌≡◌, length, take, Ok, Err}
 use Rattle.scan.specs.Byte.{backslash, backquote, is_quote}
 use Rattle.utf8.specs.declared.Reading.{Reading}
 use Rattle.utf8.specs.declared.Reading.TheVariants.{Documented}
-use Rattle.quoted.specs.declared.Quoted.TheVariants.{Closed, Refused}
-use Rattle.quoted.specs.Quoted.{unknown_escape, end_in_escape, end_in_string, is_escape, quoted_of}
+use Rattle.quoted.specs.Quoted.{unknown_escape, end_in_escape, end_in_string, fault, is_escape, quoted_of}
 use Rattle.quoted.specs.Texts.{HasEscapes, Content, StringText}
 
 -- the bytes begin with a string, content and sign, of n bytes
@@ -38,13 +37,13 @@ EndInString r symbol xs n = Content r symbol xs × (n ≡ length xs)
 abbrev pub StringGiven : Type 0
 StringGiven =
     (r : Reading) (symbol : ℕ) → is_quote symbol ≡ true → (xs : List ℕ) (n : ℕ) →
-    (quoted_of r symbol xs ≡ Closed n ↔ IsString r symbol xs n)
-    × (quoted_of r symbol xs ≡ Refused unknown_escape n ↔ UnknownEscape r symbol xs n)
-    × (quoted_of r symbol xs ≡ Refused end_in_escape n ↔ EndInEscape r symbol xs n)
-    × (quoted_of r symbol xs ≡ Refused end_in_string n ↔ EndInString r symbol xs n)
+    (quoted_of r symbol xs ≡ Ok n ↔ IsString r symbol xs n)
+    × (quoted_of r symbol xs ≡ Err (fault unknown_escape n) ↔ UnknownEscape r symbol xs n)
+    × (quoted_of r symbol xs ≡ Err (fault end_in_escape n) ↔ EndInEscape r symbol xs n)
+    × (quoted_of r symbol xs ≡ Err (fault end_in_string n) ↔ EndInString r symbol xs n)
 
 -- L5: "21 and 22 no longer occur there inside backquotes."
 abbrev pub NoEscapes : Type 0
 NoEscapes =
     (xs : List ℕ) (n : ℕ) →
-    (¬ (quoted_of Documented backquote xs ≡ Refused unknown_escape n)) × (¬ (quoted_of Documented backquote xs ≡ Refused end_in_escape n))
+    (¬ (quoted_of Documented backquote xs ≡ Err (fault unknown_escape n))) × (¬ (quoted_of Documented backquote xs ≡ Err (fault end_in_escape n)))
