@@ -2,8 +2,8 @@
 // `duration`.
 #![tactic(auto)]
 
-ghost use Rattle.std.specs.Prelude.{◌≡◌, drop};
-ghost use Rattle.numeral.specs.Numeral.{between_digits, behind_prefix, is_hex, fraction_end, exponent_end, mantissa_end, number_end, is_unit, stop_of, turn_of, duration_from, taken, numeral_of};
+ghost use Rattle.std.specs.Prelude.{◌≡◌, ◌≤◌, length, drop};
+ghost use Rattle.numeral.specs.Numeral.{between_digits, behind_prefix, is_hex, fraction_end, exponent_end, mantissa_end, number_end, is_first_unit, is_unit, stop_of, turn_of, duration_from, taken, numeral_of};
 
 use scan::byte::Class;
 use scan::separated::Separators;
@@ -11,6 +11,7 @@ use scan::{byte, separated, sign};
 use utf8::Reading;
 
 // What bytes begin with: a number or a duration of so many bytes, or neither, where so many were taken.
+// A Result in its place would be no plainer: `taken` counts the bytes of all three alike.
 #[derive(Clone, Copy)]
 pub enum Numeral {
     Number(usize),
@@ -23,9 +24,7 @@ pub fn taken(n: Numeral) -> usize
     ensures { result ≡ taken n }
 {
     match n {
-        Numeral::Number(length) => length,
-        Numeral::Duration(length) => length,
-        Numeral::Neither(at) => at,
+        Numeral::Number(size) | Numeral::Duration(size) | Numeral::Neither(size) => size,
     }
 }
 
@@ -66,14 +65,15 @@ pub fn behind_prefix(reading: Reading) -> Separators
 }
 
 // Whether bytes begin with the mark of a hexadecimal number.
+#[tactic(auto, unfolding(crate::specs::Numeral::is_hex))]
 fn is_hex(s: &[u8]) -> bool
     ensures { result ≡ is_hex s.now }
 {
-    let mark = byte::peek(s, 1);
-    byte::peek(s, 0) == b'0' as usize && (mark == b'x' as usize || mark == b'X' as usize)
+    matches!(s, [b'0', b'x' | b'X', ..])
 }
 
 // The place past a point and the digits behind it, where one stands.
+#[tactic(auto, unfolding(crate::specs::Numeral::fraction_end))]
 fn fraction_end(s: &[u8], reading: Reading, k: Class, at: usize) -> usize
     ensures { result ≡ fraction_end reading k s.now at }
 {
@@ -85,6 +85,7 @@ fn fraction_end(s: &[u8], reading: Reading, k: Class, at: usize) -> usize
 }
 
 // The place past an exponent, where one stands.
+#[tactic(auto, unfolding(crate::specs::Numeral::exponent_end))]
 fn exponent_end(s: &[u8], reading: Reading, at: usize) -> usize
     ensures { result ≡ exponent_end reading s.now at }
 {
@@ -113,6 +114,7 @@ fn mantissa_end(s: &[u8], reading: Reading, k: Class, separators: Separators, fr
 }
 
 // Where the number ends that bytes begin with.
+#[tactic(auto, unfolding(crate::specs::Numeral::number_end))]
 fn number_end(s: &[u8], reading: Reading) -> usize
     ensures { result ≡ number_end reading s.now }
 {
@@ -130,87 +132,81 @@ fn number_end(s: &[u8], reading: Reading) -> usize
     )
 }
 
+// A unit that the first part of a duration may have.
+fn is_first_unit(c: usize) -> bool
+    ensures { result ≡ is_first_unit c }
+{
+    c == b'y' as usize || is_unit(c)
+}
+
 // A unit that any part of a duration may have.
+#[tactic(auto, unfolding(crate::specs::Numeral::is_unit))]
 fn is_unit(c: usize) -> bool
     ensures { result ≡ is_unit c }
 {
-    c == b's' as usize
-        || (c == b'm' as usize
-            || (c == b'h' as usize || (c == b'd' as usize || c == b'w' as usize)))
+    matches!(u8::try_from(c), Ok(b's' | b'm' | b'h' | b'd' | b'w'))
 }
 
 // What a byte that is no digit does to a duration, by what it was read through to.
+#[tactic(auto, unfolding(crate::specs::Numeral::stop_of))]
 fn stop_of(part: Part, c: usize) -> Turn
     ensures { result ≡ stop_of part c }
 {
     match part {
-        Part::Digits => {
-            if is_unit(c) {
-                return Turn::On(Part::Unit);
-            }
-            return Turn::Fails;
-        }
-        Part::Unit => {
-            if c == b's' as usize {
-                return Turn::On(Part::UnitS);
-            }
-        }
-        Part::UnitS => {}
-    }
-    if byte::is_alpha(c) {
-        Turn::Fails
-    } else {
-        Turn::Ends
+        Part::Digits if is_unit(c) => Turn::On(Part::Unit),
+        Part::Digits => Turn::Fails,
+        Part::Unit if c == b's' as usize => Turn::On(Part::UnitS),
+        Part::Unit | Part::UnitS if byte::is_alpha(c) => Turn::Fails,
+        Part::Unit | Part::UnitS => Turn::Ends,
     }
 }
 
 // What a byte does to a duration.
+#[tactic(auto, unfolding(crate::specs::Numeral::turn_of))]
 fn turn_of(part: Part, c: usize) -> Turn
     ensures { result ≡ turn_of part c }
 {
     if byte::is_digit(c) {
-        return Turn::On(Part::Digits);
+        Turn::On(Part::Digits)
+    } else {
+        stop_of(part, c)
     }
-    stop_of(part, c)
 }
 
 // The duration whose first unit stands before `from`.
+#[tactic(auto, unfolding(crate::specs::Numeral::duration_from))]
 fn duration(s: &[u8], from: usize) -> Numeral
+    requires { from ≤ length s.now }
     ensures { result ≡ duration_from Part.Unit from (drop from s.now) }
 {
     let mut part = Part::Unit;
-    let mut n = from;
-    loop {
-        let t = turn_of(part, byte::peek(s, n));
-        match t {
-            Turn::On(next) => {
-                part = next;
-                n += 1;
-            }
-            Turn::Ends => {
-                return Numeral::Duration(n);
-            }
-            Turn::Fails => {
-                return Numeral::Neither(n);
-            }
+    for n in from..s.len() {
+        match turn_of(part, s[n] as usize) {
+            Turn::On(next) => part = next,
+            Turn::Ends => return Numeral::Duration(n),
+            Turn::Fails => return Numeral::Neither(n),
         }
+    }
+    match part {
+        Part::Digits => Numeral::Neither(s.len()),
+        Part::Unit | Part::UnitS => Numeral::Duration(s.len()),
     }
 }
 
 // What bytes begin with that are begun by a digit, or by a point and a digit.
+#[tactic(auto, unfolding(crate::specs::Numeral::numeral_of))]
 pub fn scan_number(s: &[u8], reading: Reading) -> Numeral
     ensures { result ≡ numeral_of reading s.now }
 {
     let n = number_end(s, reading);
     let c = byte::peek(s, n);
     if c == b'.' as usize {
-        return Numeral::Neither(n);
+        Numeral::Neither(n)
+    } else if !byte::is_alpha(c) {
+        Numeral::Number(n)
+    } else if is_first_unit(c) && !scan::contains(&s[..n], separated::SEPARATOR) {
+        duration(s, n + 1)
+    } else {
+        Numeral::Neither(n)
     }
-    if !byte::is_alpha(c) {
-        return Numeral::Number(n);
-    }
-    if (c == b'y' as usize || is_unit(c)) && !scan::contains(&s[..n], separated::SEPARATOR) {
-        return duration(s, n + 1);
-    }
-    Numeral::Neither(n)
 }
