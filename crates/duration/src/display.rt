@@ -9,7 +9,7 @@ ghost use Rattle.duration.specs.steps.Display.{Stored, whole_of, longest_unit, l
 
 use crate::span::Duration;
 use crate::{OUT_OF_RANGE, span};
-use utf8::Writing;
+use utf8::Refusal;
 
 const NANOS_A_MILLI: u32 = 1_000_000;
 
@@ -135,23 +135,23 @@ fn put_parts(out: &mut [u8], counts: Counts)
 }
 
 // Writes the text of a duration at the front of a lent buffer; nothing where it is refused.
-pub fn display_duration(duration: Duration, out: &mut [u8]) -> Writing
+pub fn display_duration(duration: Duration, out: &mut [u8]) -> Result<usize, Refusal>
     ensures value { result ≡ displaying_of (length out.old) duration }
     ensures out_after { out.new ≡ left_by result (duration_text duration) out.old }
 {
     if duration.nanos >= NANOS_A_SECOND {
-        return Writing::Refused(utf8::at_start(OUT_OF_RANGE));
+        return Err(utf8::at_start(OUT_OF_RANGE));
     }
     let zero = span::is_zero(duration);
     let counts = counts_of(duration);
     let n = if zero { ZERO.len() } else { text_size(counts) };
     if out.len() < n {
-        return Writing::Refused(utf8::at_start(utf8::NO_ROOM));
+        return Err(utf8::at_start(utf8::NO_ROOM));
     }
     if zero {
         writing::put_text(out, 0, &ZERO);
     } else {
         put_parts(out, counts);
     }
-    Writing::Written(n)
+    Ok(n)
 }

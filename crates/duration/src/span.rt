@@ -41,13 +41,6 @@ pub fn is_zero(duration: Duration) -> bool
     duration.secs == 0 && duration.nanos == 0
 }
 
-// A duration, or none where the seconds are negative, too many or no number.
-#[derive(Clone, Copy)]
-pub enum Conversion {
-    Lasts(Duration),
-    Refused,
-}
-
 // A float by its digits: digits / 2 ^ shift.
 #[derive(Clone, Copy)]
 struct Dyadic {
@@ -139,8 +132,8 @@ fn dyadic_of(x: f64) -> Dyadic
     }
 }
 
-// A number of seconds, to the nearest nanosecond, a tie to the even one.
-pub fn from_secs_f64(x: f64) -> Conversion
+// A number of seconds, to the nearest nanosecond, a tie to the even one; none where it is negative, too great or no number.
+pub fn from_secs_f64(x: f64) -> Option<Duration>
     ensures { result ≡ from_secs x }
 {
     if x < TWO_TO_64 {
@@ -149,16 +142,16 @@ pub fn from_secs_f64(x: f64) -> Conversion
             let d = p.digits;
             let k = p.shift;
             if 63 < k {
-                return Conversion::Lasts(whole(0, nanos(d, k)));
+                return Some(whole(0, nanos(d, k)));
             }
             let b = pow2(k);
-            return Conversion::Lasts(whole(d / b, nanos(d % b, k)));
+            return Some(whole(d / b, nanos(d % b, k)));
         }
         if x >= 0.0 {
-            return Conversion::Lasts(Duration { secs: 0, nanos: 0 });
+            return Some(Duration { secs: 0, nanos: 0 });
         }
     }
-    Conversion::Refused
+    None
 }
 
 // s seconds and n nanoseconds, of which there may be a whole second.

@@ -8,11 +8,11 @@ use crate::span::Duration;
 use decimal::Notation;
 use scan::byte::Class;
 
-// What a unit text amounts to, if it is one, and whether a part of it is oversized, which counts as nothing.
+// What a unit text amounts to, and whether a part of it is oversized, which counts as nothing.
 #[derive(Clone, Copy)]
-pub enum Units {
-    Sum { lasts: Duration, oversized: bool },
-    NotUnits,
+pub struct Sum {
+    pub lasts: Duration,
+    pub oversized: bool,
 }
 
 // How far a text was read, what the parts before amount to, and whether one of them is above the greatest number that counts.
@@ -78,8 +78,8 @@ fn lasting(secs: u64, millis: u64) -> Duration
     }
 }
 
-// Reads a unit text.
-pub fn read_units(s: &[u8]) -> Units
+// Reads a unit text; none where the text is no such text.
+pub fn read_units(s: &[u8]) -> Option<Sum>
     ensures { result ≡ units_of s.now }
 {
     let start = Progress {
@@ -96,9 +96,10 @@ pub fn read_units(s: &[u8]) -> Units
     let seconds = take(s, minutes, b"s", Duration::SECOND);
     let all = take(s, seconds, b"ms", Duration::MILLI);
     if all.at != s.len() {
-        return Units::NotUnits;
+        return None;
     }
-    let lasts = lasting(all.secs, all.millis);
-    let oversized = all.oversized;
-    Units::Sum { lasts, oversized }
+    Some(Sum {
+        lasts: lasting(all.secs, all.millis),
+        oversized: all.oversized,
+    })
 }

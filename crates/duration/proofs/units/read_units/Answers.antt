@@ -1,14 +1,16 @@
 -- Seven steps, one for each unit in turn (`Steps`).
 use Prim.Native.Nat.{ℕ, ◌+◌, ◌^◌, ◌≤◌}
 use native.Mathlib.Omega.{arith}
-use mathlib.Core.Bool.{true, false}
+use mathlib.Core.Bool.{Bool, true, false}
 use mathlib.Core.List.{List, ◌∷◌}
 use mathlib.Core.Path.{◌≡◌, refl, sym, ap, ap₂, subst, ◌∙◌}
 use lib.ListN.{length, drop}
+use Rattle.std.specs.Prelude.{None, Option, Some}
+use Rattle.duration.specs.declared.span.Duration.{Duration}
 use Rattle.duration.specs.Unit.{Unit, unit, units, milli, second, minute, hour, day, week, year}
 use Rattle.duration.specs.declared.units.Progress.{Progress}
-use Rattle.duration.specs.declared.units.Units.TheVariants.{Sum, NotUnits}
-use Rattle.duration.specs.Units.{has_oversized, is_unit_text, lasting, unit_sum, units_of}
+use Rattle.duration.specs.declared.units.Sum.{Sum}
+use Rattle.duration.specs.Units.{is_unit_text, lasting, sum_of, units_of}
 use Rattle.duration.specs.steps.Units.{advanced}
 use Rattle.duration.proofs.units.Steps.{Reached, begun, stepped, none_behind, some_behind, sum_is, over_is}
 use Rattle.duration.proofs.units.read_units.Goals as goal
@@ -60,11 +62,11 @@ pub take-all-requires : goal.take-all-requires
 take-all-requires c = asked (omega arith) (omega arith) (reached6 (goal.at.take-all-requires c).After-take-seconds)
 
 module _ (xs : List ℕ) where
-  not_units : is_unit_text xs ≡ false → NotUnits ≡ units_of xs
+  not_units : is_unit_text xs ≡ false → None ≡ units_of xs
   unfolding units_of
   not_units e = rw e
 
-  unit_text : is_unit_text xs ≡ true → Sum (lasting (unit_sum xs)) (has_oversized units xs) ≡ units_of xs
+  unit_text : is_unit_text xs ≡ true → Some (sum_of xs) ≡ units_of xs
   unfolding units_of
   unit_text e = rw e
 
@@ -76,11 +78,14 @@ returns-then-all-s c =
     let a = (goal.at.returns-then-all-s c).After-take-all in
     not_units (text a) (some_behind (text a) 7 a.take-all.result (reached7 a) c.if-all-s.true)
 
-pub lasting-lasts-requires : goal.lasting-lasts-requires
-lasting-lasts-requires c = let r = reached7 (goal.at.lasting-lasts-requires c).After-take-all in (omega (arith, r.secs_few), omega (arith, r.millis_few))
+pub lasting-requires : goal.lasting-requires
+lasting-requires c = let r = reached7 (goal.at.lasting-requires c).After-take-all in (omega (arith, r.secs_few), omega (arith, r.millis_few))
+
+abbrev made : Duration → Bool → Option Sum
+made d over = Some (record { lasts = d; oversized = over })
 
 pub returns : goal.returns
 returns c =
     let a = (goal.at.returns c).After-take-all in
-    ap₂ Sum (c.lasting-lasts.ensures ∙ ap lasting (sum_is (text a) 7 a.take-all.result (reached7 a))) (over_is (text a) 7 a.take-all.result (reached7 a))
+    ap₂ made (c.lasting.ensures ∙ ap lasting (sum_is (text a) 7 a.take-all.result (reached7 a))) (over_is (text a) 7 a.take-all.result (reached7 a))
     ∙ unit_text (text a) (none_behind (text a) 7 a.take-all.result (reached7 a) c.if-all-s.false)
