@@ -3,6 +3,7 @@
 
 pub mod display;
 pub mod span;
+mod unit;
 pub mod units;
 
 ghost use Rattle.std.specs.Prelude.{◌&&◌, ◌≡◌};
