@@ -30,6 +30,7 @@ struct Part {
 }
 
 // How many there are of a unit of so many days that is written only where nothing remains.
+#[tactic(auto, using(crate::proofs::display::Days::whole_some, crate::proofs::display::Days::whole_none))]
 fn whole(days: u64, rest: u64, size: u64) -> u64
     requires { (0 < size) × (rest < day) }
     ensures { (result ≡ whole_of (size * day) (days * day + rest)) × (result * size ≤ days) }
@@ -84,6 +85,7 @@ fn parts_of(duration: Duration) -> [Part; 7]
 }
 
 // Writes a part at a place where it fits, nothing where it counts none, and answers the place past it.
+#[tactic(auto, using(crate::proofs::display::Steps::counted_none, crate::proofs::display::Steps::stored_none))]
 fn put_part(out: &mut [u8], at: usize, part: Part) -> usize
     requires { at + length (counted_text part) ≤ length out.old }
     ensures { Stored (counted_text part) out.old at result out.new }

@@ -6,11 +6,11 @@ pub mod span;
 mod unit;
 pub mod units;
 
-ghost use Rattle.std.specs.Prelude.{◌&&◌, ◌≡◌};
+ghost use Rattle.std.specs.Prelude.{◌≡◌};
 ghost use Rattle.decimal.specs.declared.Decimal.TheVariants.{NotDecimal};
 ghost use Rattle.decimal.specs.Value.{decimal_of};
 ghost use Rattle.duration.specs.Units.{units_of};
-ghost use Rattle.duration.specs.Duration.{seconds_read, refuses_oversized, units_read, timing_by, timing_of, exact_timing_of};
+ghost use Rattle.duration.specs.Duration.{seconds_read, units_read, timing_by, timing_of, exact_timing_of};
 
 use crate::span::Duration;
 use decimal::{Decimal, Number, short};
@@ -42,13 +42,6 @@ fn seconds(number: Number) -> Result<Duration, Refusal>
     span::from_secs_f64(number.value).ok_or(utf8::at_start(OUT_OF_RANGE))
 }
 
-// Whether a text is refused for an oversized part, by whether it has one.
-fn is_over(oversized: Oversized, some: bool) -> bool
-    ensures { result ≡ refuses_oversized oversized && some }
-{
-    matches!(oversized, Oversized::Refused) && some
-}
-
 // Parts with units.
 #[tactic(auto, unfolding(crate::specs::Units::units_of))]
 fn unit_text(text: &[u8], oversized: Oversized) -> Result<Duration, Refusal>
@@ -56,7 +49,9 @@ fn unit_text(text: &[u8], oversized: Oversized) -> Result<Duration, Refusal>
 {
     match units::read_units(text) {
         None => Err(utf8::at_start(NOT_A_DURATION)),
-        Some(sum) if is_over(oversized, sum.oversized) => Err(utf8::at_start(OVERSIZED_PART)),
+        Some(sum) if matches!(oversized, Oversized::Refused) && sum.oversized => Err(utf8::at_start(
+            OVERSIZED_PART,
+        )),
         Some(sum) if span::is_zero(sum.lasts) => Err(utf8::at_start(ZERO)),
         Some(sum) => Ok(sum.lasts),
     }

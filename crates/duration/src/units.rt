@@ -27,6 +27,7 @@ struct Part {
 const MOST_COUNTED: u64 = 0xffff_ffff;
 
 // What a part's number counts for.
+#[tactic(auto, unfolding(crate::specs::Units::counted))]
 fn counted(n: u64) -> u64
     ensures { result ≡ counted n }
 {

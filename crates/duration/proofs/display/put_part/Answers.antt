@@ -4,13 +4,8 @@ use native.Mathlib.Omega.{arith}
 use lib.ListN.{length, length-append}
 use Rattle.writing.specs.Decimal.{decimal_text}
 use Rattle.duration.specs.steps.Units.{unit_of}
-use Rattle.duration.proofs.display.Steps.{stored_none, stored_put, stored_on, counted_none, counted_some}
+use Rattle.duration.proofs.display.Steps.{stored_put, stored_on, counted_some}
 use Rattle.duration.proofs.display.put_part.Goals as goal
-
-pub returns-then-part-eq0 : goal.returns-then-part-eq0
-returns-then-part-eq0 c =
-    let a = c.args in
-    rw (counted_none a.part.count (unit_of a.part.unit).text c.if-part-eq0.true) (stored_none a.out.now a.at)
 
 pub returns : goal.returns
 returns c =
