@@ -31,8 +31,6 @@ struct Integer {
     magnitude: u64,
 }
 
-const LAST_ASCII: u8 = 0x7f;
-
 const TAB: u32 = 0x9;
 
 const CARRIAGE_RETURN: u32 = 0xd;
@@ -60,9 +58,9 @@ const MEDIUM_MATHEMATICAL_SPACE: u32 = 0x205f;
 const IDEOGRAPHIC_SPACE: u32 = 0x3000;
 
 // 2^32, by which the high part of an integer counts, and that as a float.
-const HIGH_UNIT: u64 = 4294967296;
+const HIGH_UNIT: u64 = 1 << 32;
 
-const HIGH_UNIT_VALUE: f64 = 4294967296.0;
+const HIGH_UNIT_VALUE: f64 = HIGH_UNIT as f64;
 
 // Whether a code point is Unicode White_Space.
 #[tactic(auto, unfolding(crate::specs::White::is_white, scan::specs::Byte::is_within))]
@@ -123,15 +121,15 @@ fn keep(text: &[u8], out: &mut [u8; decimal::LIMIT]) -> usize
 {
     let mut n = 0;
     let mut at = 0;
+    // a `while`, since a character may have several bytes
     while at < text.len() {
         let byte = text[at];
-        if byte <= LAST_ASCII {
+        if byte.is_ascii() {
             n = put_ascii(byte, out, n);
             at += 1;
         } else {
-            let c = utf8::char_at(text, ByteOffset(at));
-            let Character::Scalar { code, size } = c else {
-                return n;
+            let Character::Scalar { code, size } = utf8::char_at(text, ByteOffset(at)) else {
+                unreachable!()
             };
             n = put_kept(code, out, n);
             at += size;
@@ -148,9 +146,9 @@ fn whole(n: u64) -> f64
 }
 
 // The greatest magnitude of a signed 64-bit integer, by its sign.
-const MOST_POSITIVE: u64 = 0x7fff_ffff_ffff_ffff;
+const MOST_POSITIVE: u64 = i64::MAX as u64;
 
-const MOST_NEGATIVE: u64 = 0x8000_0000_0000_0000;
+const MOST_NEGATIVE: u64 = MOST_POSITIVE + 1;
 
 impl Integer {
     // The integer, rounded once; zero has no sign.
@@ -173,12 +171,12 @@ impl Integer {
     fn is_i64(self) -> bool
         ensures { result ≡ is_i64 self.negative self.magnitude }
     {
-        self.magnitude
-            <= if self.negative {
-                MOST_NEGATIVE
-            } else {
-                MOST_POSITIVE
-            }
+        let most = if self.negative {
+            MOST_NEGATIVE
+        } else {
+            MOST_POSITIVE
+        };
+        self.magnitude <= most
     }
 }
 
@@ -218,7 +216,7 @@ fn is_zero_at(t: &[u8], at: usize) -> bool
 fn has_decimal_mark(t: &[u8]) -> bool
     ensures { result ≡ has_decimal_mark t.now }
 {
-    scan::contains(t, b'.') || (scan::contains(t, b'8') || scan::contains(t, b'9'))
+    scan::contains(t, b'.') || scan::contains(t, b'8') || scan::contains(t, b'9')
 }
 
 // Whether a 0 leads a text, behind a sign, and is not all of it, and there is nothing decimal in it.

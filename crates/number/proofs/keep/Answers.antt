@@ -1,5 +1,6 @@
 -- What is kept of a text is not longer than it, so it fits. A character's step keeps the invariant, whichever way the character was read and written.
 use Rattle.std.proofs.Common.{◌≡◌, ℕ, ◌+◌, ◌<◌, ◌≤◌, List, length, get_or, drop, take, sym, refl, ap, ap₂, ◌∙◌, subst, arith, length-append}
+use borrow.Author.Tests.{ltb-true}
 use lib.Seq.{sets, length-sets}
 use Rattle.scan.specs.Byte.{end, peek_at}
 use Rattle.proving.proofs.Lists.{get_d_any}
@@ -15,7 +16,7 @@ use Rattle.number.specs.White.{kept_bytes, plain_text}
 use Rattle.number.proofs.Kept.{plain_few, plain_here, plain_over}
 use Rattle.number.proofs.keep.Invariants.{Held}
 use Rattle.number.proofs.keep.Goals as goal
-use Rattle.number.proofs.keep.Goals.{In-Scalar}
+use Rattle.number.proofs.keep.Goals.{In-Scalar, Then-is_ascii}
 
 -- before the end a character stands
 module _ {xs out₀ out : List ℕ} {n at : ℕ} (i : Held xs out₀ out n at) where
@@ -54,21 +55,24 @@ no_other xs at (Scalar d n) s t = t d n refl
 no_other xs at Nothing s t = s
 no_other xs at IllFormed s t = s
 
+ascii_byte : (c : Then-is_ascii) → get_or c.args.text.now c.loop-at.at 0 ≤ 0x7f
+ascii_byte c = let l = ltb-true _ 128 (sym c.is_ascii.ensures ∙ c.if-is_ascii.true) in omega arith
+
 pub put_ascii-n-requires-clause-byte_in_bounds : goal.put_ascii-n-requires-clause-byte_in_bounds
 put_ascii-n-requires-clause-byte_in_bounds c =
     let i = c.loop-at.invariant in
-    omega (arith, room i (alone i c.loop-at-test.true c.if-byte-le-LAST_ASCII.true) c.requires)
+    omega (arith, room i (alone i c.loop-at-test.true (ascii_byte (goal.at.put_ascii-n-requires-clause-byte_in_bounds c).Then-is_ascii)) c.requires)
 
-pub loop-at-preserved-then-byte-le-LAST_ASCII : goal.loop-at-preserved-then-byte-le-LAST_ASCII
-loop-at-preserved-then-byte-le-LAST_ASCII c =
+pub loop-at-preserved-then-is_ascii : goal.loop-at-preserved-then-is_ascii
+loop-at-preserved-then-is_ascii c =
     let i = c.loop-at.invariant in
-    step i (alone i c.loop-at-test.true c.if-byte-le-LAST_ASCII.true) c.put_ascii-n.ensures.value c.put_ascii-n.ensures.out_after
+    step i (alone i c.loop-at-test.true (ascii_byte (goal.at.loop-at-preserved-then-is_ascii c).Then-is_ascii)) c.put_ascii-n.ensures.value c.put_ascii-n.ensures.out_after
 
-pub returns-in_default : goal.returns-in_default
-returns-in_default c = absurd (no_other _ _ _ (subst (StandsAt c.args.text.now c.loop-at.at) (sym c.char_at-c.ensures) (stands c.loop-at.invariant c.loop-at-test.true)) c.in_default.not-Scalar)
+pub unreachable-requires : goal.unreachable-requires
+unreachable-requires c = no_other _ _ _ (subst (StandsAt c.args.text.now c.loop-at.at) (sym c.char_at.ensures) (stands c.loop-at.invariant c.loop-at-test.true)) c.in_default.not-Scalar
 
 standing : (c : In-Scalar) → Standing c.args.text.now c.loop-at.at c.in-Scalar.code c.in-Scalar.size
-standing c = read c.loop-at.invariant c.in-Scalar.code c.in-Scalar.size c.loop-at-test.true c.char_at-c.ensures c.in-Scalar.is
+standing c = read c.loop-at.invariant c.in-Scalar.code c.in-Scalar.size c.loop-at-test.true c.char_at.ensures c.in-Scalar.is
 
 pub put_kept-n-requires-clause-code_value : goal.put_kept-n-requires-clause-code_value
 put_kept-n-requires-clause-code_value c = (standing (goal.at.put_kept-n-requires-clause-code_value c).In-Scalar).scalar
@@ -76,8 +80,8 @@ put_kept-n-requires-clause-code_value c = (standing (goal.at.put_kept-n-requires
 pub put_kept-n-requires-clause-code_in_bounds : goal.put_kept-n-requires-clause-code_in_bounds
 put_kept-n-requires-clause-code_in_bounds c = omega (arith, room c.loop-at.invariant (standing (goal.at.put_kept-n-requires-clause-code_in_bounds c).In-Scalar) c.requires)
 
-pub overflow_add-at-else-byte-le-LAST_ASCII : goal.overflow_add-at-else-byte-le-LAST_ASCII
-overflow_add-at-else-byte-le-LAST_ASCII c = omega (arith, (standing (goal.at.overflow_add-at-else-byte-le-LAST_ASCII c).In-Scalar).within)
+pub overflow_add-at-else-is_ascii : goal.overflow_add-at-else-is_ascii
+overflow_add-at-else-is_ascii c = omega (arith, (standing (goal.at.overflow_add-at-else-is_ascii c).In-Scalar).within)
 
 pub loop-at-smaller : goal.loop-at-smaller
 loop-at-smaller c = let s = standing (goal.at.loop-at-smaller c).In-Scalar in omega (arith, s.some, s.within)
