@@ -20,8 +20,7 @@ use Rattle.decimal.specs.declared.Decimal.{Decimal}
 use Rattle.decimal.specs.declared.Decimal.TheVariants.{NotDecimal, Named, Exact, Outside}
 use Rattle.decimal.specs.Value.{decimal_limit, decimal_of}
 use Rattle.duration.specs.Spans.{is_zero, from_secs}
-use Rattle.duration.specs.declared.units.Units.{Units}
-use Rattle.duration.specs.declared.units.Units.TheVariants.{Sum, NotUnits}
+use Rattle.duration.specs.declared.units.Sum.{Sum}
 use Rattle.duration.specs.Units.{units_of}
 use Rattle.duration.specs.laws.Refusals.{TimingBound}
 use Rattle.duration.specs.declared.Oversized.{Oversized}
@@ -35,9 +34,9 @@ timed_bound : (t : Option Duration) → Bounded (converted t)
 timed_bound (Some d) = tt
 timed_bound None = omega arith
 
-units_bound : (o : Oversized) (u : Units) → Bounded (units_read o u)
-units_bound o (Sum d over) = either Bounded (refuses_oversized o && over) (λ e. omega arith) (λ e. either Bounded (is_zero d) (λ e. omega arith) (λ e. tt))
-units_bound o NotUnits = omega arith
+units_bound : (o : Oversized) (u : Option Sum) → Bounded (units_read o u)
+units_bound o (Some s) = either Bounded (refuses_oversized o && s.oversized) (λ e. omega arith) (λ e. either Bounded (is_zero s.lasts) (λ e. omega arith) (λ e. tt))
+units_bound o None = omega arith
 
 decimal_bound : (o : Oversized) (xs : List ℕ) (d : Decimal) → Bounded (timed_decimal o xs d)
 decimal_bound o xs NotDecimal = units_bound o (units_of xs)

@@ -14,7 +14,7 @@ use borrow.Author.Tests.{le-leb, lt-leb}
 use Rattle.utf8.specs.declared.Refusal.{Refusal}
 use Rattle.duration.specs.declared.span.Duration.{Duration}
 use Rattle.utf8.specs.declared.CharNumber.{CharNumber}
-use Rattle.std.specs.Prelude.{Err, Ok, Result}
+use Rattle.std.specs.Prelude.{Err, None, Ok, Option, Result, Some}
 use Rattle.proving.proofs.Choice.{told}
 use Rattle.proving.proofs.Tests.{denied}
 use Rattle.scan.specs.Ascii.{ascii}
@@ -24,8 +24,7 @@ use Rattle.decimal.specs.declared.Decimal.{Decimal}
 use Rattle.decimal.specs.declared.Decimal.TheVariants.{NotDecimal, Named, Exact, Outside}
 use Rattle.decimal.specs.Value.{decimal_limit, decimal_of}
 use Rattle.duration.specs.declared.Oversized.TheVariants as oversized
-use Rattle.duration.specs.declared.units.Units.{Units}
-use Rattle.duration.specs.declared.units.Units.TheVariants.{Sum, NotUnits}
+use Rattle.duration.specs.declared.units.Sum.{Sum}
 use Rattle.duration.specs.Unit.{Unit, units}
 use Rattle.duration.specs.Units.{sum_by, most_counted, counted, has_oversized, lasting, units_of}
 use Rattle.duration.specs.Duration.{empty_text, zero_duration, oversized_part, units_read, timed_decimal, duration_read, timing_for, timing_by, timing_of, exact_timing_of}
@@ -124,10 +123,13 @@ all_counted xs d u e = go (((timing_given oversized.Refused xs).8 d).0 e).1
 abbrev Parted : Result Duration Refusal → Result Duration Refusal → Type 0
 Parted exact present = (exact ≡ Err oversized_part) ⊎ (exact ≡ present)
 
-units_parted : (u : Units) → Parted (units_read oversized.Refused u) (units_read oversized.Ignored u)
-units_parted (Sum d true) = inl refl
-units_parted (Sum d false) = inr refl
-units_parted NotUnits = inr refl
+units_parted : (u : Option Sum) → Parted (units_read oversized.Refused u) (units_read oversized.Ignored u)
+units_parted (Some s) = go s.oversized
+  where
+    go : (b : Bool) → Parted (cond b (Err oversized_part) (units_read oversized.Ignored (Some s))) (units_read oversized.Ignored (Some s))
+    go true = inl refl
+    go false = inr refl
+units_parted None = inr refl
 
 decimal_parted : (xs : List ℕ) (d : Decimal) → Parted (timed_decimal oversized.Refused xs d) (timed_decimal oversized.Ignored xs d)
 decimal_parted xs NotDecimal = units_parted (units_of xs)

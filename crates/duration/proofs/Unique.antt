@@ -5,14 +5,9 @@ use Rattle.duration.proofs.parse_duration.Kinds as parse_duration
 use Rattle.duration.proofs.parse_duration.Reads as parse_duration_reads
 use Rattle.duration.proofs.parse_duration_exact.Kinds as parse_duration_exact
 use Rattle.duration.proofs.parse_duration_exact.Reads as parse_duration_exact_reads
-use Rattle.duration.proofs.not_timed.Kinds as not_timed
-use Rattle.duration.proofs.not_timed.Reads as not_timed_reads
 
 pub same_parse_duration : OneAnswer parse_duration.ps parse_duration.r parse_duration_reads.Post
 same_parse_duration κs a x y e f p q = p ∙ sym q
 
 pub same_parse_duration_exact : OneAnswer parse_duration_exact.ps parse_duration_exact.r parse_duration_exact_reads.Post
 same_parse_duration_exact κs a x y e f p q = p ∙ sym q
-
-pub same_not_timed : OneAnswer not_timed.ps not_timed.r not_timed_reads.Post
-same_not_timed κs a x y e f p q = p ∙ sym q

@@ -15,13 +15,13 @@ use Rattle.scan.specs.Sign.{is_sign}
 use Rattle.scan.specs.Digits.{value_from}
 use Rattle.utf8.specs.Table.{fits, size_in, char_length}
 use Rattle.utf8.specs.Text.{chars_past, size_of}
-use Rattle.utf8.specs.Answers.{validity_of, admitted, at_start, place, not_utf8}
+use Rattle.utf8.specs.Answers.{validity_of, admitted, at_start}
 use Rattle.utf8.specs.Code.{code_of}
 use Rattle.decimal.specs.Grammar.{has_digits, exponent_has_digits, is_numeral, is_infinite, is_nan}
 use Rattle.decimal.specs.Value.{is_scaled, is_some, is_exact_range, is_in_exact, numeral_read, decimal_in, decimal_of}
 use Rattle.duration.specs.declared.span.Duration.{Duration}
 use Rattle.duration.specs.Units.{is_part, behind, sum_by, has_oversized, counted, is_unit_text, units_of}
-use Rattle.duration.specs.Duration.{duration_read, timing_by, timing_of, exact_timing_of, not_timed}
+use Rattle.duration.specs.Duration.{duration_read, timing_by, timing_of, exact_timing_of}
 use Rattle.utf8.specs.declared.Refusal.{Refusal}
 use Rattle.writing.specs.Decimal.{decimal_text, digits_within, digit_for}
 use Rattle.duration.specs.Display.{count_text, part_text, rest_of, duration_text}
@@ -30,8 +30,6 @@ use Rattle.duration.proofs.parse_duration.Kinds as parse_duration
 use Rattle.duration.proofs.parse_duration.Reads as parse_duration_reads
 use Rattle.duration.proofs.parse_duration_exact.Kinds as parse_duration_exact
 use Rattle.duration.proofs.parse_duration_exact.Reads as parse_duration_exact_reads
-use Rattle.duration.proofs.not_timed.Kinds as not_timed_kinds
-use Rattle.duration.proofs.not_timed.Reads as not_timed_reads
 
 abbrev duration : ℕ → ℕ → Duration
 duration s n = record { secs = s; nanos = n }
@@ -125,15 +123,3 @@ decimal_may_be_greater = parse_duration_exact_at _
 pub past_bound_holds : PastBound
 unfolding parse_duration_at duration_text part_text rest_of count_text decimal_text digits_within digit_for
 past_bound_holds = (refl, refl, refl)
-
-abbrev not_timed_gives : Result Duration Refusal → Refusal → Type 0
-not_timed_gives t v = Answers not_timed_kinds.ps not_timed_kinds.r not_timed_reads.Post (λ κs a. a.0 ≡ t) (λ κs. v)
-
-not_timed_at : (t : Result Duration Refusal) → not_timed_gives t (not_timed t)
-not_timed_at t κs a x e p h = p ∙ ap not_timed h
-
-pub refusal_is_told_with_its_place : not_timed_gives (Err (not_utf8 (place 3 2))) (not_utf8 (place 3 2))
-refusal_is_told_with_its_place = not_timed_at _
-
-pub duration_has_no_refusal : not_timed_gives (Ok (record { secs = 1; nanos = 0 })) (at_start 0)
-duration_has_no_refusal = not_timed_at _

@@ -6,14 +6,13 @@ use Rattle.std.specs.Prelude.{ℕ, Bool, true, false, cond, ◌&&◌, List, eqb,
 use Rattle.scan.specs.Ascii.{ascii}
 use Rattle.scan.specs.Text.{same_text}
 use Rattle.utf8.specs.declared.Refusal.{Refusal}
-use Rattle.utf8.specs.Answers.{at_start, admitted, no_refusal}
+use Rattle.utf8.specs.Answers.{at_start, admitted}
 use Rattle.decimal.specs.declared.Number.{Number}
 use Rattle.decimal.specs.declared.Decimal.{Decimal}
 use Rattle.decimal.specs.declared.Decimal.TheVariants.{NotDecimal, Named, Exact, Outside}
 use Rattle.decimal.specs.Value.{outside_exact, decimal_limit, decimal_of}
 use Rattle.duration.specs.Spans.{is_zero, from_secs}
-use Rattle.duration.specs.declared.units.Units.{Units}
-use Rattle.duration.specs.declared.units.Units.TheVariants.{Sum, NotUnits}
+use Rattle.duration.specs.declared.units.Sum.{Sum}
 use Rattle.duration.specs.Units.{units_of}
 use Rattle.duration.specs.declared.Oversized.{Oversized}
 use Rattle.duration.specs.declared.Oversized.TheVariants as oversized
@@ -50,9 +49,10 @@ refuses_oversized oversized.Ignored = false
 refuses_oversized oversized.Refused = true
 
 -- "after 52 and before the zero sum's 51"
-abbrev pub units_read : Oversized → Units → Result Duration Refusal
-units_read o (Sum d over) = cond (refuses_oversized o && over) (Err oversized_part) (cond (is_zero d) (Err zero_duration) (Ok d))
-units_read o NotUnits = Err not_duration
+abbrev pub units_read : Oversized → Option Sum → Result Duration Refusal
+units_read o (Some s) =
+    cond (refuses_oversized o && s.oversized) (Err oversized_part) (cond (is_zero s.lasts) (Err zero_duration) (Ok s.lasts))
+units_read o None = Err not_duration
 
 -- "infinity or NaN by name, or negative nonzero, is tested before 53, 2^64 after"
 abbrev pub timed_decimal : Oversized → List ℕ → Decimal → Result Duration Refusal
@@ -81,8 +81,3 @@ timing_of xs = timing_by oversized.Ignored xs
 
 abbrev pub exact_timing_of : List ℕ → Result Duration Refusal
 exact_timing_of xs = timing_by oversized.Refused xs
-
--- the refusal of an answer, and of one that has none the number 0, which is no refusal's
-abbrev pub not_timed : Result Duration Refusal → Refusal
-not_timed (Ok d) = no_refusal
-not_timed (Err r) = r

@@ -1,7 +1,7 @@
 -- Unit texts: document 01, "Unit texts: y w d h m s ms, each at most once in this order. A part above 4,294,967,295 counts as nothing."
 -- A part is a run of digits and a run of letters, which is its unit's text. For each unit in turn the text goes on with a part of it, or
 -- not: the Rust's pattern, `((?P<y>[0-9]+)y)?((?P<w>[0-9]+)w)?` and so on.
-use Rattle.std.specs.Prelude.{ℕ, ◌+◌, ◌-◌, ◌*◌, ◌/◌, ◌%◌, ◌^◌, Bool, false, cond, ◌&&◌, ◌||◌, List, [], ◌∷◌, eqb, leb, ltb, length, take, drop}
+use Rattle.std.specs.Prelude.{ℕ, ◌+◌, ◌-◌, ◌*◌, ◌/◌, ◌%◌, ◌^◌, Bool, false, cond, ◌&&◌, ◌||◌, List, [], ◌∷◌, eqb, leb, ltb, length, take, drop, None, Option, Some}
 use Rattle.scan.specs.declared.byte.Class.TheVariants.{Digit, Alpha}
 use Rattle.scan.specs.Byte.{is_in}
 use Rattle.scan.specs.Run.{run_end}
@@ -10,8 +10,7 @@ use Rattle.scan.specs.Digits.{value_of}
 use Rattle.duration.specs.Unit.{Unit, units, second, nanos_a_milli}
 use Rattle.decimal.specs.Grammar.{between}
 use Rattle.duration.specs.declared.span.Duration.{Duration}
-use Rattle.duration.specs.declared.units.Units.{Units}
-use Rattle.duration.specs.declared.units.Units.TheVariants.{Sum, NotUnits}
+use Rattle.duration.specs.declared.units.Sum.{Sum}
 
 -- where the digits that a text begins with end, and the letters behind them
 abbrev pub digits_end : List ℕ → ℕ
@@ -64,5 +63,8 @@ unit_sum xs = sum_by counted units xs
 abbrev pub lasting : ℕ → Duration
 lasting ms = record { secs = ms / second; nanos = ms % second * nanos_a_milli }
 
-unfoldable pub units_of : List ℕ → Units
-units_of xs = cond (is_unit_text xs) (Sum (lasting (unit_sum xs)) (has_oversized units xs)) NotUnits
+abbrev pub sum_of : List ℕ → Sum
+sum_of xs = record { lasts = lasting (unit_sum xs); oversized = has_oversized units xs }
+
+unfoldable pub units_of : List ℕ → Option Sum
+units_of xs = cond (is_unit_text xs) (Some (sum_of xs)) None

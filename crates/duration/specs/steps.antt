@@ -1,3 +1,2 @@
 pub mod Display
-pub mod Refused
 pub mod Units

@@ -7,14 +7,16 @@ ghost use Rattle.duration.specs.Spans.{is_zero, from_secs, duration_at, least_ti
 ghost use Rattle.duration.specs.Unit.{nanos_a_second};
 
 // A duration: seconds, and nanoseconds of which a second has less than a billion.
-#[derive(Clone, Copy)]
+#[derive(Clone, Copy, PartialEq, Eq)]
 pub struct Duration {
     pub secs: u64,
     pub nanos: u32,
 }
 
-// The lengths of the seven units, in milliseconds; and how many nanoseconds a millisecond and a second have.
+// No time; the lengths of the seven units, in milliseconds; and how many nanoseconds a millisecond and a second have.
 impl Duration {
+    pub const ZERO: Self = Self { secs: 0, nanos: 0 };
+
     pub const MILLI: u64 = 1;
 
     pub const SECOND: u64 = 1000 * Self::MILLI;
@@ -38,14 +40,7 @@ impl Duration {
 pub fn is_zero(duration: Duration) -> bool
     ensures { result ≡ is_zero duration }
 {
-    duration.secs == 0 && duration.nanos == 0
-}
-
-// A duration, or none where the seconds are negative, too many or no number.
-#[derive(Clone, Copy)]
-pub enum Conversion {
-    Lasts(Duration),
-    Refused,
+    duration == Duration::ZERO
 }
 
 // A float by its digits: digits / 2 ^ shift.
@@ -85,6 +80,7 @@ fn pow2(k: u64) -> u64
 }
 
 // a / b to the nearest whole number, a tie to the even one.
+#[tactic(auto, using(crate::proofs::span::Round::below_half, crate::proofs::span::Round::above_half, crate::proofs::span::Round::at_half))]
 fn closest_div(a: u64, b: u64) -> u64
     requires some { 0 < b }
     requires few { b ≤ 2 ^ 63 }
@@ -139,8 +135,8 @@ fn dyadic_of(x: f64) -> Dyadic
     }
 }
 
-// A number of seconds, to the nearest nanosecond, a tie to the even one.
-pub fn from_secs_f64(x: f64) -> Conversion
+// A number of seconds, to the nearest nanosecond, a tie to the even one; none where it is negative, too great or no number.
+pub fn from_secs_f64(x: f64) -> Option<Duration>
     ensures { result ≡ from_secs x }
 {
     if x < TWO_TO_64 {
@@ -149,16 +145,16 @@ pub fn from_secs_f64(x: f64) -> Conversion
             let d = p.digits;
             let k = p.shift;
             if 63 < k {
-                return Conversion::Lasts(whole(0, nanos(d, k)));
+                return Some(whole(0, nanos(d, k)));
             }
             let b = pow2(k);
-            return Conversion::Lasts(whole(d / b, nanos(d % b, k)));
+            return Some(whole(d / b, nanos(d % b, k)));
         }
         if x >= 0.0 {
-            return Conversion::Lasts(Duration { secs: 0, nanos: 0 });
+            return Some(Duration::ZERO);
         }
     }
-    Conversion::Refused
+    None
 }
 
 // s seconds and n nanoseconds, of which there may be a whole second.

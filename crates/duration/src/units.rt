@@ -1,70 +1,56 @@
 // Unit texts, as `1d12h`: numbers of years, weeks, days, hours, minutes, seconds and milliseconds, each at most once and in this order.
 ghost use Rattle.std.specs.Prelude.{◌≡◌, ◌+◌, ◌*◌, ◌^◌, ◌≤◌, length, ◌||◌, ltb};
-ghost use Rattle.duration.specs.Unit.{year, second};
-ghost use Rattle.duration.specs.Units.{most_counted, counted, lasting, units_of};
-ghost use Rattle.duration.specs.steps.Units.{advanced};
+ghost use Rattle.duration.specs.Unit.{second};
+ghost use Rattle.duration.specs.Units.{counted, lasting, units_of};
+ghost use Rattle.duration.specs.steps.Units.{unit_of, part_of};
 
 use crate::span::Duration;
+use crate::unit::{UNITS, Unit};
 use decimal::Notation;
 use scan::byte::Class;
 
-// What a unit text amounts to, if it is one, and whether a part of it is oversized, which counts as nothing.
+// What a unit text amounts to, and whether a part of it is oversized, which counts as nothing.
 #[derive(Clone, Copy)]
-pub enum Units {
-    Sum { lasts: Duration, oversized: bool },
-    NotUnits,
+pub struct Sum {
+    pub lasts: Duration,
+    pub oversized: bool,
 }
 
-// How far a text was read, what the parts before amount to, and whether one of them is above the greatest number that counts.
+// A part that a text begins with: its number, and how many bytes it has.
 #[derive(Clone, Copy)]
-struct Progress {
-    at: usize,
-    secs: u64,
-    millis: u64,
-    oversized: bool,
+struct Part {
+    number: u64,
+    size: usize,
 }
 
 // The greatest number of a part that counts.
 const MOST_COUNTED: u64 = 0xffff_ffff;
 
 // What a part's number counts for.
+#[tactic(auto, unfolding(crate::specs::Units::counted))]
 fn counted(n: u64) -> u64
     ensures { result ≡ counted n }
 {
     if n <= MOST_COUNTED { n } else { 0 }
 }
 
-// Whether a part before, or this one, is oversized.
-fn is_oversized(before: bool, n: u64) -> bool
-    ensures { result ≡ before || ltb most_counted n }
+// The part of a unit that a text begins with; none where it begins with no such part.
+#[tactic(auto, unfolding(crate::specs::steps::Units::part_of, crate::specs::Units::is_part), using(crate::proofs::units::Parts::part_within, crate::proofs::units::Parts::digits_taken))]
+fn part_of(text: &[u8], unit: Unit) -> Option<Part>
+    ensures { result ≡ part_of text.now (unit_of unit) }
 {
-    before || MOST_COUNTED < n
-}
-
-// The text with one more part read, where it goes on with a part of the unit.
-fn take(s: &[u8], t: Progress, name: &[u8], size: u64) -> Progress
-    requires { (t.at ≤ length s.now) × (size ≤ year) × (t.secs ≤ 2 ^ 62) × (t.millis ≤ 2 ^ 62) }
-    ensures { result ≡ advanced s.now t name.now size }
-{
-    let from = t.at;
-    let rest = &s[from..];
-    let digits = scan::run_end(Class::Digit, rest, 0);
+    let digits = scan::run_end(Class::Digit, text, 0);
     if digits == 0 {
-        return t;
+        return None;
     }
-    let end = scan::run_end(Class::Alpha, rest, digits);
-    if !scan::is_text(&rest[digits..end], name) {
-        return t;
+    let end = scan::run_end(Class::Alpha, text, digits);
+    if !scan::is_text(&text[digits..end], unit.text()) {
+        return None;
     }
-    let value = decimal::digits_value(0, Notation::Decimal, &rest[..digits]);
-    let n = counted(value);
-    let oversized = is_oversized(t.oversized, value);
-    Progress {
-        at: from + end,
-        secs: t.secs + n * (size / Duration::SECOND),
-        millis: t.millis + n * (size % Duration::SECOND),
-        oversized,
-    }
+    Some(Part {
+        number: decimal::digits_value(0, Notation::Decimal, &text[..digits]),
+        size: end,
+    })
 }
 
 // So many seconds and milliseconds as a duration.
@@ -78,27 +64,30 @@ fn lasting(secs: u64, millis: u64) -> Duration
     }
 }
 
-// Reads a unit text.
-pub fn read_units(s: &[u8]) -> Units
+// Reads a unit text; none where the text is no such text.
+#[tactic(auto, using(crate::proofs::units::Steps::part_inside))]
+pub fn read_units(s: &[u8]) -> Option<Sum>
     ensures { result ≡ units_of s.now }
 {
-    let start = Progress {
-        at: 0,
-        secs: 0,
-        millis: 0,
-        oversized: false,
-    };
-    let years = take(s, start, b"y", Duration::YEAR);
-    let weeks = take(s, years, b"w", Duration::WEEK);
-    let days = take(s, weeks, b"d", Duration::DAY);
-    let hours = take(s, days, b"h", Duration::HOUR);
-    let minutes = take(s, hours, b"m", Duration::MINUTE);
-    let seconds = take(s, minutes, b"s", Duration::SECOND);
-    let all = take(s, seconds, b"ms", Duration::MILLI);
-    if all.at != s.len() {
-        return Units::NotUnits;
+    let mut rest = s;
+    let mut secs = 0;
+    let mut millis = 0;
+    let mut oversized = false;
+    for unit in UNITS {
+        let Some(part) = part_of(rest, unit) else {
+            continue;
+        };
+        let number = counted(part.number);
+        secs += number * (unit.size() / Duration::SECOND);
+        millis += number * (unit.size() % Duration::SECOND);
+        oversized |= MOST_COUNTED < part.number;
+        rest = &rest[part.size..];
     }
-    let lasts = lasting(all.secs, all.millis);
-    let oversized = all.oversized;
-    Units::Sum { lasts, oversized }
+    if !rest.is_empty() {
+        return None;
+    }
+    Some(Sum {
+        lasts: lasting(secs, millis),
+        oversized,
+    })
 }

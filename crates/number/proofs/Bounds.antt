@@ -2,7 +2,7 @@
 use Rattle.decimal.specs.declared.Number.{Number}
 use Rattle.utf8.specs.declared.Refusal.{Refusal}
 use Rattle.utf8.specs.declared.CharNumber.{CharNumber}
-use Rattle.std.specs.Prelude.{Err, Ok, Result}
+use Rattle.std.specs.Prelude.{Err, None, Ok, Option, Result, Some}
 use Rattle.std.proofs.Common.{ℕ, Bool, ◌&&◌, List, subst, arith}
 use lib.Ieee.{unlike}
 use Rattle.proving.proofs.Choice.{either}
@@ -17,7 +17,6 @@ use Rattle.decimal.specs.declared.Decimal.{Decimal}
 use Rattle.decimal.specs.declared.Decimal.TheVariants.{NotDecimal, Named, Exact, Outside}
 use Rattle.decimal.specs.Value.{decimal_limit, decimal_of}
 use Rattle.number.specs.declared.Integer.{Integer}
-use Rattle.number.specs.declared.Integer.TheVariants.{Whole, NotInteger}
 use Rattle.number.specs.Signed.{is_i64}
 use Rattle.number.specs.Integer.{integer_of}
 use Rattle.number.specs.White.{plain_text}
@@ -28,10 +27,10 @@ abbrev Bounded : Result Number Refusal → Type 0
 Bounded (Ok n) = Unit {0}
 Bounded (Err r) = within.Placed 61 decimal_limit r
 
-integer_bound : (n : Notation) (outer : Bool) (i : Integer) → Bounded (integer_by n outer i)
-integer_bound n outer (Whole own v) =
-    either Bounded (is_i64 own v && is_i64 (unlike own outer) v) (λ e. tt) (λ e. omega arith)
-integer_bound n outer NotInteger = omega arith
+integer_bound : (n : Notation) (outer : Bool) (i : Option Integer) → Bounded (integer_by n outer i)
+integer_bound n outer (Some own) =
+    either Bounded (is_i64 own.negative own.magnitude && is_i64 (unlike own.negative outer) own.magnitude) (λ e. tt) (λ e. omega arith)
+integer_bound n outer None = omega arith
 
 marked_bound : (t : List ℕ) → Bounded (marked_read t)
 unfolding marked_read

@@ -1,7 +1,7 @@
 -- When each answer is given: of any text one of the six rows holds, which gives its own answer, and no two rows give the same
 -- (`exactly`). The conditions are read off the tests, and those of a decimal off its own theorem (`decimal_given`).
 use Rattle.utf8.specs.declared.Refusal.{Refusal}
-use Rattle.std.specs.Prelude.{Err, Ok, Result}
+use Rattle.std.specs.Prelude.{Err, None, Ok, Result, Some}
 use Rattle.std.proofs.Common.{◌≡◌, ℕ, ◌≤◌, Bool, true, false, cond, ◌&&◌, eqb, ◌⊎◌, ◌↔◌, List, [], ◌∷◌, length, sym, refl, ap, ◌∙◌, inl, inr, ⊎_elim, true≢false, arith}
 use Prim.Native.Char.{code}
 use native.Mathlib.Decide.{dec_lt, ℕ_discrete}
@@ -26,7 +26,7 @@ use Rattle.decimal.specs.Value.{outside_exact, radix_of, plain, decimal_limit, d
 use Rattle.decimal.specs.laws.Decimal.{Infinite, Nan, Numeric, InExact, OutsideExact}
 use Rattle.decimal.proofs.Given.{decimal_given}
 use Rattle.decimal.proofs.Ranges.{exact_told}
-use Rattle.number.specs.declared.Integer.TheVariants as integer
+use Rattle.number.specs.declared.Integer.{Integer}
 use Rattle.number.specs.White.{plain_text}
 use Rattle.number.specs.Signed.{most_of, is_i64}
 use Rattle.number.specs.Integer.{is_digits, unsigned_of, is_whole, integer_of}
@@ -63,16 +63,19 @@ module _ (t : List ℕ) where
   tests_i64 = tests_and (tests_le (magnitude t) (most_of (own t))) (tests_le (magnitude t) (most_of (negative t)))
 
   -- what a marked text gives
+  abbrev integer : Integer
+  integer = record { negative = own t; magnitude = magnitude t }
+
   unmarked : (Whole t → ⊥) → marked_read t ≡ Err not_number
   unfolding marked_read integer_of
   unmarked n = go (leads_zero t) (is_whole (notation_of t) (follows_mark t)) (affirmed tests_whole n)
     where
-      go : (z w : Bool) → z && w ≡ false → cond z (integer_by (notation_of t) (is_minus t 0) (cond w (integer.Whole (own t) (magnitude t)) integer.NotInteger)) (Err not_number) ≡ Err not_number
+      go : (z w : Bool) → z && w ≡ false → cond z (integer_by (notation_of t) (is_minus t 0) (cond w (Some integer) None)) (Err not_number) ≡ Err not_number
       go true true e = absurd (true≢false e)
       go true false e = refl
       go false w e = refl
 
-  marked : (Whole t) → marked_read t ≡ integer_by (notation_of t) (is_minus t 0) (integer.Whole (own t) (magnitude t))
+  marked : (Whole t) → marked_read t ≡ integer_by (notation_of t) (is_minus t 0) (Some integer)
   unfolding marked_read integer_of
   marked w =
       let e = tests_whole.1 w in

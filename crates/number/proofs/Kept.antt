@@ -20,6 +20,9 @@ module _ (c : ℕ) where
   unfolding kept_of
   other_kept e = rw e (append-nil (encoded (lowered c)))
 
+  pub lowered_small : c < 0x80 → lowered c < 0x80
+  lowered_small h = lowered_below c 0x80 (omega arith) h
+
   pub ascii_kept : c < 0x80 → is_white c ≡ false → kept_bytes c ≡ lowered c ∷ []
   ascii_kept h e = other_kept e ∙ ascii_bytes (lowered c) (lowered_below c 0x80 (omega arith) h)
 

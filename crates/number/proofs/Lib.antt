@@ -1,5 +1,7 @@
 pub mod Kept
 pub mod Marks
+pub mod Signs
+pub mod Told
 pub mod Given
 pub mod Without
 pub mod Readings

@@ -16,6 +16,7 @@ use Rattle.scan.specs.Text.{has, Stands}
 use Rattle.scan.proofs.Runs.{peek_inside}
 use Rattle.scan.proofs.Stands.{tests_has}
 use Rattle.scan.proofs.separated.Whole.{placed_never, placed_without, none_dropped, without_within}
+use Rattle.utf8.specs.declared.Reading.{Reading}
 use Rattle.utf8.specs.declared.Reading.TheVariants.{Crate, Documented}
 use Rattle.utf8.specs.Answers.{admitted}
 use Rattle.utf8.specs.laws.Refusals.{Taken}
@@ -179,3 +180,7 @@ without_alike xs n = go (admitted decimal_limit xs)
     go : (a : Result CharNumber Refusal) → parsing_by Crate a (plain_text xs) ≡ parsing_by Documented a (plain_text xs)
     go (Ok k) = without_as_before Crate (plain_text xs) n ∙ sym (without_as_before Documented (plain_text xs) n)
     go (Err e) = refl
+
+-- so a text that is known to have none is read as it is
+pub unseparated : (r : Reading) (t : List ℕ) → has separator t ≡ false → number_in r t ≡ number_of t
+unseparated r t e = without_as_before r t (denied (tests_has separator t) e)

@@ -1,7 +1,7 @@
 -- The answer that the promise leaves at a telling input: a program that answers otherwise there, as the theorem's name says, cannot be
 -- proved. `parse_str_radix_gives` is what the promise answers at a text, which is the definition's value there.
 use Rattle.std.specs.Prelude.{Err, Ok, Result}
-use Rattle.std.proofs.Common.{◌≡◌, ℕ, true, false, List, ◌∷◌, pos, ap, ◌∙◌, ap₂}
+use Rattle.std.proofs.Common.{◌≡◌, ℕ, true, false, List, ◌∷◌, pos, ◌∙◌, ap₂}
 use lib.Count.{count_trailing_zeros}
 use lib.Ieee.{Float, fin, inf, round, size, span, climb, units, odd, of_int}
 use Rattle.scan.specs.Ascii.{ascii}
@@ -14,7 +14,7 @@ use Rattle.scan.specs.Sign.{is_sign}
 use Rattle.scan.specs.Digits.{value_from}
 use Rattle.utf8.specs.Table.{fits, size_in, char_length}
 use Rattle.utf8.specs.Text.{chars_past, size_of}
-use Rattle.utf8.specs.Answers.{validity_of, admitted, at_start, place, not_utf8}
+use Rattle.utf8.specs.Answers.{validity_of, admitted, at_start}
 use Rattle.utf8.specs.Code.{code_of, encoded, six_bits}
 use Rattle.decimal.specs.declared.Notation.{Notation}
 use Rattle.decimal.specs.declared.Notation.TheVariants.{Hex, Octal}
@@ -24,14 +24,12 @@ use Rattle.decimal.specs.Value.{plain, is_scaled, is_some, is_exact_range, is_in
 use Rattle.number.specs.White.{is_white, kept_of}
 use Rattle.number.specs.Signed.{is_i64}
 use Rattle.number.specs.Integer.{is_digits, is_whole, integer_of}
-use Rattle.number.specs.Number.{has_decimal_mark, is_zero_led, is_marked, notation_of, follows_mark, marked_read, number_of, is_placed, number_in, parsing_of, not_parsed}
+use Rattle.number.specs.Number.{has_decimal_mark, is_zero_led, is_marked, notation_of, follows_mark, marked_read, number_of, is_placed, number_in, parsing_of}
 use Rattle.utf8.specs.declared.Reading.{Reading}
 use Rattle.utf8.specs.declared.Reading.TheVariants.{Crate, Documented}
 use Rattle.utf8.specs.declared.Refusal.{Refusal}
 use Rattle.number.proofs.parse_str_radix.Kinds as parse_str_radix
 use Rattle.number.proofs.parse_str_radix.Reads as parse_str_radix_reads
-use Rattle.number.proofs.not_parsed.Kinds as not_parsed_kinds
-use Rattle.number.proofs.not_parsed.Reads as not_parsed_reads
 
 abbrev number : Notation → Float → Number
 number n x = record { value = x; notation = n }
@@ -169,15 +167,3 @@ prefix_behind_an_octal_zero_and_a_separator_is_refused = parse_str_radix_at _ _
 pub digits_without_separators_are_read_alike : parse_str_radix_gives (ascii "10") Documented (Ok (plain (fin false 5 (pos 1))))
 unfolding parse_str_radix_at
 digits_without_separators_are_read_alike = parse_str_radix_at _ _
-
-abbrev not_parsed_gives : Result Number Refusal → Refusal → Type 0
-not_parsed_gives t v = Answers not_parsed_kinds.ps not_parsed_kinds.r not_parsed_reads.Post (λ κs a. a.0 ≡ t) (λ κs. v)
-
-not_parsed_at : (t : Result Number Refusal) → not_parsed_gives t (not_parsed t)
-not_parsed_at t κs a x e p h = p ∙ ap not_parsed h
-
-pub refusal_is_told_with_its_place : not_parsed_gives (Err (not_utf8 (place 3 2))) (not_utf8 (place 3 2))
-refusal_is_told_with_its_place = not_parsed_at _
-
-pub number_has_no_refusal : not_parsed_gives (Ok (plain (fin false 1 (pos 0)))) (at_start 0)
-number_has_no_refusal = not_parsed_at _

@@ -3,4 +3,3 @@ pub mod Number
 pub mod Signed
 pub mod White
 pub mod laws
-pub mod steps

@@ -1,6 +1,6 @@
 -- What a number's text is read as: document 01, "Numbers", and document 02, L2.
 use Rattle.utf8.specs.declared.CharNumber.{CharNumber}
-use Rattle.std.specs.Prelude.{ℕ, suc, Bool, cond, not, ◌&&◌, ◌||◌, List, length, drop, ◌==◌, Err, Ok, Result}
+use Rattle.std.specs.Prelude.{ℕ, suc, Bool, cond, not, ◌&&◌, ◌||◌, List, length, drop, ◌==◌, Err, None, Ok, Option, Result, Some}
 use Prim.Native.Char.{code}
 use Rattle.std.specs.Float.Ieee.{unlike, of_int}
 use Rattle.std.specs.Float.{binary64}
@@ -10,7 +10,7 @@ use Rattle.scan.specs.Separated.{all_placed, without_separators}
 use Rattle.scan.specs.Text.{has}
 use Rattle.utf8.specs.declared.Reading.{Reading}
 use Rattle.utf8.specs.declared.Refusal.{Refusal}
-use Rattle.utf8.specs.Answers.{at_start, admitted, no_refusal}
+use Rattle.utf8.specs.Answers.{at_start, admitted}
 use Rattle.decimal.specs.declared.Notation.{Notation}
 use Rattle.decimal.specs.declared.Notation.TheVariants.{Hex, Octal}
 use Rattle.decimal.specs.declared.Number.{Number}
@@ -22,7 +22,6 @@ use Rattle.numeral.specs.Numeral.{between_digits, behind_prefix}
 use Rattle.number.specs.White.{plain_text}
 use Rattle.number.specs.Signed.{signed_of, is_i64}
 use Rattle.number.specs.declared.Integer.{Integer}
-use Rattle.number.specs.declared.Integer.TheVariants.{Whole, NotInteger}
 use Rattle.number.specs.Integer.{integer_of}
 
 -- 60 "not a number text", 61 "hex or octal outside a signed 64-bit integer"
@@ -58,11 +57,11 @@ is_marked t = has (code "x") t || is_zero_led t
 abbrev pub integer_number : Notation → Bool → ℕ → Number
 integer_number n negative v = record { value = of_int binary64 (signed_of negative v); notation = n }
 
-abbrev pub integer_by : Notation → Bool → Integer → Result Number Refusal
-integer_by n outer (Whole own v) =
-    let negative = unlike own outer in
-    cond (is_i64 own v && is_i64 negative v) (Ok (integer_number n negative v)) (Err outside_i64)
-integer_by n outer NotInteger = Err not_number
+abbrev pub integer_by : Notation → Bool → Option Integer → Result Number Refusal
+integer_by n outer (Some own) =
+    let negative = unlike own.negative outer in
+    cond (is_i64 own.negative own.magnitude && is_i64 negative own.magnitude) (Ok (integer_number n negative own.magnitude)) (Err outside_i64)
+integer_by n outer None = Err not_number
 
 abbrev pub integer_read : Notation → Bool → List ℕ → Result Number Refusal
 integer_read n outer ys = integer_by n outer (integer_of n ys)
@@ -115,8 +114,3 @@ parsing_by r (Err e) t = Err e
 
 unfoldable pub parsing_of : Reading → List ℕ → Result Number Refusal
 parsing_of r xs = parsing_by r (admitted decimal_limit xs) (plain_text xs)
-
--- the refusal of an answer, and of one that has none the number 0, which is no refusal's
-abbrev pub not_parsed : Result Number Refusal → Refusal
-not_parsed (Ok n) = no_refusal
-not_parsed (Err e) = e

@@ -1,6 +1,5 @@
 // The separators of a number's text, as document 02's L2 has them.
-ghost use Rattle.std.specs.Prelude.{◌≡◌, length};
-ghost use Rattle.std.proofs.lemmas.List.Edits.{sets};
+ghost use Rattle.std.specs.Prelude.{◌≡◌, ◌≤◌, length, take};
 ghost use Rattle.scan.specs.Separated.{without_separators};
 ghost use Rattle.number.specs.Number.{is_hex_text, is_placed};
 
@@ -21,6 +20,7 @@ fn is_hex_text(t: &[u8]) -> bool
 }
 
 // Whether each separator of a text stands where the reading has it so.
+#[tactic(auto, unfolding(crate::specs::Number::is_placed), using(crate::proofs::Marks::zero_inside, crate::proofs::Marks::x_inside))]
 pub fn is_placed(t: &[u8], reading: Reading) -> bool
     ensures { result ≡ is_placed reading t.now }
 {
@@ -34,18 +34,16 @@ pub fn is_placed(t: &[u8], reading: Reading) -> bool
 
 // Writes a text without its separators at its own front, and answers how many bytes that is.
 pub fn drop_separators(t: &mut [u8]) -> usize
-    ensures value { result ≡ length (without_separators t.old) }
-    ensures t_after { t.new ≡ sets t.old 0 (without_separators t.old) }
+    ensures within { result ≤ length t.new }
+    ensures left { take result t.new ≡ without_separators t.old }
 {
     let mut n = 0;
-    let mut at = 0;
-    while at < t.len() {
+    for at in 0..t.len() {
         let byte = t[at];
         if byte != separated::SEPARATOR {
             t[n] = byte;
             n += 1;
         }
-        at += 1;
     }
     n
 }

@@ -1,13 +1,9 @@
--- The answer by the tests of the code: nanoseconds over range first, then the room for the text, which is stored at the front.
-use Prim.Native.Nat.{ℕ, ◌+◌, ◌≤◌, ◌<◌}
-use native.Mathlib.Nat.{zero-add}
-use native.Mathlib.Omega.{arith}
-use mathlib.Core.List.{List, ◌++◌}
+-- The answer by the tests of the code: nanoseconds over range first, then the room for the text.
+use Prim.Native.Nat.{ℕ, ◌≤◌, ◌<◌}
 use mathlib.Core.Logic.{inl, inr}
 use mathlib.Core.Path.{◌≡◌, refl}
 use lib.Dec.{leb}
-use lib.ListN.{length, drop}
-use lib.Seq.{sets, sets-eq}
+use lib.ListN.{length}
 use borrow.Author.Tests.{le-leb, lt-leb, leb-true}
 use Rattle.utf8.specs.declared.Refusal.{Refusal}
 use Rattle.std.specs.Prelude.{Err, Ok, Result}
@@ -31,12 +27,6 @@ module _ (d : Duration) (few : d.nanos < nanos_a_second) where
   pub fits : (room : ℕ) → length (duration_text d) ≤ room → displaying_of room d ≡ Ok (length (duration_text d))
   unfolding displaying_of
   fits room h = rw (lt-leb nanos_a_second d.nanos few, le-leb (length (duration_text d)) room h)
-
-  pub shown : (out : List ℕ) {e : List ℕ} {n : ℕ} → n ≡ length (duration_text d) → n ≤ length out → e ≡ sets out 0 (duration_text d)
-      → (Ok n ≡ displaying_of (length out) d) × (e ≡ duration_text d ++ drop n out)
-  shown out k h s =
-      let room : 0 + length (duration_text d) ≤ length out = omega arith in
-      rw (k, s, fits (length out) (omega arith), sets-eq (duration_text d) out 0 room, zero-add) (refl, refl)
 
 pub display_answers : DisplayAnswers
 unfolding displaying_of

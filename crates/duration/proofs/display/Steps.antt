@@ -1,22 +1,26 @@
 -- A text that fits is stored as it is put, and what is stored in two parts is stored one after the other (`sets_join`).
-use Prim.Native.Nat.{ℕ, ◌+◌, ◌≤◌}
+use Prim.Native.Nat.{ℕ, ◌+◌, ◌<◌, ◌≤◌}
 use native.Mathlib.Omega.{arith}
 use mathlib.Core.Bool.{true, false}
-use mathlib.Core.List.{List, [], ◌∷◌, ◌++◌, append-nil}
-use mathlib.Core.Path.{◌≡◌, refl, sym, ap, subst, ◌∙◌}
-use lib.ListN.{length, length-append}
-use lib.Seq.{sets-eq}
+use mathlib.Core.List.{List, [], ◌++◌}
+use mathlib.Core.Path.{◌≡◌, refl, sym, ◌∙◌}
+use lib.ListN.{length, get_or, take, drop, length-append}
+use lib.Seq.{sets-eq, take-append_seam}
 use borrow.Author.Tests.{eq-eqb, ne_eqb, le-leb}
+use Rattle.std.specs.List.{flat_map}
+use Rattle.std.proofs.lemmas.List.{take_more, flat_map_more}
 use Rattle.scan.specs.Ascii.{ascii}
 use Rattle.proving.proofs.Stores.{sets_join}
 use Rattle.writing.specs.Decimal.{decimal_text}
 use Rattle.writing.specs.Put.{put_at, past_at}
 use Rattle.writing.proofs.Writes.{put_stands}
 use Rattle.duration.specs.declared.span.Duration.{Duration}
+use Rattle.duration.specs.declared.display.Part.{Part}
+use Rattle.duration.specs.declared.unit.Unit.TheVariants.{Year}
 use Rattle.duration.specs.Spans.{is_zero}
 use Rattle.duration.specs.Unit.{units}
 use Rattle.duration.specs.Display.{count_text, written, millis_of, duration_text}
-use Rattle.duration.specs.steps.Display.{Stored, chained, sizes}
+use Rattle.duration.specs.steps.Display.{Stored}
 
 pub stored_none : (d : List ℕ) (at : ℕ) → Stored [] d at at d
 stored_none d at = record { past = omega arith; holds = refl }
@@ -30,12 +34,20 @@ pub stored_on : {xs ys d e f : List ℕ} {at r q : ℕ} → Stored xs d at r e �
 stored_on {xs} {ys} {d} {at = at} s t =
     record { past = omega (arith, length-append xs ys, s.past, t.past); holds = rw (sets_join d xs ys at, ← s.past, ← s.holds) t.holds }
 
-pub stored_all : {xs d e : List ℕ} {at r : ℕ} → Stored xs d at r e → Stored (xs ++ []) d at r e
-stored_all {xs} {d} {e} {at} {r} s = subst (λ (zs : List ℕ). Stored zs d at r e) (sym (append-nil xs)) s
+-- and a part behind those before it
+pub stored_more : {A : Type 0} {d e f : List ℕ} {r q : ℕ} (g : A → List ℕ) (xs : List A) (i : ℕ) (x : A) → i < length xs
+    → Stored (flat_map g (take i xs)) d 0 r e → Stored (g (get_or xs i x)) e r q f → Stored (flat_map g (take (i + 1) xs)) d 0 q f
+stored_more g xs i x l s t = rw (take_more xs i x l, ← flat_map_more g [] (take i xs) (get_or xs i x)) (stored_on s t)
 
-pub chained_size : (xss : List (List ℕ)) → length (chained xss) ≡ sizes xss
-chained_size [] = refl
-chained_size (xs ∷ xss) = length-append xs (chained xss) ∙ ap (λ (n : ℕ). length xs + n) (chained_size xss)
+-- what is stored at the front is what stands before where it ends
+pub stored_front : {xs d e : List ℕ} {r : ℕ} → Stored xs d 0 r e → length xs ≤ length d → take r e ≡ xs
+stored_front {xs} {d} s h =
+    let room : 0 + length xs ≤ length d = omega arith in
+    let end : length xs ≡ 0 + length xs = omega arith in
+    rw (s.holds, s.past, sets-eq xs d 0 room, ← end) (take-append_seam xs (drop (length xs) d))
+
+abbrev pub no_part : Part
+no_part = record { count = 0; unit = Year }
 
 pub counted_none : (v : ℕ) (text : List ℕ) → v ≡ 0 → count_text v text ≡ []
 unfolding count_text

@@ -4,9 +4,10 @@ use native.Mathlib.Decide.{dec_le}
 use native.Mathlib.Nat.{mul-le-mul_right, mul-le-mul_left}
 use native.Mathlib.Omega.{arith}
 use mathlib.Core.List.{List}
-use mathlib.Core.Path.{◌≡◌, ap}
+use mathlib.Core.Path.{◌≡◌, sym, ap}
 use lib.Dec.{leb, ltb}
-use lib.ListN.{length}
+use lib.ListN.{length, take}
+use lib.Seq.{length-take-le}
 use borrow.Author.Tests.{lt-leb, lt-ltb, leb-true}
 use Rattle.scan.specs.declared.byte.Class.TheVariants.{Digit, Alpha}
 use Rattle.scan.specs.Byte.{is_in}
@@ -18,6 +19,9 @@ use Rattle.duration.specs.Units.{digits_end, part_end, most_counted, counted}
 
 pub digits_within_text : (ys : List ℕ) → digits_end ys ≤ length ys
 digits_within_text ys = omega (arith, run_within (is_in Digit) ys 0)
+
+pub digits_taken : (ys : List ℕ) → digits_end ys ≡ length (take (digits_end ys) ys)
+digits_taken ys = sym (length-take-le (digits_end ys) ys (digits_within_text ys))
 
 pub part_within : (ys : List ℕ) → part_end ys ≤ length ys
 part_within ys = omega (arith, digits_within_text ys, run_within (is_in Alpha) ys (digits_end ys))

@@ -1,122 +1,149 @@
--- Seven steps of the code say what the definition says. What is kept from step to step: the parts that were read and those that are still to be
+-- A step for each unit says what the definition says. What is kept from step to step: the parts that were read and those that are still to be
 -- read amount to what all do, and leave behind them what all do (`Reached`); a step reads the part of the next unit, if it is there.
-use Prim.Native.Nat.{ℕ, ◌+◌, ◌-◌, ◌*◌, ◌/◌, ◌%◌, ◌^◌, ◌≤◌}
+use Prim.Native.Nat.{ℕ, ◌+◌, ◌*◌, ◌/◌, ◌%◌, ◌^◌, ◌<◌, ◌≤◌, min}
 use native.Mathlib.Nat.{mul_assoc, mul-add, div-add-mod'}
 use native.Mathlib.Omega.{arith}
-use mathlib.Core.Bool.{Bool, true, false, ◌||◌, or_assoc, or-false}
+use mathlib.Core.Bool.{Bool, true, false, cond, ◌&&◌, ◌||◌, or_assoc, or-false}
 use mathlib.Core.List.{List, [], ◌∷◌}
-use mathlib.Core.Path.{◌≡◌, refl, sym, ap, ◌∙◌}
-use lib.Dec.{ltb}
-use lib.ListN.{length, drop, length-drop}
-use borrow.Author.Tests.{eq-eqb, ne_eqb}
-use lib.Seq.{drop-drop}
-use Rattle.proving.proofs.Choice.{either}
+use mathlib.Core.Path.{◌≡◌, refl, sym, ap, subst, ◌∙◌}
+use lib.Dec.{eqb, ltb}
+use lib.ListN.{length, drop, get_or}
+use Rattle.std.proofs.Common.{map, add-one, drop-cons}
+use Rattle.std.specs.Prelude.{None, Option, Some}
+use Rattle.decimal.specs.Value.{most_told}
 use Rattle.duration.specs.Unit.{Unit, units, second, year}
-use Rattle.duration.specs.declared.units.Progress.{Progress}
-use Rattle.duration.specs.Units.{is_part, part_end, part_value, behind, sum_by, most_counted, counted, has_oversized, is_unit_text, unit_sum}
-use Rattle.duration.specs.steps.Units.{with_part, advanced}
-use Rattle.duration.proofs.units.Parts.{part_within, counted_most, seconds_fit, millis_fit}
+use Rattle.duration.specs.declared.units.Part.{Part}
+use Rattle.duration.specs.Units.{is_part, part_end, part_value, behind, sum_by, most_counted, counted, has_oversized, is_unit_text, unit_sum, lasting, units_of}
+use Rattle.duration.specs.declared.unit.Unit as code
+use Rattle.duration.specs.declared.unit.Unit.TheVariants.{Year, Week, Day, Hour, Minute, Second, Milli}
+use Rattle.duration.specs.steps.Units.{unit_of, part_of}
+use Rattle.duration.proofs.units.Parts.{part_within, counted_told, over_told, counted_most, seconds_fit, millis_fit}
 
--- k parts were read of a text, and those of the units are to be read
-pub record Reached (xs : List ℕ) (us : List Unit) (k : ℕ) (t : Progress) : Type 0 where
-  pub within : t.at ≤ length xs
-  pub left : behind us (drop t.at xs) ≡ behind units xs
-  pub sum : t.secs * second + t.millis + sum_by counted us (drop t.at xs) ≡ unit_sum xs
-  pub over : t.oversized || has_oversized us (drop t.at xs) ≡ has_oversized units xs
-  pub secs_few : t.secs ≤ k * 2 ^ 57
-  pub millis_few : t.millis ≤ k * 2 ^ 57
+-- the parts of k units were looked for in a text, and those of the units are to be looked for in the rest
+pub record Reached (xs : List ℕ) (us : List Unit) (k : ℕ) (rest : List ℕ) (secs millis : ℕ) (oversized : Bool) : Type 0 where
+  pub left : behind us rest ≡ behind units xs
+  pub sum : secs * second + millis + sum_by counted us rest ≡ unit_sum xs
+  pub over : oversized || has_oversized us rest ≡ has_oversized units xs
+  pub secs_few : secs ≤ k * 2 ^ 57
+  pub millis_few : millis ≤ k * 2 ^ 57
 
-pub begun : (xs : List ℕ) (t : Progress) → t ≡ record { at = 0; secs = 0; millis = 0; oversized = false } → Reached xs units 0 t
-begun xs t e = rw e (record { within = omega arith; left = refl; sum = omega arith; over = refl; secs_few = omega arith; millis_few = omega arith })
+pub begun : (xs : List ℕ) → Reached xs units 0 xs 0 0 false
+begun xs = record { left = refl; sum = omega arith; over = refl; secs_few = omega arith; millis_few = omega arith }
 
 -- n of a size: its seconds and what is over
 parted : (n size : ℕ) → n * (size / second) * second + n * (size % second) ≡ n * size
 parted n size =
     ap (λ (m : ℕ). m + n * (size % second)) (mul_assoc n (size / second) second) ∙ sym (mul-add n (size / second * second) (size % second)) ∙ ap (λ (m : ℕ). n * m) (div-add-mod' size second)
 
-module _ (xs : List ℕ) (u : Unit) (us : List Unit) (k : ℕ) (t : Progress) (h : u.size ≤ year) (r : Reached xs (u ∷ us) k t) where
-  abbrev ys : List ℕ
-  ys = drop t.at xs
+-- what a part is that was looked for
+found : (ys : List ℕ) (u : Unit) → Bool → Option Part
+found ys u b = cond b (Some (record { number = min most_told (part_value ys); size = part_end ys })) None
+
+module _ (ys : List ℕ) (u : Unit) where
+  none_found : None ≡ part_of ys u → is_part u.text ys ≡ false
+  unfolding part_of found
+  none_found e = go (is_part u.text ys) refl e
+    where
+      go : (b : Bool) → is_part u.text ys ≡ b → None ≡ found ys u b → is_part u.text ys ≡ false
+      go true i e = let z : ⊥ = cc in absurd z
+      go false i e = i
+
+  module _ (p : Part) (e : Some p ≡ part_of ys u) where
+    some_found : (is_part u.text ys ≡ true) × (p.number ≡ min most_told (part_value ys)) × (p.size ≡ part_end ys)
+    unfolding part_of found
+    some_found = go (is_part u.text ys) refl e
+      where
+        go : (b : Bool) → is_part u.text ys ≡ b → Some p ≡ found ys u b → (is_part u.text ys ≡ true) × (p.number ≡ min most_told (part_value ys)) × (p.size ≡ part_end ys)
+        go true i e = (i, cc, cc)
+        go false i e = let z : ⊥ = cc in absurd z
+
+    pub part_inside : p.size ≤ length ys
+    part_inside = omega (arith, some_found.2, part_within ys)
+
+module _ {xs ys : List ℕ} {u : Unit} {us : List Unit} {k secs millis : ℕ} {oversized : Bool} (r : Reached xs (u ∷ us) k ys secs millis oversized) where
+  abbrev rest : Bool → List ℕ
+  rest b = cond b (drop (part_end ys) ys) ys
 
   abbrev n : ℕ
   n = counted (part_value ys)
 
-  along : drop (part_end ys) ys ≡ drop (t.at + part_end ys) xs
-  along = drop-drop (part_end ys) t.at xs
+  module _ (b : Bool) (e : is_part u.text ys ≡ b) where
+    left_by : behind us (rest b) ≡ behind units xs
+    unfolding behind
+    left_by = rw (← e) r.left
 
-  behind_read : is_part u.text ys ≡ true → behind (u ∷ us) ys ≡ behind us (drop (part_end ys) ys)
-  unfolding behind
-  behind_read e = rw e
+    sum_by_part : sum_by counted (u ∷ us) ys ≡ cond b (n * u.size) 0 + sum_by counted us (rest b)
+    unfolding sum_by
+    sum_by_part = rw e
 
-  sum_read : is_part u.text ys ≡ true → sum_by counted (u ∷ us) ys ≡ n * u.size + sum_by counted us (drop (part_end ys) ys)
-  unfolding sum_by
-  sum_read e = rw e
+    over_by : has_oversized (u ∷ us) ys ≡ (b && ltb most_counted (part_value ys)) || has_oversized us (rest b)
+    unfolding has_oversized
+    over_by = rw e
 
-  over_read : is_part u.text ys ≡ true → has_oversized (u ∷ us) ys ≡ ltb most_counted (part_value ys) || has_oversized us (drop (part_end ys) ys)
-  unfolding has_oversized
-  over_read e = rw e
-
-  over_left : is_part u.text ys ≡ false → has_oversized (u ∷ us) ys ≡ has_oversized us ys
-  unfolding has_oversized
-  over_left e = rw e
-
-  behind_left : is_part u.text ys ≡ false → behind (u ∷ us) ys ≡ behind us ys
-  unfolding behind
-  behind_left e = rw e
-
-  sum_left : is_part u.text ys ≡ false → sum_by counted (u ∷ us) ys ≡ 0 + sum_by counted us ys
-  unfolding sum_by
-  sum_left e = rw e
-
-  read : is_part u.text ys ≡ true → Reached xs us (k + 1) (with_part ys t u.size)
-  read e =
-      record {
-        within = omega (arith, part_within ys, length-drop t.at xs, r.within);
-        left = ap (behind us) (sym along) ∙ sym (behind_read e) ∙ r.left;
-        sum = omega (arith, r.sum, sum_read e, parted n u.size, ap (sum_by counted us) along);
+  pub stepped : (p : Part) → u.size ≤ year → Some p ≡ part_of ys u
+      → Reached xs us (k + 1) (drop p.size ys) (secs + counted p.number * (u.size / second)) (millis + counted p.number * (u.size % second)) (oversized || ltb most_counted p.number)
+  stepped p h e =
+      let f = some_found ys u p e in
+      rw (f.1, f.2, counted_told (part_value ys), over_told (part_value ys)) (record {
+        left = left_by true f.0;
+        sum = omega (arith, r.sum, sum_by_part true f.0, parted n u.size);
         over =
-            or_assoc t.oversized (ltb most_counted (part_value ys)) (has_oversized us (drop (t.at + part_end ys) xs))
-            ∙ ap (λ (zs : List ℕ). t.oversized || (ltb most_counted (part_value ys) || has_oversized us zs)) (sym along)
-            ∙ ap (λ (b : Bool). t.oversized || b) (sym (over_read e))
+            or_assoc oversized (ltb most_counted (part_value ys)) (has_oversized us (rest true))
+            ∙ ap (λ (b : Bool). oversized || b) (sym (over_by true f.0))
             ∙ r.over;
         secs_few = omega (arith, r.secs_few, seconds_fit u.size n (counted_most (part_value ys)) h);
         millis_few = omega (arith, r.millis_few, millis_fit u.size n (counted_most (part_value ys)));
-      }
+      })
 
-  not_read : is_part u.text ys ≡ false → Reached xs us (k + 1) t
-  not_read e =
+  pub passed : None ≡ part_of ys u → Reached xs us (k + 1) ys secs millis oversized
+  passed e =
+      let i = none_found ys u e in
       record {
-        within = r.within;
-        left = sym (behind_left e) ∙ r.left;
-        sum = omega (arith, r.sum, sum_left e);
-        over = ap (λ (b : Bool). t.oversized || b) (sym (over_left e)) ∙ r.over;
+        left = left_by false i;
+        sum = omega (arith, r.sum, sum_by_part false i);
+        over = ap (λ (b : Bool). oversized || b) (sym (over_by false i)) ∙ r.over;
         secs_few = omega (arith, r.secs_few);
         millis_few = omega (arith, r.millis_few);
       }
 
-  pub stepped : Reached xs us (k + 1) (advanced xs t u.text u.size)
-  unfolding advanced
-  stepped = either (Reached xs us (k + 1)) (is_part u.text ys) read not_read
+-- the next of the units is no longer than a year
+abbrev pub all : List code.Unit
+all = Year ∷ Week ∷ Day ∷ Hour ∷ Minute ∷ Second ∷ Milli ∷ []
+
+pub next : {xs ys : List ℕ} {secs millis : ℕ} {oversized : Bool} (i : ℕ) → i < 7 → Reached xs (map unit_of (drop i all)) i ys secs millis oversized
+    → Reached xs (unit_of (get_or all i Year) ∷ map unit_of (drop (i + 1) all)) i ys secs millis oversized
+next i l r = rw add-one (rw (drop-cons all i Year) at r)
+
+pub unit_few : (u : code.Unit) → (unit_of u).size ≤ year
+unit_few Year = omega arith
+unit_few Week = omega arith
+unit_few Day = omega arith
+unit_few Hour = omega arith
+unit_few Minute = omega arith
+unit_few Second = omega arith
+unit_few Milli = omega arith
 
 -- with no unit left
-module _ (xs : List ℕ) (k : ℕ) (t : Progress) (r : Reached xs [] k t) where
-  over : length (behind units xs) ≡ length xs - t.at
-  over = ap length (sym r.left) ∙ (unfold behind in length-drop t.at xs)
+module _ {xs ys : List ℕ} {i secs millis : ℕ} {oversized : Bool} (r : Reached xs (map unit_of (drop i all)) i ys secs millis oversized) (l : i ≤ 7) (m : 7 ≤ i) where
+  ended : Reached xs [] 7 ys secs millis oversized
+  ended = let e : i ≡ 7 = omega arith in subst (λ (n : ℕ). Reached xs (map unit_of (drop n all)) n ys secs millis oversized) e r
 
-  pub none_behind : t.at ≡ length xs → is_unit_text xs ≡ true
-  unfolding is_unit_text
-  none_behind e = eq-eqb (length (behind units xs)) 0 (omega (arith, over))
+  tested : is_unit_text xs ≡ eqb (length ys) 0
+  unfolding is_unit_text behind
+  tested = ap (λ (zs : List ℕ). eqb (length zs) 0) (sym ended.left)
 
-  pub some_behind : (t.at ≡ length xs → ⊥) → is_unit_text xs ≡ false
-  unfolding is_unit_text
-  some_behind n = ne_eqb (length (behind units xs)) 0 (λ e. n (omega (arith, over, r.within)))
+  sum_is : secs * second + millis ≡ unit_sum xs
+  unfolding sum_by
+  sum_is = omega (arith, ended.sum)
 
-  pub sum_is : t.secs * second + t.millis ≡ unit_sum xs
-  sum_is = omega (arith, r.sum, nothing)
-    where
-      nothing : sum_by counted [] (drop t.at xs) ≡ 0
-      nothing = unfold sum_by in refl
-
-  pub over_is : t.oversized ≡ has_oversized units xs
+  over_is : oversized ≡ has_oversized units xs
   unfolding has_oversized
-  over_is = sym (or-false t.oversized) ∙ r.over
+  over_is = sym (or-false oversized) ∙ ended.over
+
+  pub no_units : eqb (length ys) 0 ≡ false → None ≡ units_of xs
+  unfolding units_of
+  no_units e = rw (tested, e)
+
+  pub all_units : eqb (length ys) 0 ≡ true → Some (record { lasts = lasting (secs * second + millis); oversized = oversized }) ≡ units_of xs
+  unfolding units_of
+  all_units e = rw (tested, e, sum_is, over_is)

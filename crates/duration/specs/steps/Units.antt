@@ -1,20 +1,22 @@
--- What the code goes by in place of the definition: a place in the text, and of the parts before it the seconds and milliseconds, and whether one is oversized. Nothing
--- that is promised outside rests on it; `proofs/units/Steps` shows that seven steps say what the definition says.
-use Rattle.std.specs.Prelude.{ℕ, ◌+◌, ◌*◌, ◌/◌, ◌%◌, cond, ◌||◌, List, ltb, drop}
-use Rattle.duration.specs.Unit.{second}
-use Rattle.duration.specs.declared.units.Progress.{Progress}
-use Rattle.duration.specs.Units.{is_part, part_end, part_value, most_counted, counted}
+-- What the code goes by in place of the definition: its units, and the part of a unit that a text begins with. Nothing that is promised outside
+-- rests on it; `proofs/units/Steps` shows that a step for each unit says what the definition says.
+use Rattle.std.specs.Prelude.{ℕ, min, cond, List, None, Option, Some}
+use Rattle.decimal.specs.Value.{most_told}
+use Rattle.duration.specs.declared.unit.Unit as code
+use Rattle.duration.specs.declared.unit.Unit.TheVariants.{Year, Week, Day, Hour, Minute, Second, Milli}
+use Rattle.duration.specs.declared.units.Part.{Part}
+use Rattle.duration.specs.Unit.{Unit, unit, milli, second, minute, hour, day, week, year}
+use Rattle.duration.specs.Units.{is_part, part_end, part_value}
 
--- a part of a unit of a size, where the text goes on with one
-abbrev pub with_part : List ℕ → Progress → ℕ → Progress
-with_part ys t size =
-    let v = counted (part_value ys) in
-    record {
-      at = t.at + part_end ys;
-      secs = t.secs + v * (size / second);
-      millis = t.millis + v * (size % second);
-      oversized = t.oversized || ltb most_counted (part_value ys);
-    }
+abbrev pub unit_of : code.Unit → Unit
+unit_of Year = unit "y" year
+unit_of Week = unit "w" week
+unit_of Day = unit "d" day
+unit_of Hour = unit "h" hour
+unit_of Minute = unit "m" minute
+unit_of Second = unit "s" second
+unit_of Milli = unit "ms" milli
 
-unfoldable pub advanced : List ℕ → Progress → List ℕ → ℕ → Progress
-advanced xs t name size = let ys = drop t.at xs in cond (is_part name ys) (with_part ys t size) t
+-- the part of a unit that a text begins with; 2^63 + 1 stands for every greater number
+unfoldable pub part_of : List ℕ → Unit → Option Part
+part_of xs u = cond (is_part u.text xs) (Some (record { number = min most_told (part_value xs); size = part_end xs })) None

@@ -1,140 +1,106 @@
--- The invariant: with what is kept of the text from here on written from n on, the buffer is as with what is kept of all of it written from
--- its front; and that is not longer than the text, so it fits. A character's step keeps it, whichever way the character was read and written.
-use Rattle.std.proofs.Common.{◌≡◌, ℕ, ◌+◌, ◌≤◌, List, length, get_or, drop, sym, refl, ap, ◌∙◌, subst, arith, length-append}
-use lib.Seq.{sets}
+-- What is kept of a text is not longer than it, so it fits. A character's step keeps the invariant, whichever way the character was read and written.
+use Rattle.std.proofs.Common.{◌≡◌, ℕ, ◌+◌, ◌<◌, ◌≤◌, List, length, get_or, drop, take, sym, refl, ap, ap₂, ◌∙◌, subst, arith, length-append}
+use borrow.Author.Tests.{ltb-true}
+use lib.Seq.{sets, length-sets}
 use Rattle.scan.specs.Byte.{end, peek_at}
 use Rattle.proving.proofs.Lists.{get_d_any}
-use Rattle.proving.proofs.Stores.{sets_join}
+use Rattle.proving.proofs.Stores.{sets_join, written_front}
 use Rattle.utf8.specs.declared.Character.{Character}
 use Rattle.utf8.specs.declared.Character.TheVariants.{Scalar, Nothing, IllFormed}
 use Rattle.utf8.specs.Answers.{character_at}
 use Rattle.utf8.specs.laws.Characters.{Standing, StandsAt}
+use Rattle.utf8.specs.laws.Refusals.{Taken}
 use Rattle.utf8.proofs.Bounds.{character_stands, ascii_at}
 use Rattle.decimal.specs.Value.{decimal_limit}
 use Rattle.number.specs.White.{kept_bytes, plain_text}
 use Rattle.number.proofs.Kept.{plain_few, plain_here, plain_over}
 use Rattle.number.proofs.keep.Invariants.{Held}
 use Rattle.number.proofs.keep.Goals as goal
-use Rattle.number.proofs.keep.Goals.{After-char_at-c, After-shared_slice_known-in-loop-at-1, At-loop-at, In-Scalar, Start}
-
-pub loop-at-init : goal.loop-at-init
-loop-at-init c = (omega arith, c.requires.1, omega arith, refl)
+use Rattle.number.proofs.keep.Goals.{In-Scalar, Then-is_ascii}
 
 -- before the end a character stands
-module _ (c : After-shared_slice_known-in-loop-at-1) where
-  abbrev a : Start
-  a = (goal.at.After-shared_slice_known-in-loop-at-1 c).Start
-
-  abbrev xs : List ℕ
-  xs = a.args.text.now
-
-  abbrev place : ℕ
-  place = c.loop-at.at
-
-  stands : StandsAt xs place (character_at xs place)
-  stands = character_stands xs place c.loop-at-test.true c.loop-at.invariant.1
+module _ {xs out₀ out : List ℕ} {n at : ℕ} (i : Held xs out₀ out n at) where
+  stands : at < length xs → StandsAt xs at (character_at xs at)
+  stands l = character_stands xs at l i.formed
 
   -- an ASCII one is its byte
-  abbrev byte : ℕ
-  byte = get_or xs place 0
+  alone : at < length xs → get_or xs at 0 ≤ 0x7f → Standing xs at (get_or xs at 0) 1
+  alone l h =
+      let e : peek_at xs at ≡ get_or xs at 0 = get_d_any xs at end 0 l in
+      subst (λ (x : ℕ). Standing xs at x 1) e (subst (StandsAt xs at) (ascii_at xs at (omega (arith, e))) (stands l))
 
-  alone : byte ≤ 0x7f → Standing xs place byte 1
-  alone h =
-      let e : peek_at xs place ≡ byte = get_d_any xs place end 0 c.loop-at-test.true in
-      subst (λ (x : ℕ). Standing xs place x 1) e (subst (StandsAt xs place) (ascii_at xs place (omega (arith, e))) stands)
+  -- any other is the one that was read
+  read : {r : Character} (code size : ℕ) → at < length xs → r ≡ character_at xs at → r ≡ Scalar code size → Standing xs at code size
+  read code size l e f = subst (StandsAt xs at) (sym e ∙ f) (stands l)
 
   -- what is kept of it has room, and with that written the invariant holds behind it
-  module _ (code size : ℕ) (s : Standing xs place code size) where
-    abbrev l : At-loop-at
-    l = (goal.at.After-shared_slice_known-in-loop-at-1 c).At-loop-at
+  module _ {code size : ℕ} (s : Standing xs at code size) where
+    long : length (plain_text (drop at xs)) ≡ length (kept_bytes code) + length (plain_text (drop (at + size) xs))
+    long = ap length (plain_here xs at code size s) ∙ length-append (kept_bytes code) (plain_text (drop (at + size) xs))
 
-    abbrev behind : List ℕ
-    behind = plain_text (drop (place + size) xs)
+    room : Taken decimal_limit xs → n + length (kept_bytes code) ≤ decimal_limit
+    room t = omega (arith, long, i.sized, plain_few xs t.1, t.0)
 
-    long : length (plain_text (drop place xs)) ≡ length (kept_bytes code) + length behind
-    long = ap length (plain_here xs place code size s) ∙ length-append (kept_bytes code) behind
-
-    room : l.loop-at.n + length (kept_bytes code) ≤ decimal_limit
-    room = omega (arith, long, l.loop-at.invariant.2, plain_few xs a.requires.1, a.requires.0)
-
-    step : (n : ℕ) (out : List ℕ) → n ≡ l.loop-at.n + length (kept_bytes code) → out ≡ sets l.loop-at.out l.loop-at.n (kept_bytes code)
-        → Held xs a.args.out.now out n (place + size)
-    step n out e f =
-        (s.within, s.behind, omega (arith, long, l.loop-at.invariant.2), l.loop-at.invariant.3 ∙ rw (plain_here xs place code size s, sets_join, e, f))
-
-pub put_ascii-n-requires : goal.put_ascii-n-requires
-put_ascii-n-requires c =
-    let d = (goal.at.put_ascii-n-requires c).After-shared_slice_known-in-loop-at-1 in
-    let h = c.if-byte-le-LAST_ASCII.true in
-    record {
-      byte_bound = omega (arith, h);
-      byte_in_bounds = omega (arith, room d (byte d) 1 (alone d h));
-    }
-
-pub loop-at-smaller-then-byte-le-LAST_ASCII : goal.loop-at-smaller-then-byte-le-LAST_ASCII
-loop-at-smaller-then-byte-le-LAST_ASCII c = omega arith
-
-pub loop-at-preserved-then-byte-le-LAST_ASCII : goal.loop-at-preserved-then-byte-le-LAST_ASCII
-loop-at-preserved-then-byte-le-LAST_ASCII c =
-    let d = (goal.at.loop-at-preserved-then-byte-le-LAST_ASCII c).After-shared_slice_known-in-loop-at-1 in
-    let p = c.put_ascii-n.ensures in
-    step d (byte d) 1 (alone d c.if-byte-le-LAST_ASCII.true) c.put_ascii-n.result _ p.value p.out_after
+    step : {m : ℕ} {out' : List ℕ} → m ≡ n + length (kept_bytes code) → out' ≡ sets out n (kept_bytes code) → Held xs out₀ out' m (at + size)
+    step e f =
+        record {
+          within = s.within;
+          formed = s.behind;
+          sized = omega (arith, long, i.sized);
+          holds = i.holds ∙ rw (plain_here xs at code size s, sets_join, e, f);
+        }
 
 no_other : (xs : List ℕ) (at : ℕ) (r : Character) → StandsAt xs at r → ((d n : ℕ) → r ≡ Scalar d n → ⊥) → ⊥
 no_other xs at (Scalar d n) s t = t d n refl
 no_other xs at Nothing s t = s
 no_other xs at IllFormed s t = s
 
--- any other is the one that was read
-module _ (c : After-char_at-c) where
-  abbrev b : After-shared_slice_known-in-loop-at-1
-  b = (goal.at.After-char_at-c c).After-shared_slice_known-in-loop-at-1
+ascii_byte : (c : Then-is_ascii) → get_or c.args.text.now c.loop-at.at 0 ≤ 0x7f
+ascii_byte c = let l = ltb-true _ 128 (sym c.is_ascii.ensures ∙ c.if-is_ascii.true) in omega arith
 
-  read : StandsAt (xs b) (place b) c.char_at-c.result
-  read = subst (StandsAt (xs b) (place b)) (sym c.char_at-c.ensures) (stands b)
+pub put_ascii-n-requires-clause-byte_in_bounds : goal.put_ascii-n-requires-clause-byte_in_bounds
+put_ascii-n-requires-clause-byte_in_bounds c =
+    let i = c.loop-at.invariant in
+    omega (arith, room i (alone i c.loop-at-test.true (ascii_byte (goal.at.put_ascii-n-requires-clause-byte_in_bounds c).Then-is_ascii)) c.requires)
 
-pub returns-in_default : goal.returns-in_default
-returns-in_default c = let d = (goal.at.returns-in_default c).After-char_at-c in absurd (no_other (xs (b d)) (place (b d)) d.char_at-c.result (read d) c.in_default.not-Scalar)
+pub loop-at-preserved-then-is_ascii : goal.loop-at-preserved-then-is_ascii
+loop-at-preserved-then-is_ascii c =
+    let i = c.loop-at.invariant in
+    step i (alone i c.loop-at-test.true (ascii_byte (goal.at.loop-at-preserved-then-is_ascii c).Then-is_ascii)) c.put_ascii-n.ensures.value c.put_ascii-n.ensures.out_after
 
-module _ (c : In-Scalar) where
-  abbrev d : After-shared_slice_known-in-loop-at-1
-  d = b (goal.at.In-Scalar c).After-char_at-c
+pub unreachable-requires : goal.unreachable-requires
+unreachable-requires c = no_other _ _ _ (subst (StandsAt c.args.text.now c.loop-at.at) (sym c.char_at.ensures) (stands c.loop-at.invariant c.loop-at-test.true)) c.in_default.not-Scalar
 
-  abbrev code : ℕ
-  code = c.in-Scalar.code
+standing : (c : In-Scalar) → Standing c.args.text.now c.loop-at.at c.in-Scalar.code c.in-Scalar.size
+standing c = read c.loop-at.invariant c.in-Scalar.code c.in-Scalar.size c.loop-at-test.true c.char_at.ensures c.in-Scalar.is
 
-  abbrev size : ℕ
-  size = c.in-Scalar.size
+pub put_kept-n-requires-clause-code_value : goal.put_kept-n-requires-clause-code_value
+put_kept-n-requires-clause-code_value c = (standing (goal.at.put_kept-n-requires-clause-code_value c).In-Scalar).scalar
 
-  standing : Standing (xs d) (place d) code size
-  standing = subst (StandsAt (xs d) (place d)) c.in-Scalar.is (read (goal.at.In-Scalar c).After-char_at-c)
+pub put_kept-n-requires-clause-code_in_bounds : goal.put_kept-n-requires-clause-code_in_bounds
+put_kept-n-requires-clause-code_in_bounds c = omega (arith, room c.loop-at.invariant (standing (goal.at.put_kept-n-requires-clause-code_in_bounds c).In-Scalar) c.requires)
 
-pub put_kept-n-requires : goal.put_kept-n-requires
-put_kept-n-requires c =
-    let e = (goal.at.put_kept-n-requires c).In-Scalar in
-    let s = standing e in
-    record {
-      code_value = s.scalar;
-      code_in_bounds = omega (arith, room (d e) (code e) (size e) s);
-    }
-
-pub overflow_add-at-else-byte-le-LAST_ASCII : goal.overflow_add-at-else-byte-le-LAST_ASCII
-overflow_add-at-else-byte-le-LAST_ASCII c = omega (arith, (standing (goal.at.overflow_add-at-else-byte-le-LAST_ASCII c).In-Scalar).within)
+pub overflow_add-at-else-is_ascii : goal.overflow_add-at-else-is_ascii
+overflow_add-at-else-is_ascii c = omega (arith, (standing (goal.at.overflow_add-at-else-is_ascii c).In-Scalar).within)
 
 pub loop-at-smaller : goal.loop-at-smaller
 loop-at-smaller c = let s = standing (goal.at.loop-at-smaller c).In-Scalar in omega (arith, s.some, s.within)
 
 pub loop-at-preserved : goal.loop-at-preserved
-loop-at-preserved c =
-    let e = (goal.at.loop-at-preserved c).In-Scalar in
-    let p = c.put_kept-n.ensures in
-    step (d e) (code e) (size e) (standing e) c.put_kept-n.result _ p.value p.out_after
+loop-at-preserved c = step c.loop-at.invariant (standing (goal.at.loop-at-preserved c).In-Scalar) c.put_kept-n.ensures.value c.put_kept-n.ensures.out_after
 
-pub returns : goal.returns
-returns c =
-    let l = c.loop-at in
-    let e = plain_over c.args.text.now l.at c.loop-at-test.false in
-    record {
-      value = omega (arith, l.invariant.2, ap length e);
-      out_after = sym (l.invariant.3 ∙ rw e);
-    }
+-- the whole text's is kept in the end
+module _ {xs out₀ out : List ℕ} {n at : ℕ} (i : Held xs out₀ out n at) (l : length xs ≤ at) where
+  counted : n ≡ length (plain_text xs)
+  counted = omega (arith, i.sized, ap length (plain_over xs at l))
+
+  kept : length (plain_text xs) ≤ length out₀ → take n out ≡ plain_text xs
+  kept h = ap₂ (λ (k : ℕ) (ys : List ℕ). take k ys) counted (sym (i.holds ∙ rw (plain_over xs at l))) ∙ written_front out₀ (plain_text xs) h
+
+pub returns-clause-within : goal.returns-clause-within
+returns-clause-within c =
+    let i = c.loop-at.invariant in
+    omega (arith, counted i c.loop-at-test.false, simp length-sets at (ap length i.holds), plain_few c.args.text.now c.requires.1, c.requires.0)
+
+pub returns-clause-kept : goal.returns-clause-kept
+returns-clause-kept c = kept c.loop-at.invariant c.loop-at-test.false (omega (arith, plain_few c.args.text.now c.requires.1, c.requires.0))

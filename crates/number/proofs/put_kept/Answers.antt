@@ -1,65 +1,47 @@
 -- Nothing is written of white space. Any other character has room in lower case, and so is encoded.
-use Rattle.utf8.specs.declared.Refusal.{Refusal}
-use Rattle.std.specs.Prelude.{Ok, Result}
-use Rattle.std.proofs.Common.{◌≡◌, ℕ, ◌+◌, ◌^◌, ◌≤◌, length, sym, refl, ap, ◌∙◌, arith}
-use Rattle.scan.specs.Byte.{lowered}
+use Rattle.std.specs.Prelude.{Ok}
+use Rattle.std.proofs.Common.{◌≡◌, ◌+◌, ◌^◌, ◌≤◌, length, refl, sym, ap, ◌∙◌, arith}
 use Rattle.scan.proofs.byte.Classes.{lowered_below}
 use Rattle.utf8.specs.Code.{is_scalar, encoded}
-use Rattle.utf8.specs.Writing.{left_at}
 use Rattle.utf8.proofs.encode.Bounds.{encoding_fits, written_sets}
 use Rattle.number.specs.White.{kept_bytes}
-use Rattle.number.proofs.Kept.{white_kept, other_kept, lowered_scalar}
+use Rattle.number.proofs.Kept.{other_kept, lowered_scalar}
 use Rattle.number.proofs.put_kept.Goals as goal
-use Rattle.number.proofs.put_kept.Goals.{After-encode-e, In-Written, Start}
+use Rattle.number.proofs.put_kept.Goals.{After-encode, After-unwrap}
 
-pub returns-then-is_white : goal.returns-then-is_white
-returns-then-is_white c =
-    let e = white_kept c.args.code (sym c.is_white.ensures ∙ c.if-is_white.true) in
-    record { value = rw e (omega arith); out_after = rw e refl }
+pub overflow_cast-small : goal.overflow_cast-small
+overflow_cast-small c = omega (arith, c.lowered-small.ensures, lowered_below c.args.code (2 ^ 32) (omega arith) c.ranges.code.fits)
 
-pub overflow_cast-lowered : goal.overflow_cast-lowered
-overflow_cast-lowered c =
-    let a = (goal.at.overflow_cast-lowered c).Start in
-    omega (arith, c.lowered.ensures, lowered_below a.args.code (2 ^ 32) (omega arith) a.ranges.code.fits)
+module _ (c : After-encode) where
+  its : kept_bytes c.args.code ≡ encoded c.lowered-small.result
+  its = other_kept c.args.code (sym c.is_white.ensures ∙ c.if-is_white.false) ∙ ap encoded (sym c.lowered-small.ensures)
 
--- the character has room
-module _ (c : After-encode-e) where
-  abbrev a : Start
-  a = (goal.at.After-encode-e c).Start
+  fits : c.args.at + length (encoded c.lowered-small.result) ≤ length c.args.out.now
+  fits = omega (arith, c.requires.code_in_bounds, ap length its)
 
-  abbrev small : ℕ
-  small = c.lowered.result
-
-  small_is : small ≡ lowered a.args.code
-  small_is = c.lowered.ensures
-
-  its : kept_bytes a.args.code ≡ encoded small
-  its = other_kept a.args.code (sym c.is_white.ensures ∙ c.if-is_white.false) ∙ ap encoded (sym small_is)
-
-  fits : a.args.at + length (encoded small) ≤ length a.args.out.now
-  fits = omega (arith, a.requires.code_in_bounds, ap length its)
-
-  written : c.encode-e.result ≡ Ok (length (encoded small))
+  written : c.encode.result ≡ Ok (length (encoded c.lowered-small.result))
   written =
-      c.encode-e.ensures.value
-      ∙ encoding_fits small (length a.args.out.now) a.args.at (ap is_scalar small_is ∙ lowered_scalar a.args.code a.requires.code_value) fits
+      c.encode.ensures.value
+      ∙ encoding_fits c.lowered-small.result (length c.args.out.now) c.args.at (ap is_scalar c.lowered-small.ensures ∙ lowered_scalar c.args.code c.requires.code_value) fits
 
-pub returns-in_default : goal.returns-in_default
-returns-in_default c =
-    let e = sym c.in_default.is ∙ written (goal.at.returns-in_default c).After-encode-e in
-    let z : ◌≡◌ {A = ℕ} 0 1 = cc in absurd (omega arith)
+pub unwrap-requires : goal.unwrap-requires
+unwrap-requires c = rw written refl
 
-size : (c : In-Written) → c.in-Written.n ≡ length (encoded (small (goal.at.In-Written c).After-encode-e))
-size c = let e = sym c.in-Written.is ∙ written (goal.at.In-Written c).After-encode-e in cc
+size : (c : After-unwrap) → c.unwrap.result ≡ length (kept_bytes c.args.code)
+size c =
+    let e = (goal.at.After-unwrap c).After-encode in
+    let w = written e in
+    let n : c.unwrap.result ≡ length (encoded c.lowered-small.result) = cc in
+    n ∙ ap length (sym (its e))
 
 pub overflow_add-result : goal.overflow_add-result
-overflow_add-result c = omega (arith, size c, fits (goal.at.overflow_add-result c).After-encode-e)
+overflow_add-result c = omega (arith, size c, c.requires.code_in_bounds)
 
-pub returns : goal.returns
-returns c =
-    let d = (goal.at.returns c).After-encode-e in
-    let out = (a d).args.out.now in
-    record {
-      value = rw (size c, its d);
-      out_after = rw (its d) (d.encode-e.ensures.out_after ∙ ap (λ (e : Result ℕ Refusal). left_at (a d).args.at e (encoded (small d)) out) (written d) ∙ written_sets (encoded (small d)) out (a d).args.at (fits d));
-    }
+pub returns-clause-value : goal.returns-clause-value
+returns-clause-value c = omega (arith, size c)
+
+pub returns-clause-out_after : goal.returns-clause-out_after
+returns-clause-out_after c =
+    let e = (goal.at.returns-clause-out_after c).After-encode in
+    let left = rw (written e) at c.encode.ensures.out_after in
+    rw (its e) (left ∙ written_sets (encoded c.lowered-small.result) c.args.out.now c.args.at (fits e))

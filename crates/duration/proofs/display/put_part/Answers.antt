@@ -3,19 +3,16 @@ use mathlib.Core.Path.{ap}
 use native.Mathlib.Omega.{arith}
 use lib.ListN.{length, length-append}
 use Rattle.writing.specs.Decimal.{decimal_text}
-use Rattle.duration.proofs.display.Steps.{stored_none, stored_put, stored_on, counted_none, counted_some}
+use Rattle.duration.specs.steps.Units.{unit_of}
+use Rattle.duration.proofs.display.Steps.{stored_put, stored_on, counted_some}
 use Rattle.duration.proofs.display.put_part.Goals as goal
-
-pub returns-then-count-eq0 : goal.returns-then-count-eq0
-returns-then-count-eq0 c =
-    let a = c.args in
-    rw (counted_none a.count a.unit.now c.if-count-eq0.true) (stored_none a.out.now a.at)
 
 pub returns : goal.returns
 returns c =
     let a = c.args in
-    let some = counted_some a.count a.unit.now c.if-count-eq0.false in
-    let size = length-append (decimal_text a.count) a.unit.now in
+    let text = (unit_of a.part.unit).text in
+    let some = counted_some a.part.count text c.if-part-eq0.false in
+    let size = length-append (decimal_text a.part.count) text in
     let d = c.put_decimal-next in
-    let s = stored_put (decimal_text a.count) a.out.now a.at {r = d.result} {e = d.new.out} (omega (arith, ap length some)) (d.ensures.value, d.ensures.out_after) in
-    rw some (stored_on s (stored_put a.unit.now d.new.out d.result (omega (arith, ap length some, s.past, d.auto.out)) (c.put_text.ensures.value, c.put_text.ensures.out_after)))
+    let s = stored_put (decimal_text a.part.count) a.out.now a.at {r = d.result} {e = d.new.out} (omega (arith, ap length some)) (d.ensures.value, d.ensures.out_after) in
+    rw some (stored_on s (stored_put text d.new.out d.result (omega (arith, ap length some, s.past, d.auto.out)) (rw (← c.text.ensures) (c.put_text.ensures.value, c.put_text.ensures.out_after))))

@@ -7,7 +7,7 @@ use Rattle.duration.specs.Unit.{unit, units, second, day, week, year, nanos_a_mi
 use Rattle.duration.specs.Display.{millis_of}
 use Rattle.duration.specs.steps.Display.{whole_of}
 use Rattle.duration.proofs.display.Days.{whole_unit, below_weeks}
-use Rattle.duration.proofs.display.counts_of.Goals as goal
+use Rattle.duration.proofs.display.parts_of.Goals as goal
 
 pub returns : goal.returns
 returns c =
