@@ -33,9 +33,9 @@ pub enum Unquoted {
 
 // A tile that gives one byte: that byte, and how many bytes the tile has.
 #[derive(Clone, Copy)]
-pub struct Single {
-    pub value: u8,
-    pub size: usize,
+struct Single {
+    value: u8,
+    size: usize,
 }
 
 // The bytes of the two signs.
@@ -96,7 +96,7 @@ fn has_escape(sign: u8, inner: &[u8]) -> bool
 fn is_plain(sign: u8, c: u8) -> bool
     ensures { result ≡ is_plain sign c }
 {
-    c != tile::BACKSLASH && (c != sign && c as u32 <= tile::LAST_ASCII)
+    c != tile::BACKSLASH && c != sign && c.is_ascii()
 }
 
 // What the letter behind a backslash at a place stands for, where such an escape stands there.
@@ -110,11 +110,8 @@ fn letter_at(inner: &[u8], at: usize, sign: u8) -> Option<u32>
     if c != tile::BACKSLASH || c == sign || sign == tile::BACKQUOTE {
         return None;
     }
-    let behind = at + tile::BEHIND_BACKSLASH;
-    if inner.len() <= behind {
-        return None;
-    }
-    tile::letter_value(sign, inner[behind])
+    let &letter = inner.get(at + tile::BEHIND_BACKSLASH)?;
+    tile::letter_value(sign, letter)
 }
 
 // The tile at a place, where it is a plain byte or a letter behind a backslash: of these there are most.
@@ -162,7 +159,8 @@ fn piece_size(reading: Reading, form: Form, value: u32) -> usize
     encode::encoded_size(value)
 }
 
-// How many bytes the tiles of a content give, or where the first bad one begins. A turn takes a tile, of which each has a size of its own.
+// How many bytes the tiles of a content give, or where the first bad one begins. Where a tile ends is known only once it is read: no `for` goes
+// over them.
 fn measure(inner: &[u8], sign: u8, reading: Reading) -> Result<usize, usize>
     requires { sign < 0x80 }
     ensures { result ≡ tiles_extent reading (tiles_of sign inner.now) }
@@ -195,12 +193,11 @@ fn put_piece(reading: Reading, form: Form, value: u32, out: &mut [u8], at: usize
         out[at] = value as u8;
         return at + 1;
     }
-    let size = encode::encode(value, out, ByteOffset(at)).unwrap_or(0);
-    at + size
+    at + encode::encode(value, out, ByteOffset(at)).unwrap()
 }
 
 // Writes what the tiles of a content give at the front of a buffer that it fits, and answers how many bytes that is, or where the first bad
-// one begins. What the tiles before that give is left there. A turn takes a tile, of which each has a size of its own.
+// one begins. What the tiles before that give is left there. The turns are those of `measure`.
 fn write_pieces(inner: &[u8], sign: u8, reading: Reading, out: &mut [u8]) -> Result<usize, usize>
     requires sign_bound { sign < 0x80 }
     requires inner_in_bounds { length (bytes_of reading (tiles_of sign inner.now)) ≤ length out.old }
@@ -343,36 +340,14 @@ pub fn unquote_string(
     }
 }
 
-// So many bytes of a literal, behind its first; none where it has fewer.
-#[tactic(auto, unfolding(crate::specs::Literal::part_of))]
-fn inner_part(literal: &[u8], n: usize) -> &[u8]
-    ensures { result.now ≡ part_of (Ok (Inner n)) literal.now [] }
-{
-    if n < literal.len() {
-        return &literal[1..n + 1];
-    }
-    &literal[..0]
-}
-
-// The first so many bytes of a text buffer; none where it has fewer.
-#[tactic(auto, unfolding(crate::specs::Literal::part_of))]
-fn front(text: &[u8], n: usize) -> &[u8]
-    ensures { result.now ≡ part_of (Ok (Written n)) [] text.now }
-{
-    if n <= text.len() {
-        return &text[..n];
-    }
-    &text[..0]
-}
-
 // The text that an answer names, of the literal or of the text buffer; none where it is refused, or does not fit them.
 #[tactic(auto, unfolding(crate::specs::Literal::part_of))]
 pub fn part<'a>(literal: &'a [u8], text: &'a [u8], answer: Result<Unquoted, Refusal>) -> &'a [u8]
     ensures { result.now ≡ part_of answer literal.now text.now }
 {
     match answer {
-        Ok(Unquoted::Inner(n)) => inner_part(literal, n),
-        Ok(Unquoted::Written(n)) => front(text, n),
-        Err(_) => &text[..0],
+        Ok(Unquoted::Inner(n)) if n < literal.len() => &literal[1..n + 1],
+        Ok(Unquoted::Written(n)) if n <= text.len() => &text[..n],
+        _ => &text[..0],
     }
 }

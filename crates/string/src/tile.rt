@@ -136,10 +136,7 @@ fn numbered(s: &[u8], form: Form, radix: usize, at: usize, count: usize) -> Opti
 fn escape(s: &[u8], quote: u8) -> Option<Piece>
     ensures { result ≡ escape_of quote s.now }
 {
-    if s.len() <= BEHIND_BACKSLASH {
-        return None;
-    }
-    let c = s[BEHIND_BACKSLASH];
+    let &c = s.get(BEHIND_BACKSLASH)?;
     if let Some(value) = letter_value(quote, c) {
         return Some(Piece {
             form: Form::Letter,

@@ -18,7 +18,7 @@ use Rattle.string.specs.Tiles.{gives_byte, piece_bytes}
 use Rattle.string.specs.steps.Measure.{is_single}
 use Rattle.string.proofs.Contents.{single, several}
 use Rattle.string.proofs.put_piece.Goals as goal
-use Rattle.string.proofs.put_piece.Goals.{After-unwrap_or-size, Start, Then-is_single}
+use Rattle.string.proofs.put_piece.Goals.{After-encode, After-unwrap, Start, Then-is_single}
 
 module _ (f : Form) (v : ℕ) (a : is_allowed f v ≡ true) where
   byte_small : (r : Reading) → is_single r f v ≡ true → v ≤ 0xff
@@ -61,14 +61,21 @@ bounds-out-at c = omega (arith, ap length (one c).0, c.requires.value_in_bounds)
 pub returns-then-is_single : goal.returns-then-is_single
 returns-then-is_single c = rw ((one c).0) record { value = refl; out_after = refl }
 
-more : (c : After-unwrap_or-size) → let a = c.args in (c.unwrap_or-size.result ≡ length (piece_bytes a.reading a.form a.value)) × (c.encode.new.out ≡ sets a.out.now a.at (piece_bytes a.reading a.form a.value))
+-- it has room
+more : (c : After-encode) → let a = c.args in (c.encode.result ≡ Ok (length (piece_bytes a.reading a.form a.value))) × (c.encode.new.out ≡ sets a.out.now a.at (piece_bytes a.reading a.form a.value))
 more c =
-    let a = (goal.at.After-unwrap_or-size c).Start in
+    let a = (goal.at.After-encode c).Start in
     let w = written a.args.form a.args.value a.requires.value_value a.args.reading a.args.at a.args.out.now (sym c.is_single.ensures ∙ c.if-is_single.false) a.requires.value_in_bounds in
-    (c.unwrap_or-size.ensures ∙ rw (c.encode.ensures.value, w.0), cc (w.1, c.encode.ensures.value, c.encode.ensures.out_after))
+    (c.encode.ensures.value ∙ w.0, cc (w.1, c.encode.ensures.value, c.encode.ensures.out_after))
+
+pub unwrap-requires : goal.unwrap-requires
+unwrap-requires c = rw (more (goal.at.unwrap-requires c).After-encode).0
+
+size : (c : After-unwrap) → let a = c.args in c.unwrap.result ≡ length (piece_bytes a.reading a.form a.value)
+size c = cc (c.unwrap.ensures, (more (goal.at.After-unwrap c).After-encode).0)
 
 pub overflow_add-result-2 : goal.overflow_add-result-2
-overflow_add-result-2 c = omega (arith, (more c).0, c.requires.value_in_bounds)
+overflow_add-result-2 c = omega (arith, size c, c.requires.value_in_bounds)
 
 pub returns : goal.returns
-returns c = rw ((more c).0, (more c).1) record { value = refl; out_after = refl }
+returns c = rw (size c) record { value = refl; out_after = (more (goal.at.returns c).After-encode).1 }
