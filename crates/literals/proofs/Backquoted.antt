@@ -27,7 +27,7 @@ use Rattle.quoted.specs.laws.Texts.{IsString}
 use Rattle.munch.specs.laws.Step.{Past, Goes}
 use Rattle.munch.proofs.Goes.{step_goes}
 use Rattle.munch.proofs.Given.{strings_given}
-use Rattle.string.specs.declared.Unquoting.TheVariants.{Inner}
+use Rattle.string.specs.declared.Unquoted.TheVariants.{Inner}
 use Rattle.string.specs.Literal.{inner_of, unquoted, unquoting_of, text_by, part_of}
 use Rattle.string.specs.laws.ReadBack.{is_read}
 use Rattle.string.proofs.Readings.{part_is_text}
@@ -41,6 +41,7 @@ use Rattle.string.specs.laws.Refusals.{BadLiteral, Fault, short, differ, no_sign
 use Rattle.string.proofs.Faults.{faults_bad}
 use Rattle.string.proofs.Given.{unquoting_given}
 use Rattle.literals.specs.laws.Literals.{both_signs, literal_of, between_signs, BackquotedGood}
+use Rattle.std.specs.Prelude.{Ok}
 
 -- no backquote stands in the content of a backquoted string
 one_byte : (u : List ℕ) → Piece Documented backquote u → (x : ℕ) × (u ≡ x ∷ []) × (x ≡ backquote → ⊥)
@@ -87,7 +88,7 @@ slice_well q i n w e f =
 -- a string of so many bytes behind its opening sign
 module _ (q : List ℕ) (i n : ℕ) (t : Taken text_limit q) (e : peek_at q i ≡ backquote) where
   abbrev GoodThere : Type 0
-  GoodThere = (inner_of (take (suc (suc n)) (drop i q)) ≡ take n (drop (suc i) q)) × ((r : Reading) (room : ℕ) → unquoting_of r room (take (suc (suc n)) (drop i q)) ≡ Inner n)
+  GoodThere = (inner_of (take (suc (suc n)) (drop i q)) ≡ take n (drop (suc i) q)) × ((r : Reading) (room : ℕ) → unquoting_of r room (take (suc (suc n)) (drop i q)) ≡ Ok (Inner n))
 
   good_there : (u v : List ℕ) → Content Documented backquote u → One (λ x. eqb x backquote) v → take (suc n) (drop (suc i) q) ≡ u ++ v → suc n ≤ length (drop (suc i) q) → GoodThere
   good_there u _ d (one x y) w l =
@@ -109,13 +110,13 @@ module _ (q : List ℕ) (i n : ℕ) (t : Taken text_limit q) (e : peek_at q i �
       let plain-text : WithEscape (take (suc (suc n)) (drop i q)) → ⊥ = λ k. k.0 (ap (λ (ys : List ℕ). peek_at ys 0) literal) in
       let inside_is : inner_of (take (suc (suc n)) (drop i q)) ≡ u = ap inner_of literal ∙ inner u d in (
         inside_is ∙ content,
-        λ r room. (unquoting_given r room (take (suc (suc n)) (drop i q))).4.1 ((short-enough, well), bad, plain-text) ∙ ap Inner (ap (λ (ys : List ℕ). length ys) inside_is ∙ size),
+        λ r room. (unquoting_given r room (take (suc (suc n)) (drop i q))).4.1 ((short-enough, well), bad, plain-text) ∙ ap (λ (k : ℕ). Ok (Inner k)) (ap (λ (ys : List ℕ). length ys) inside_is ∙ size),
       )
 
 -- a step of lexing that is one
 abbrev StepGood : List ℕ → ℕ → ℕ → Type 0
 StepGood q i n =
-    (both_signs ≤ n) × (n ≤ length (drop i q)) × (inner_of (take n (drop i q)) ≡ take (n - both_signs) (drop (suc i) q)) × ((r : Reading) (room : ℕ) → unquoting_of r room (take n (drop i q)) ≡ Inner (n - both_signs))
+    (both_signs ≤ n) × (n ≤ length (drop i q)) × (inner_of (take n (drop i q)) ≡ take (n - both_signs) (drop (suc i) q)) × ((r : Reading) (room : ℕ) → unquoting_of r room (take n (drop i q)) ≡ Ok (Inner (n - both_signs)))
 
 goes_there : (q : List ℕ) (i n : ℕ) (m m' : Mode) → munched Documented m (drop i q) ≡ Lexeme string n m' → Past (drop i q) n
 goes_there q i n m m' c = subst (Goes m (drop i q)) c (step_goes Documented m (drop i q))
@@ -148,7 +149,7 @@ step_good q i (suc k) m m' t e c = sized k (goes_there q i (suc k) m m' c).withi
             (omega arith, l, rw f g.0, rw f g.1)
 
 -- the part that is handed back of such a literal
-inner_part : (xs d : List ℕ) (n : ℕ) → both_signs ≤ length xs → n ≡ length xs - both_signs → part_of (Inner n) xs d ≡ inner_of xs
+inner_part : (xs d : List ℕ) (n : ℕ) → both_signs ≤ length xs → n ≡ length xs - both_signs → part_of (Ok (Inner n)) xs d ≡ inner_of xs
 unfolding part_of
 inner_part xs d n l e = rw (lt-ltb n (length xs) (omega (arith, l, e))) (ap (λ (k : ℕ). take k (drop 1 xs)) e)
 
@@ -156,7 +157,7 @@ module _ (q : List ℕ) (e : Entry) (g : StepGood q e.start e.length) where
   size : length (literal_of q e) ≡ e.length
   size = length-take-le e.length (drop e.start q) g.1
 
-  handed : (d : List ℕ) → part_of (Inner (e.length - both_signs)) (literal_of q e) d ≡ between_signs q e
+  handed : (d : List ℕ) → part_of (Ok (Inner (e.length - both_signs))) (literal_of q e) d ≡ between_signs q e
   handed d = inner_part (literal_of q e) d (e.length - both_signs) (omega (arith, size, g.0)) (omega (arith, size)) ∙ g.2
 
   text : (r : Reading) (d : List ℕ) → unquoted r (literal_of q e) ≡ between_signs q e

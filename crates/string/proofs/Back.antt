@@ -5,7 +5,7 @@ use native.Mathlib.Omega.{arith}
 use native.Mathlib.Decide.{dec_lt}
 use mathlib.Core.Bool.{Bool, true, false, ◌&&◌, not, true≢false}
 use mathlib.Core.List.{List, [], ◌∷◌, ◌++◌, append-nil}
-use mathlib.Core.Option.{Option, none, some}
+use Rattle.std.specs.Prelude.{None, Option, Some}
 use mathlib.Core.Path.{◌≡◌, refl, sym, ap, ◌∙◌}
 use lib.Dec.{eqb}
 use lib.ListN.{length}
@@ -22,9 +22,8 @@ use Rattle.utf8.proofs.Texts.{by_characters}
 use Rattle.utf8.proofs.Laws.{none_empty, rest_well, none_ascii, text_join}
 use Rattle.utf8.proofs.Ascii.{ascii_bytes, ascii_text, one_ascii}
 use Rattle.string.specs.declared.tile.Form.TheVariants.{Letter}
-use Rattle.string.specs.declared.tile.Tile.TheVariants.{Piece}
 use Rattle.string.specs.Letters.{looked_up, letter_value, is_for, letter_among, letter_of}
-use Rattle.string.specs.Tile.{begins_escape, escape_of, tile_of}
+use Rattle.string.specs.Tile.{begins_escape, escape_of, tile_of, piece}
 use Rattle.string.specs.Escape.{escaped}
 use Rattle.string.specs.steps.Bytes.{escaped_bytes}
 use Rattle.string.specs.Tiles.{tiles_of, has_bad, piece_bytes, bytes_of}
@@ -38,27 +37,27 @@ use Rattle.string.proofs.Plain.{plain_bad, plain_bytes, has_join, has_not}
 
 -- an ASCII byte is copied, and is then no sign, backslash or LF; or its letter stands for it, and is no LF
 abbrev fine_by : ℕ → Option ℕ → Bool
-fine_by b none = not (eqb b double_quote) && (not (eqb b backslash) && not (eqb b line_feed))
-fine_by b (some l) = is_for b (letter_value double_quote l) && not (eqb l line_feed)
+fine_by b None = not (eqb b double_quote) && (not (eqb b backslash) && not (eqb b line_feed))
+fine_by b (Some l) = is_for b (letter_value double_quote l) && not (eqb l line_feed)
 
 all_fine : (b : ℕ) → b < 0x80 → fine_by b (letter_of b) ≡ true
 unfolding letter_of letter_among letter_value looked_up
 all_fine = below (λ b. fine_by b (letter_of b)) 0x80 refl
 
-is_for_holds : (b : ℕ) (o : Option ℕ) → is_for b o ≡ true → o ≡ some b
-is_for_holds b (some v) e = ap (λ (n : ℕ). some n) (eqb-true v b e)
-is_for_holds b none e = absurd (true≢false (sym e))
+is_for_holds : (b : ℕ) (o : Option ℕ) → is_for b o ≡ true → o ≡ Some b
+is_for_holds b (Some v) e = ap (λ (n : ℕ). Some n) (eqb-true v b e)
+is_for_holds b None e = absurd (true≢false (sym e))
 
 -- a byte behind a backslash, and what follows the two
-module _ (b : ℕ) (h : b < 0x80) (l : ℕ) (s : letter_of b ≡ some l) (ys : List ℕ) where
+module _ (b : ℕ) (h : b < 0x80) (l : ℕ) (s : letter_of b ≡ Some l) (ys : List ℕ) where
   fine_letter : is_for b (letter_value double_quote l) && not (eqb l line_feed) ≡ true
   fine_letter = let f = all_fine b h in rw s at f
 
-  tile : tile_of double_quote (backslash ∷ l ∷ ys) ≡ Piece Letter b 2
+  tile : tile_of double_quote (backslash ∷ l ∷ ys) ≡ piece Letter b 2
   unfolding tile_of begins_escape escape_of
   tile = rw (is_for_holds b (letter_value double_quote l) (and_left (is_for b (letter_value double_quote l)) (not (eqb l line_feed)) fine_letter))
 
-  tiles : tiles_of double_quote (backslash ∷ l ∷ ys) ≡ Piece Letter b 2 ∷ tiles_of double_quote ys
+  tiles : tiles_of double_quote (backslash ∷ l ∷ ys) ≡ piece Letter b 2 ∷ tiles_of double_quote ys
   tiles = first_piece double_quote (omega arith) (backslash ∷ l ∷ ys) Letter b 2 (omega arith) tile
 
   no_feed : eqb l line_feed ≡ false
@@ -71,7 +70,7 @@ letter_bytes Crate b l = ascii_bytes b l
 letter_bytes Documented b l = ascii_bytes b l
 
 -- a byte that is copied
-fine_copy : (b : ℕ) → b < 0x80 → letter_of b ≡ none → (b ≡ double_quote → ⊥) × (b ≡ backslash → ⊥) × (b ≡ line_feed → ⊥)
+fine_copy : (b : ℕ) → b < 0x80 → letter_of b ≡ None → (b ≡ double_quote → ⊥) × (b ≡ backslash → ⊥) × (b ≡ line_feed → ⊥)
 fine_copy b l e =
     let f = all_fine b l in
     let g : not (eqb b double_quote) && (not (eqb b backslash) && not (eqb b line_feed)) ≡ true = rw e at f in
@@ -105,7 +104,7 @@ module _ (r : Reading) where
       }
 
   -- a byte that is escaped
-  letter : (b : ℕ) (ys : List ℕ) → b < 0x80 → (l : ℕ) → letter_of b ≡ some l → Back ys → Back (b ∷ ys)
+  letter : (b : ℕ) (ys : List ℕ) → b < 0x80 → (l : ℕ) → letter_of b ≡ Some l → Back ys → Back (b ∷ ys)
   unfolding has_bad bytes_of has
   letter b ys h l s k =
       let j : escaped_bytes (b ∷ ys) ≡ backslash ∷ l ∷ escaped_bytes ys = unfold escaped_bytes in rw (lettered b l s) in
@@ -120,10 +119,10 @@ module _ (r : Reading) where
   one bs ys o k = go bs o (dec_lt 1 (length bs))
     where
       short : (b : ℕ) → b < 0x80 → One (b ∷ []) → (s : Option ℕ) → letter_of b ≡ s → Back (b ∷ ys)
-      short b h o none e =
+      short b h o None e =
           let f = fine_copy b h e in
           copy (b ∷ []) ys o (unfold escaped_bytes in rw (append-nil, copied b e)) f.0 f.1 f.2 k
-      short b h o (some l) e = letter b ys h l e k
+      short b h o (Some l) e = letter b ys h l e k
 
       go : (bs : List ℕ) → One bs → Dec (1 < length bs) → Back (bs ++ ys)
       go bs o (yes l) =

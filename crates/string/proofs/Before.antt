@@ -6,7 +6,7 @@ use native.Mathlib.Omega.{arith}
 use mathlib.Core.Bool.{Bool, true, false, cond}
 use mathlib.Core.List.{List, [], ◌∷◌, ◌++◌}
 use mathlib.Core.Logic.{inl, inr}
-use mathlib.Core.Option.{Option, none, some}
+use Rattle.std.specs.Prelude.{None, Option, Some}
 use mathlib.Core.Path.{◌≡◌, refl, sym, ap, subst, ◌∙◌}
 use lib.Dec.{eqb}
 use lib.ListN.{length, take, drop, length-take, length-append, drop_of_length-le}
@@ -15,7 +15,6 @@ use borrow.Author.Tests.{lt-ltb}
 use Rattle.scan.specs.Byte.{end, peek_at, digit_of}
 use Rattle.scan.specs.Text.{Stands}
 use Rattle.scan.proofs.byte.Classes.{below_not}
-use Rattle.proving.proofs.Choice.{told}
 use Rattle.proving.proofs.Tests.{denied}
 use Rattle.utf8.specs.Text.{WellFormed, char_number}
 use Rattle.utf8.specs.Answers.{character_at, text_limit}
@@ -27,12 +26,8 @@ use Rattle.utf8.proofs.Ascii.{ascii_text}
 use Rattle.utf8.proofs.Cuts.{text_cut, boundary}
 use Rattle.string.specs.declared.tile.Form.{Form}
 use Rattle.string.specs.declared.tile.Form.TheVariants.{Hex, Octal, Point}
-use Rattle.string.specs.declared.tile.Amount.{Amount}
-use Rattle.string.specs.declared.tile.Amount.TheVariants.{Value, NotDigits}
-use Rattle.string.specs.declared.tile.Tile.{Tile}
-use Rattle.string.specs.declared.tile.Tile.TheVariants.{Piece, Bad}
 use Rattle.string.specs.Letters.{letter_value}
-use Rattle.string.specs.Tile.{amount_from, is_allowed, numbered_as, numbered, lettered_or, escape_of, begins_escape, plain_of, tile_of}
+use Rattle.string.specs.Tile.{amount_from, is_allowed, numbered_as, numbered, lettered_or, escape_of, begins_escape, plain_of, tile_of, piece}
 use Rattle.string.specs.Tiles.{tiles_of, has_bad}
 use Rattle.string.specs.Literal.{line_feed, inner_of}
 use Rattle.string.specs.laws.Refusals.{BadLiteral, ReadsTo, start, tile, Newline, Enclosed, GoodBefore}
@@ -43,21 +38,18 @@ use Rattle.string.proofs.Contents.{tiles_none}
 use Rattle.string.proofs.Literals.{Closed, closed_is, inner_few}
 use Rattle.string.proofs.There.{tests_bad, reads_over}
 use Rattle.string.proofs.Faults.{quote_is}
+use Rattle.string.specs.declared.tile.Piece.{Piece}
 
-abbrev tag : Tile → ℕ
-tag (Piece f v n) = 0
-tag Bad = 1
-
-abbrev size_in : Tile → ℕ
-size_in (Piece f v n) = n
-size_in Bad = 0
+abbrev size_in : Option Piece → ℕ
+size_in (Some p) = p.size
+size_in None = 0
 
 -- a tile of a list, where it has n bytes at most m, is one of the first m bytes
 module _ (xs : List ℕ) (m : ℕ) where
   peek_front : (i : ℕ) → i < m → peek_at (take m xs) i ≡ peek_at xs i
   peek_front i l = get_or-take m xs i end l
 
-  amount_front : (radix k v at w : ℕ) → at + k ≤ m → amount_from radix v k at xs ≡ Value w → amount_from radix v k at (take m xs) ≡ Value w
+  amount_front : (radix k v at w : ℕ) → at + k ≤ m → amount_from radix v k at xs ≡ Some w → amount_from radix v k at (take m xs) ≡ Some w
   amount_front radix zero v at w l e = unfold amount_from in (unfold amount_from in e)
   amount_front radix (suc k) v at w l e =
       let s = peek_front at (omega arith) in
@@ -65,22 +57,22 @@ module _ (xs : List ℕ) (m : ℕ) where
       let r = amount_front radix k (v * radix + digit_of (peek_at xs at)) (at + 1) w (omega arith) (sym (turn radix xs k v at d) ∙ e) in
       turn radix (take m xs) k v at (rw s d) ∙ rw s r
 
-  abbrev Front : Tile → Tile → Type 0
-  Front s t = (f : Form) (v n : ℕ) → s ≡ Piece f v n → (2 ≤ n) × (n ≤ m → t ≡ Piece f v n)
+  abbrev Front : Option Piece → Option Piece → Type 0
+  Front s t = (f : Form) (v n : ℕ) → s ≡ piece f v n → (2 ≤ n) × (n ≤ m → t ≡ piece f v n)
 
   numbered_front : (g : Form) (radix at k : ℕ) → 2 ≤ at + k → Front (numbered g radix at k xs) (numbered g radix at k (take m xs))
   unfolding numbered
   numbered_front g radix at k l f v n = go (amount_from radix 0 k at xs) refl
     where
-      go : (a : Amount) → amount_from radix 0 k at xs ≡ a → numbered_as g (at + k) a ≡ Piece f v n → (2 ≤ n) × (n ≤ m → numbered_as g (at + k) (amount_from radix 0 k at (take m xs)) ≡ Piece f v n)
-      go NotDigits a e = told tag e refl (λ z. omega arith)
-      go (Value w) a e = by (is_allowed g w) refl e
+      go : (a : Option ℕ) → amount_from radix 0 k at xs ≡ a → numbered_as g (at + k) a ≡ piece f v n → (2 ≤ n) × (n ≤ m → numbered_as g (at + k) (amount_from radix 0 k at (take m xs)) ≡ piece f v n)
+      go None a e = let z : ⊥ = cc in absurd z
+      go (Some w) a e = by (is_allowed g w) refl e
         where
-          by : (t : Bool) → is_allowed g w ≡ t → cond t (Piece g w (at + k)) Bad ≡ Piece f v n → (2 ≤ n) × (n ≤ m → numbered_as g (at + k) (amount_from radix 0 k at (take m xs)) ≡ Piece f v n)
+          by : (t : Bool) → is_allowed g w ≡ t → cond t (piece g w (at + k)) None ≡ piece f v n → (2 ≤ n) × (n ≤ m → numbered_as g (at + k) (amount_from radix 0 k at (take m xs)) ≡ piece f v n)
           by true t e = let s = ap size_in e in (omega arith, λ h. rw (amount_front radix k 0 at w (omega arith) a, t) e)
-          by false t e = told tag e refl (λ z. omega arith)
+          by false t e = let z : ⊥ = cc in absurd z
 
-  abbrev escape_by : ℕ → ℕ → List ℕ → Tile
+  abbrev escape_by : ℕ → ℕ → List ℕ → Option Piece
   escape_by q c zs =
       lettered_or (letter_value q c)
       (cond (eqb c 120) (numbered Hex 16 2 2 zs)
@@ -92,23 +84,23 @@ module _ (xs : List ℕ) (m : ℕ) where
   escape_by_holds q c = go (letter_value q c) (eqb c 120) (eqb c 117) (eqb c 85)
     where
       go : (o : Option ℕ) (s t u : Bool) → Front (lettered_or o (cond s (numbered Hex 16 2 2 xs) (cond t (numbered Point 16 2 4 xs) (cond u (numbered Point 16 2 8 xs) (numbered Octal 8 1 3 xs))))) (lettered_or o (cond s (numbered Hex 16 2 2 (take m xs)) (cond t (numbered Point 16 2 4 (take m xs)) (cond u (numbered Point 16 2 8 (take m xs)) (numbered Octal 8 1 3 (take m xs))))))
-      go (some w) s t u = λ f v n e. let k = ap size_in e in (omega arith, λ h. e)
-      go none true t u = numbered_front Hex 16 2 2 (omega arith)
-      go none false true u = numbered_front Point 16 2 4 (omega arith)
-      go none false false true = numbered_front Point 16 2 8 (omega arith)
-      go none false false false = numbered_front Octal 8 1 3 (omega arith)
+      go (Some w) s t u = λ f v n e. let k = ap size_in e in (omega arith, λ h. e)
+      go None true t u = numbered_front Hex 16 2 2 (omega arith)
+      go None false true u = numbered_front Point 16 2 4 (omega arith)
+      go None false false true = numbered_front Point 16 2 8 (omega arith)
+      go None false false false = numbered_front Octal 8 1 3 (omega arith)
 
-  escape_front : (q : ℕ) (f : Form) (v n : ℕ) → escape_of q xs ≡ Piece f v n → n ≤ m → escape_of q (take m xs) ≡ Piece f v n
+  escape_front : (q : ℕ) (f : Form) (v n : ℕ) → escape_of q xs ≡ piece f v n → n ≤ m → escape_of q (take m xs) ≡ piece f v n
   unfolding escape_of
   escape_front q f v n e l =
       let b = escape_by_holds q (peek_at xs 1) f v n e in
       rw (peek_front 1 (omega (arith, b.0))) (b.1 l)
 
 abbrev PlainFront : List ℕ → Type 0
-PlainFront xs = (m : ℕ) (f : Form) (v n : ℕ) → plain_of (character_at xs 0) ≡ Piece f v n → n ≤ m → plain_of (character_at (take m xs) 0) ≡ Piece f v n
+PlainFront xs = (m : ℕ) (f : Form) (v n : ℕ) → plain_of (character_at xs 0) ≡ piece f v n → n ≤ m → plain_of (character_at (take m xs) 0) ≡ piece f v n
 
 plain_front : (xs : List ℕ) → PlainFront xs
-plain_front = by_characters PlainFront (λ xs z m f v n e l. told tag e (plain_none xs z) (λ k. omega arith)) one
+plain_front = by_characters PlainFront (λ xs z m f v n e l. let k : ⊥ = cc (e, plain_none xs z) in absurd k) one
   where
     one : (bs ys : List ℕ) → One bs → PlainFront ys → PlainFront (bs ++ ys)
     one bs ys o ih m f v n e l =
@@ -117,15 +109,15 @@ plain_front = by_characters PlainFront (λ xs z m f v n e l. told tag e (plain_n
         let j : m ≡ length bs + (m - length bs) = omega arith in
         rw (j, take-append-add, character_one bs (take (m - length bs) ys) o) t
 
-tile_front : (q : ℕ) → q < 0x80 → (xs : List ℕ) (m : ℕ) (f : Form) (v n : ℕ) → tile_of q xs ≡ Piece f v n → n ≤ m → tile_of q (take m xs) ≡ Piece f v n
+tile_front : (q : ℕ) → q < 0x80 → (xs : List ℕ) (m : ℕ) (f : Form) (v n : ℕ) → tile_of q xs ≡ piece f v n → n ≤ m → tile_of q (take m xs) ≡ piece f v n
 unfolding tile_of
 tile_front q h xs m f v n e l = rw (peek_front xs m 0 (omega (arith, some))) (go (eqb (peek_at xs 0) q) (begins_escape q (peek_at xs 0)) e)
   where
     some : 0 < n
     some = let a = subst (FairTile (length xs)) e (each_fair q xs h) in a.some
 
-    go : (s t : Bool) → cond s Bad (cond t (escape_of q xs) (plain_of (character_at xs 0))) ≡ Piece f v n → cond s Bad (cond t (escape_of q (take m xs)) (plain_of (character_at (take m xs) 0))) ≡ Piece f v n
-    go true t e = told tag e refl (λ z. omega arith)
+    go : (s t : Bool) → cond s None (cond t (escape_of q xs) (plain_of (character_at xs 0))) ≡ piece f v n → cond s None (cond t (escape_of q (take m xs)) (plain_of (character_at (take m xs) 0))) ≡ piece f v n
+    go true t e = let z : ⊥ = cc in absurd z
     go false true e = escape_front xs m q f v n e l
     go false false e = plain_front xs m f v n e l
 

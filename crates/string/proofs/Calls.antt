@@ -18,7 +18,6 @@ use Rattle.utf8.specs.Answers.{text_limit}
 use Rattle.utf8.specs.laws.Refusals.{Taken}
 use Rattle.utf8.proofs.Laws.{text_join}
 use Rattle.utf8.specs.Writing.{left_by}
-use Rattle.string.specs.declared.Unquoting.{Unquoting}
 use Rattle.string.specs.Escape.{escaped, escaping_of}
 use Rattle.string.specs.Literal.{is_bad_literal, unquoted, unquoting_of, text_by, part_of}
 use Rattle.string.specs.laws.Escape.{EscapeTells}
@@ -34,6 +33,7 @@ use Rattle.string.proofs.unquote_string.Kinds as unquote
 use Rattle.string.proofs.unquote_string.Reads as unquote_reads
 use Rattle.string.proofs.part.Kinds as part
 use Rattle.string.proofs.part.Reads as part_reads
+use Rattle.string.specs.declared.Unquoted.{Unquoted}
 
 -- a call of `escape_string` that keeps its promise, on a text, with a buffer of so many bytes
 pub record EscapeCall (x : List ℕ) (room : ℕ) : Type 0 where
@@ -95,9 +95,9 @@ handed c h =
     let v = c.args.1.0 in
     sym c.text
     ∙ c.part_post
-    ∙ ap (λ (u : Unquoting). part_of u c.part_args.0.now c.part_args.1.0.now) c.same_answer
+    ∙ ap (λ (u : Result Unquoted Refusal). part_of u c.part_args.0.now c.part_args.1.0.now) c.same_answer
     ∙ ap₂ (λ (s t : List ℕ). part_of c.result s t) c.same_literal (c.same_text_read ∙ c.post.1)
-    ∙ ap (λ (u : Unquoting). part_of u xs (text_by u (unquoted v xs) d)) c.post.0
+    ∙ ap (λ (u : Result Unquoted Refusal). part_of u xs (text_by u (unquoted v xs) d)) c.post.0
     ∙ part_is_text v xs d (sym (ap is_read c.post.0) ∙ h)
     ∙ ap₂ unquoted c.by_reading c.of_literal
 

@@ -1,31 +1,28 @@
 -- Laws of the tiles of a content, from a place on: the first of them, and those from behind it on. A tile takes some of the bytes that are
 -- there and gives no more than it takes (`each_fair`), so both passes end, and what they count fits.
 use Prim.Native.Nat.{ℕ, zero, suc, pred, ◌+◌, ◌-◌, ◌<◌, ◌≤◌}
-use native.Mathlib.Nat.{add-zero}
 use native.Mathlib.Omega.{arith}
 use mathlib.Core.Bool.{Bool, true, false, cond, ◌&&◌, ◌||◌, not, true≢false}
 use mathlib.Core.List.{List, [], ◌∷◌, ◌++◌}
 use mathlib.Core.Path.{◌≡◌, refl, sym, ap, subst, ◌∙◌}
-use lib.ListN.{length, get_or, drop, length-drop, length-append, drop_of_length-le}
-use lib.Seq.{drop-drop, get_or-drop}
+use lib.ListN.{length, drop, length-drop, length-append}
+use lib.Seq.{drop-drop}
 use lib.Dec.{eqb, leb}
-use borrow.Author.Tests.{leb-true, le-leb, lt-leb, not-true}
+use borrow.Author.Tests.{leb-true, not-true}
 use Rattle.proving.proofs.Choice.{either, and_left, and_right}
-use Rattle.proving.proofs.Lists.{get_d_any}
-use Rattle.scan.specs.Byte.{end, peek_at, backslash}
+use Rattle.scan.specs.Byte.{peek_at, backslash}
 use Rattle.utf8.specs.declared.Reading.{Reading}
 use Rattle.utf8.specs.Code.{encoded}
 use Rattle.utf8.proofs.Ascii.{ascii_bytes}
 use Rattle.utf8.proofs.Bounds.{ascii_at}
 use Rattle.string.specs.declared.tile.Form.{Form}
 use Rattle.string.specs.declared.tile.Form.TheVariants.{Plain}
-use Rattle.string.specs.declared.tile.Tile.{Tile}
-use Rattle.string.specs.declared.tile.Tile.TheVariants.{Piece, Bad}
-use Rattle.string.specs.Tile.{begins_escape, tile_of}
+use Rattle.string.specs.Tile.{begins_escape, tile_of, piece}
 use Rattle.string.proofs.tile.Tiles.{Fair, FairTile, each_fair}
-use Rattle.string.specs.declared.Extent.TheVariants as extent
 use Rattle.string.specs.Tiles.{tile_size, tiles_past, tiles_of, is_bad, has_bad, good_size, gives_byte, piece_bytes, tile_bytes, bytes_of}
-use Rattle.string.specs.steps.Measure.{is_plain, GivesOne, is_single, tiles_extent, left_in}
+use Rattle.string.specs.steps.Measure.{is_plain, GivesOne, is_single}
+use Rattle.std.specs.Prelude.{None, Option, Some}
+use Rattle.string.specs.declared.tile.Piece.{Piece}
 
 piece_few : (r : Reading) {room : ℕ} {f : Form} {v n : ℕ} → Fair room f v n → length (piece_bytes r f v) ≤ n
 unfolding piece_bytes
@@ -63,13 +60,6 @@ pub tiles_none : (q : ℕ) → tiles_of q [] ≡ []
 unfolding tiles_past
 tiles_none q = refl
 
--- what stands behind a place, and at it
-pub peek_behind : (xs : List ℕ) (at i : ℕ) → at + i < length xs → peek_at (drop at xs) i ≡ get_or xs (at + i) 0
-peek_behind xs at i l = get_or-drop at xs i end ∙ get_d_any xs (at + i) end 0 l
-
-pub peek_here : (xs : List ℕ) (at : ℕ) → at < length xs → peek_at (drop at xs) 0 ≡ get_or xs at 0
-peek_here xs at l = peek_behind xs at 0 (omega arith) ∙ ap (λ (i : ℕ). get_or xs i 0) (add-zero at)
-
 -- a plain byte is a tile by itself, and gives itself
 module _ (q c : ℕ) (p : is_plain q c ≡ true) where
   others : not (eqb c q) && leb c 0x7f ≡ true
@@ -89,7 +79,7 @@ module _ (q c : ℕ) (p : is_plain q c ≡ true) where
   pub plain_one : (xs : List ℕ) → peek_at xs 0 ≡ c → GivesOne q xs c 1
   plain_one xs e = (Plain, tile, ascii)
     where
-      tile : tile_of q xs ≡ Piece Plain c 1
+      tile : tile_of q xs ≡ piece Plain c 1
       tile = unfold tile_of in rw (ascii_at xs 0 (omega (arith, e, ascii)), e, no_sign, no_escape)
 
 module _ (q : ℕ) (h : q < 0x80) where
@@ -97,20 +87,20 @@ module _ (q : ℕ) (h : q < 0x80) where
   pub tiles_some : (xs : List ℕ) → 0 < length xs → tiles_of q xs ≡ tile_of q xs ∷ tiles_of q (drop (tile_size (tile_of q xs)) xs)
   unfolding tiles_past
   tiles_some [] l = let f : ⊥ = omega arith in absurd f
-  tiles_some (x ∷ xs) l = ap (λ (ts : List Tile). tile_of q (x ∷ xs) ∷ ts) (behind (tile_of q (x ∷ xs)) (each_fair q (x ∷ xs) h))
+  tiles_some (x ∷ xs) l = ap (λ (ts : List (Option Piece)). tile_of q (x ∷ xs) ∷ ts) (behind (tile_of q (x ∷ xs)) (each_fair q (x ∷ xs) h))
     where
       past : (n : ℕ) → 0 < n → tiles_past q (pred n) xs ≡ tiles_of q (drop n (x ∷ xs))
       past zero z = let f : ⊥ = omega arith in absurd f
       past (suc n) z = tiles_past_holds q n xs
 
-      behind : (t : Tile) → FairTile (length (x ∷ xs)) t → tiles_past q (pred (tile_size t)) xs ≡ tiles_of q (drop (tile_size t) (x ∷ xs))
-      behind (Piece f v n) a = past n a.some
-      behind Bad a = past 1 (omega arith)
+      behind : (t : Option Piece) → FairTile (length (x ∷ xs)) t → tiles_past q (pred (tile_size t)) xs ≡ tiles_of q (drop (tile_size t) (x ∷ xs))
+      behind (Some p) a = past p.size a.some
+      behind None a = past 1 (omega arith)
 
-  pub first_piece : (xs : List ℕ) (f : Form) (v n : ℕ) → 0 < length xs → tile_of q xs ≡ Piece f v n → tiles_of q xs ≡ Piece f v n ∷ tiles_of q (drop n xs)
+  pub first_piece : (xs : List ℕ) (f : Form) (v n : ℕ) → 0 < length xs → tile_of q xs ≡ piece f v n → tiles_of q xs ≡ piece f v n ∷ tiles_of q (drop n xs)
   first_piece xs f v n l e = tiles_some xs l ∙ rw e
 
-  pub first_bad : (xs : List ℕ) → 0 < length xs → tile_of q xs ≡ Bad → (has_bad (tiles_of q xs) ≡ true) × (good_size (tiles_of q xs) ≡ 0)
+  pub first_bad : (xs : List ℕ) → 0 < length xs → tile_of q xs ≡ None → (has_bad (tiles_of q xs) ≡ true) × (good_size (tiles_of q xs) ≡ 0)
   unfolding has_bad good_size
   first_bad xs l e = rw (tiles_some xs l, e) (refl, refl)
 
@@ -122,14 +112,14 @@ module _ (q : ℕ) (h : q < 0x80) where
     left : 0 < length rest
     left = omega (arith, length-drop at ys)
 
-    pub bad_here : tile_of q rest ≡ Bad → (has_bad (tiles_of q rest) ≡ true) × (good_size (tiles_of q rest) ≡ 0)
+    pub bad_here : tile_of q rest ≡ None → (has_bad (tiles_of q rest) ≡ true) × (good_size (tiles_of q rest) ≡ 0)
     bad_here e = first_bad rest left e
 
-    module _ (f : Form) (v n : ℕ) (e : tile_of q rest ≡ Piece f v n) where
+    module _ (f : Form) (v n : ℕ) (e : tile_of q rest ≡ piece f v n) where
       pub fair : Fair (length ys - at) f v n
       fair = let p = subst (FairTile (length rest)) e (each_fair q rest h) in rw (length-drop at ys) at p
 
-      tiles_here : tiles_of q rest ≡ Piece f v n ∷ tiles_of q (drop (at + n) ys)
+      tiles_here : tiles_of q rest ≡ piece f v n ∷ tiles_of q (drop (at + n) ys)
       tiles_here = first_piece rest f v n left e ∙ rw drop-drop
 
       pub bad_behind : has_bad (tiles_of q rest) ≡ has_bad (tiles_of q (drop (at + n) ys))
@@ -147,28 +137,11 @@ module _ (q : ℕ) (h : q < 0x80) where
       pub few : (r : Reading) → length (piece_bytes r f v) ≤ n
       few r = piece_few r fair
 
-    -- a tile that gives one byte
-    module _ (v n : ℕ) (g : GivesOne q rest v n) where
-      pub one_fair : (0 < n) × (n ≤ length ys - at)
-      one_fair = let a = fair g.0 v n g.1 in (a.some, a.within)
-
-      pub one_behind : has_bad (tiles_of q rest) ≡ has_bad (tiles_of q (drop (at + n) ys))
-      one_behind = bad_behind g.0 v n g.1
-
-      pub one_good : good_size (tiles_of q rest) ≡ n + good_size (tiles_of q (drop (at + n) ys))
-      one_good = good_behind g.0 v n g.1
-
-      pub one_bytes : (r : Reading) → bytes_of r (tiles_of q rest) ≡ v ∷ bytes_of r (tiles_of q (drop (at + n) ys))
-      one_bytes r = bytes_here g.0 v n g.1 r ∙ ap (λ (bs : List ℕ). bs ++ bytes_of r (tiles_of q (drop (at + n) ys))) (single r g.0 v (small r))
-        where
-          small : (r : Reading) → is_single r g.0 v ≡ true
-          small r = unfold is_single in rw (le-leb v 0x7f g.2)
-
 -- what holds of no bytes, and of bytes where it holds of those behind their first tile, holds of any
 module _ (q : ℕ) (h : q < 0x80) where
-  tile_moves : (room : ℕ) (t : Tile) → 0 < room → FairTile room t → (0 < tile_size t) × (tile_size t ≤ room)
-  tile_moves room (Piece f v n) l a = (a.some, a.within)
-  tile_moves room Bad l a = (omega arith, omega arith)
+  tile_moves : (room : ℕ) (t : Option Piece) → 0 < room → FairTile room t → (0 < tile_size t) × (tile_size t ≤ room)
+  tile_moves room (Some p) l a = (a.some, a.within)
+  tile_moves room None l a = (omega arith, omega arith)
 
   -- the first tile of some bytes has a byte at least, and no more than there are
   pub first_moves : (ys : List ℕ) → 0 < length ys → let t = tile_of q ys in (0 < tile_size t) × (tile_size t ≤ length ys)
@@ -200,9 +173,9 @@ module _ (q : ℕ) (h : q < 0x80) where
       rw (tiles_some q h ys l)
       (omega (arith, length-append (tile_bytes r t) (bytes_of r (tiles_of q (drop (tile_size t) ys))), few (length ys) t l (each_fair q ys h), first_moves q h ys l, length-drop (tile_size t) ys, ih)))
     where
-      few : (room : ℕ) (t : Tile) → 0 < room → FairTile room t → length (tile_bytes r t) ≤ tile_size t
-      few room (Piece f v n) l a = piece_few r a
-      few room Bad l a = omega arith
+      few : (room : ℕ) (t : Option Piece) → 0 < room → FairTile room t → length (tile_bytes r t) ≤ tile_size t
+      few room (Some p) l a = piece_few r a
+      few room None l a = omega arith
 
   pub good_within : (ys : List ℕ) → good_size (tiles_of q ys) ≤ length ys
   unfolding good_size
@@ -212,43 +185,3 @@ module _ (q : ℕ) (h : q < 0x80) where
       let n = tile_size (tile_of q ys) in
       rw (tiles_some q h ys l)
       (either (λ (k : ℕ). k ≤ length ys) (is_bad (tile_of q ys)) (λ e. omega arith) (λ e. omega (arith, first_moves q h ys l, length-drop n ys, ih))))
-
--- past the last byte there is no tile
-module _ (q : ℕ) (ys : List ℕ) (at : ℕ) (l : length ys ≤ at) where
-  over : tiles_of q (drop at ys) ≡ []
-  over = ap (tiles_of q) (drop_of_length-le ys l) ∙ tiles_none q
-
-  pub bad_over : has_bad (tiles_of q (drop at ys)) ≡ false
-  unfolding has_bad
-  bad_over = rw over
-
-  pub bytes_over : (r : Reading) → bytes_of r (tiles_of q (drop at ys)) ≡ []
-  unfolding bytes_of
-  bytes_over r = rw over
-
--- what the passes say
-module _ (r : Reading) (ts : List Tile) where
-  pub measured_bad : (at : ℕ) → has_bad ts ≡ true → at ≡ good_size ts → extent.Bad at ≡ tiles_extent r ts
-  unfolding tiles_extent
-  measured_bad at e h = rw (e, h)
-
-  pub measured_text : (n : ℕ) → has_bad ts ≡ false → n ≡ length (bytes_of r ts) → extent.Text true n ≡ tiles_extent r ts
-  unfolding tiles_extent
-  measured_text n e h = rw (e, h)
-
-  -- and what it tells of the tiles
-  pub text_told : (b : Bool) (n : ℕ) → tiles_extent r ts ≡ extent.Text b n → (has_bad ts ≡ false) × (b ≡ true) × (n ≡ length (bytes_of r ts))
-  unfolding tiles_extent
-  text_told b n = go (has_bad ts) refl
-    where
-      go : (s : Bool) → has_bad ts ≡ s → cond s (extent.Bad (good_size ts)) (extent.Text true (length (bytes_of r ts))) ≡ extent.Text b n → (has_bad ts ≡ false) × (b ≡ true) × (n ≡ length (bytes_of r ts))
-      go true a e = let z : ◌≡◌ {A = ℕ} 0 1 = cc in absurd (omega arith)
-      go false a e = (a, cc, cc)
-
-  -- and what the buffer holds then, by the room
-  module _ (b : Bool) (n : ℕ) (e : tiles_extent r ts ≡ extent.Text b n) (d : List ℕ) where
-    pub left_small : length d < n → d ≡ left_in (extent.Text b n) (bytes_of r ts) d
-    left_small h = rw ((text_told b n e).1, lt-leb n (length d) h)
-
-    pub left_fits : n ≤ length d → bytes_of r ts ++ drop n d ≡ left_in (extent.Text b n) (bytes_of r ts) d
-    left_fits h = rw ((text_told b n e).1, le-leb n (length d) h)

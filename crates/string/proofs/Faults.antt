@@ -6,7 +6,7 @@ use native.Mathlib.Omega.{arith}
 use mathlib.Core.Bool.{true, cond, not, true≢false}
 use mathlib.Core.List.{List, [], ◌∷◌}
 use mathlib.Core.Logic.{◌⊎◌, inl, inr}
-use mathlib.Core.Option.{Option, some, get_or}
+use Rattle.std.specs.Prelude.{Option, Some, unwrap_or}
 use mathlib.Core.Path.{◌≡◌, refl, sym, ap, ◌∙◌}
 use lib.Dec.{eqb, ltb}
 use lib.ListN.{length, drop}
@@ -88,7 +88,7 @@ module _ (xs : List ℕ) where
 
   -- what each case leads to
   abbrev pub Leads : Fault → ℕ → Type 0
-  Leads f p = (f ≡ case_of) × (fault_of xs ≡ some p)
+  Leads f p = (f ≡ case_of) × (fault_of xs ≡ Some p)
 
   alike : (SignsDiffer xs → ⊥) → eqb (peek_at xs (length xs - 1)) q ≡ true
   alike d = go (ℕ_discrete (peek_at xs (length xs - 1)) q)
@@ -97,8 +97,8 @@ module _ (xs : List ℕ) where
       go (yes e) = eq-eqb _ _ e
       go (no n) = absurd (d n)
 
-  there : {p o : ℕ} → p ≡ o → some o ≡ some p
-  there e = ap (λ (n : ℕ). some n) (sym e)
+  there : {p o : ℕ} → p ≡ o → Some o ≡ Some p
+  there e = ap (λ (n : ℕ). Some n) (sym e)
 
   pub tells : (f : Fault) (p : ℕ) → FaultAt f xs p → Leads f p
   unfolding case_of fault_of
@@ -124,7 +124,7 @@ pub one_fault : OneFault
 one_fault xs f g p o a b =
     let s = tells xs f p a in
     let t = tells xs g o b in
-    (s.0 ∙ sym t.0, ap (λ (v : Option ℕ). get_or v 0) (sym s.1 ∙ t.1))
+    (s.0 ∙ sym t.0, ap (λ (v : Option ℕ). unwrap_or v 0) (sym s.1 ∙ t.1))
 
 pub fault_within : FaultWithin
 fault_within xs short p (s, e) = inr e

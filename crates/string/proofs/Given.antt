@@ -6,7 +6,8 @@ use native.Mathlib.Omega.{arith}
 use mathlib.Core.Bool.{Bool, true, false, cond, ◌||◌, not}
 use mathlib.Core.List.{List}
 use mathlib.Core.Logic.{◌↔◌}
-use mathlib.Core.Option.{Option, none, some, get_or}
+use Rattle.std.specs.Prelude.{Err, None, Ok, Option, Result, Some, unwrap_or}
+use Rattle.utf8.specs.declared.Refusal.{Refusal}
 use mathlib.Core.Path.{◌≡◌, refl, sym, ap, subst, ◌∙◌}
 use lib.Dec.{eqb, ltb}
 use lib.ListN.{length}
@@ -20,14 +21,14 @@ use Rattle.utf8.specs.Text.{prefix_end, WellFormed}
 use Rattle.utf8.specs.Answers.{text_limit, place_at, too_long, not_utf8, no_room}
 use Rattle.utf8.specs.laws.Refusals.{TooLong, NotUtf8, NoRoom, Taken}
 use Rattle.utf8.proofs.Given.{given_exactly}
-use Rattle.string.specs.declared.Unquoting.{Unquoting}
-use Rattle.string.specs.declared.Unquoting.TheVariants.{Inner, Written, Refused}
 use Rattle.string.specs.Tiles.{tiles_of, has_bad}
 use Rattle.string.specs.Literal.{sign_of, inner_of, has_newline, fault_of, is_fault, is_bad_literal, has_escape, unquoted, extent_of, bad_literal, unquoting_of}
 use Rattle.string.specs.laws.Refusals.{BadLiteral, Fault, FaultAt, WithEscape, UnquotingGiven}
 use Rattle.string.proofs.Literals.{good_none}
 use Rattle.string.proofs.There.{tests_bad}
 use Rattle.string.proofs.Faults.{tests_quote, tests_newline, tells, faults_bad}
+use Rattle.string.specs.declared.Unquoted.TheVariants.{Inner, Written}
+use Rattle.string.specs.declared.Unquoted.{Unquoted}
 
 -- what makes a literal bad
 module _ (xs : List ℕ) where
@@ -44,7 +45,7 @@ module _ (xs : List ℕ) where
       subst (λ (b : Bool). Tests b (BadLiteral xs)) (sym (any _ _ _ (ltb (length xs) 2) (not (eqb (peek_at xs (length xs - 1)) q)) (not (is_quote q)) (has_newline q (inner_of xs)) (has_bad (tiles_of q (inner_of xs)))))
       (tests_or (tests_lt (length xs) 2) (tests_or (tests_not (tests_eq (peek_at xs (length xs - 1)) q)) (tests_or (tests_not (tests_quote xs)) (tests_or (tests_newline xs) (tests_bad (tiles_of q (inner_of xs)))))))
     where
-      any : (k n g : ℕ) (a b c d e : Bool) → is_fault (cond a (some 0) (cond b (some k) (cond c (some 0) (cond d (some n) (cond e (some g) none))))) ≡ a || (b || (c || (d || e)))
+      any : (k n g : ℕ) (a b c d e : Bool) → is_fault (cond a (Some 0) (cond b (Some k) (cond c (Some 0) (cond d (Some n) (cond e (Some g) None))))) ≡ a || (b || (c || (d || e)))
       any k n g true b c d e = refl
       any k n g false true c d e = refl
       any k n g false false true d e = refl
@@ -60,13 +61,13 @@ data Row : Type 0 where
   inner : Row
   written : Row
 
-abbrev row_of : Unquoting → Row
-row_of (Inner n) = inner
-row_of (Written n) = written
-row_of (Refused r) = cond (eqb r.number 1) long (cond (eqb r.number 2) broken (cond (eqb r.number 40) bad short))
+abbrev row_of : Result Unquoted Refusal → Row
+row_of (Ok (Inner n)) = inner
+row_of (Ok (Written n)) = written
+row_of (Err r) = cond (eqb r.number 1) long (cond (eqb r.number 2) broken (cond (eqb r.number 40) bad short))
 
 abbrev fault_at : List ℕ → ℕ
-fault_at xs = get_or (fault_of xs) 0
+fault_at xs = unwrap_or (fault_of xs) 0
 
 module _ (r : Reading) (room : ℕ) (xs : List ℕ) where
   abbrev Holds : Row → Type 0
@@ -77,13 +78,13 @@ module _ (r : Reading) (room : ℕ) (xs : List ℕ) where
   Holds inner = Taken text_limit xs × (BadLiteral xs → ⊥) × (WithEscape xs → ⊥)
   Holds written = Taken text_limit xs × (BadLiteral xs → ⊥) × WithEscape xs × (NoRoom room (unquoted r xs) → ⊥)
 
-  abbrev given : Row → Unquoting
-  given long = Refused too_long
-  given broken = Refused (not_utf8 (place_at xs (prefix_end xs)))
-  given bad = Refused (bad_literal xs (fault_at xs))
-  given short = Refused no_room
-  given inner = Inner (length (inner_of xs))
-  given written = Written (length (unquoted r xs))
+  abbrev given : Row → Result Unquoted Refusal
+  given long = Err too_long
+  given broken = Err (not_utf8 (place_at xs (prefix_end xs)))
+  given bad = Err (bad_literal xs (fault_at xs))
+  given short = Err no_room
+  given inner = Ok (Inner (length (inner_of xs)))
+  given written = Ok (Written (length (unquoted r xs)))
 
   back : (w : Row) → row_of (given w) ≡ w
   back long = refl
@@ -121,18 +122,17 @@ module _ (r : Reading) (room : ℕ) (xs : List ℕ) where
   only w e = exactly row_of given back Holds which.0 which.1 (gives which.0 which.1) w e
 
   -- 40 is given at one place
-  abbrev byte_of : Unquoting → ℕ
-  byte_of (Inner n) = 0
-  byte_of (Written n) = 0
-  byte_of (Refused s) = s.place.byte.0
+  abbrev byte_of : Result Unquoted Refusal → ℕ
+  byte_of (Ok t) = 0
+  byte_of (Err s) = s.place.byte.0
 
-  bad_given : (p : ℕ) → unquoting_of r room xs ≡ Refused (bad_literal xs p) ↔ Taken text_limit xs × ((f : Fault) × FaultAt f xs p)
+  bad_given : (p : ℕ) → unquoting_of r room xs ≡ Err (bad_literal xs p) ↔ Taken text_limit xs × ((f : Fault) × FaultAt f xs p)
   bad_given p = (to, from)
     where
       at_fault : (f : Fault) (o : ℕ) → FaultAt f xs o → fault_at xs ≡ o
-      at_fault f o a = ap (λ (v : Option ℕ). get_or v 0) (tells xs f o a).1
+      at_fault f o a = ap (λ (v : Option ℕ). unwrap_or v 0) (tells xs f o a).1
 
-      to : unquoting_of r room xs ≡ Refused (bad_literal xs p) → Taken text_limit xs × ((f : Fault) × FaultAt f xs p)
+      to : unquoting_of r room xs ≡ Err (bad_literal xs p) → Taken text_limit xs × ((f : Fault) × FaultAt f xs p)
       to e =
           let w = sym (back which.0) ∙ ap row_of (sym (gives which.0 which.1) ∙ e) in
           let h = subst Holds w which.1 in
@@ -140,8 +140,8 @@ module _ (r : Reading) (room : ℕ) (xs : List ℕ) where
           let s : fault_at xs ≡ p = ap byte_of (sym (gives bad h) ∙ e) in
           (h.0, (f, subst (FaultAt f xs) (sym (at_fault f o a) ∙ s) a))
 
-      from : Taken text_limit xs × ((f : Fault) × FaultAt f xs p) → unquoting_of r room xs ≡ Refused (bad_literal xs p)
-      from (t, (f, a)) = gives bad (t, (faults_bad xs t.1).1 (f, (p, a))) ∙ ap (λ (o : ℕ). Refused (bad_literal xs o)) (at_fault f p a)
+      from : Taken text_limit xs × ((f : Fault) × FaultAt f xs p) → unquoting_of r room xs ≡ Err (bad_literal xs p)
+      from (t, (f, a)) = gives bad (t, (faults_bad xs t.1).1 (f, (p, a))) ∙ ap (λ (o : ℕ). Err (bad_literal xs o)) (at_fault f p a)
 
 pub unquoting_given : UnquotingGiven
 unquoting_given r room xs = (

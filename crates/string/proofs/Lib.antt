@@ -1,8 +1,10 @@
 pub mod Contents
+pub mod Passed
 pub mod Plain
 pub mod Literals
 pub mod Readings
 pub mod Back
+pub mod Bytes
 pub mod Faults
 pub mod Before
 pub mod There

@@ -20,12 +20,12 @@ use Rattle.utf8.specs.laws.Characters.{One}
 use Rattle.utf8.proofs.Texts.{character_one, by_characters}
 use Rattle.utf8.proofs.Laws.{none_empty, rest_well, none_ascii}
 use Rattle.string.specs.declared.tile.Form.TheVariants.{Plain}
-use Rattle.string.specs.declared.tile.Tile.TheVariants.{Piece, Bad}
-use Rattle.string.specs.Tile.{begins_escape, tile_of}
+use Rattle.string.specs.Tile.{begins_escape, tile_of, piece}
 use Rattle.string.specs.Tiles.{tiles_of, has_bad, good_size, gives_byte, piece_bytes, bytes_of}
 use Rattle.string.specs.Literal.{first_of, has_escape}
 use Rattle.string.proofs.escape.Escapes.{back}
 use Rattle.string.proofs.Contents.{tiles_none, first_piece, first_bad}
+use Rattle.std.specs.Prelude.{None}
 
 -- a character as it is gives its bytes in both readings
 as_it_is : (r : Reading) → gives_byte r Plain ≡ false
@@ -43,15 +43,15 @@ module _ (q : ℕ) (h : q < 0x80) (bs ys : List ℕ) (o : One bs) where
   sign_bad : peek_at bs 0 ≡ q → (has_bad (tiles_of q (bs ++ ys)) ≡ true) × (good_size (tiles_of q (bs ++ ys)) ≡ 0)
   sign_bad e = first_bad q h (bs ++ ys) some (tile (first ∙ e))
     where
-      tile : peek_at (bs ++ ys) 0 ≡ q → tile_of q (bs ++ ys) ≡ Bad
+      tile : peek_at (bs ++ ys) 0 ≡ q → tile_of q (bs ++ ys) ≡ None
       tile e = unfold tile_of in rw (eq-eqb (peek_at (bs ++ ys) 0) q e)
 
   module _ (n : peek_at bs 0 ≡ q → ⊥) (e : begins_escape q (peek_at bs 0) ≡ false) where
-    plain_tile : tile_of q (bs ++ ys) ≡ Piece Plain (code_of (length bs) bs) (length bs)
+    plain_tile : tile_of q (bs ++ ys) ≡ piece Plain (code_of (length bs) bs) (length bs)
     unfolding tile_of
     plain_tile = rw (first, ne_eqb (peek_at bs 0) q n, e, character_one bs ys o)
 
-    plain_tiles : tiles_of q (bs ++ ys) ≡ Piece Plain (code_of (length bs) bs) (length bs) ∷ tiles_of q ys
+    plain_tiles : tiles_of q (bs ++ ys) ≡ piece Plain (code_of (length bs) bs) (length bs) ∷ tiles_of q ys
     plain_tiles = first_piece q h (bs ++ ys) Plain (code_of (length bs) bs) (length bs) some plain_tile ∙ rw (drop-append_seam bs ys)
 
     pub plain_bad : has_bad (tiles_of q (bs ++ ys)) ≡ has_bad (tiles_of q ys)

@@ -16,9 +16,7 @@ use Rattle.utf8.specs.Table.{char_length}
 use Rattle.utf8.specs.Text.{WellFormed}
 use Rattle.utf8.proofs.Laws.{none_empty}
 use Rattle.string.specs.declared.tile.Form.{Form}
-use Rattle.string.specs.declared.tile.Tile.{Tile}
-use Rattle.string.specs.declared.tile.Tile.TheVariants.{Piece, Bad}
-use Rattle.string.specs.Tile.{tile_of}
+use Rattle.string.specs.Tile.{tile_of, piece}
 use Rattle.string.specs.Tiles.{tile_size, tiles_of, is_bad, has_bad, good_size}
 use Rattle.string.specs.laws.Tile.{IsEscape, EscapeBegun}
 use Rattle.string.specs.laws.Refusals.{BadAmong, ReadsTo, start, tile, BareSign, BadEscape, BadThere}
@@ -26,19 +24,21 @@ use Rattle.string.proofs.tile.Tiles.{FairTile, each_fair}
 use Rattle.string.proofs.tile.Behind.{TextAfter, text_behind}
 use Rattle.string.proofs.tile.Bad.{bad_when}
 use Rattle.string.proofs.Contents.{tiles_none, bad_here, bad_behind, good_behind, by_tiles}
+use Rattle.std.specs.Prelude.{None, Option, Some}
+use Rattle.string.specs.declared.tile.Piece.{Piece}
 
-pub tests_bad : (ts : List Tile) → Tests (has_bad ts) (BadAmong ts)
+pub tests_bad : (ts : List (Option Piece)) → Tests (has_bad ts) (BadAmong ts)
 unfolding has_bad
 tests_bad [] = ((λ e. absurd (true≢false (sym e))), λ s. absurd s)
 tests_bad (t ∷ ts) = tests_or (one t) (tests_bad ts)
   where
-    one : (t : Tile) → Tests (is_bad t) (t ≡ Bad)
-    one (Piece f v n) = ((λ e. absurd (true≢false (sym e))), λ e. ap is_bad e)
-    one Bad = ((λ e. refl), λ e. refl)
+    one : (t : Option Piece) → Tests (is_bad t) (t ≡ None)
+    one (Some p) = ((λ e. absurd (true≢false (sym e))), λ e. ap is_bad e)
+    one None = ((λ e. refl), λ e. refl)
 
 module _ (q : ℕ) (l : q < 0x80) (ys : List ℕ) where
   -- a tile that reading goes on with
-  goes_on : (at : ℕ) (f : Form) (v n : ℕ) → tile_of q (drop at ys) ≡ Piece f v n → (0 < n) × (at + n ≤ length ys)
+  goes_on : (at : ℕ) (f : Form) (v n : ℕ) → tile_of q (drop at ys) ≡ piece f v n → (0 < n) × (at + n ≤ length ys)
   goes_on at f v n e =
       let a = subst (FairTile (length (drop at ys))) e (each_fair q (drop at ys) l) in
       (a.some, omega (arith, a.some, a.within, length-drop at ys))
@@ -61,21 +61,21 @@ module _ (q : ℕ) (l : q < 0x80) (ys : List ℕ) where
       }
 
   -- where a tile is bad that reading comes to, the good ones end
-  pub ends_there : (at : ℕ) → at < length ys → ReadsTo q ys at → tile_of q (drop at ys) ≡ Bad → (has_bad (tiles_of q ys) ≡ true) × (at ≡ good_size (tiles_of q ys))
+  pub ends_there : (at : ℕ) → at < length ys → ReadsTo q ys at → tile_of q (drop at ys) ≡ None → (has_bad (tiles_of q ys) ≡ true) × (at ≡ good_size (tiles_of q ys))
   ends_there at k r e =
       let o = reads_over r in
       let b = bad_here q l ys at k e in
       (o.bad ∙ b.0, omega (arith, o.good, b.1))
 
   -- reading behind a first tile is reading on
-  reads_on : (f : Form) (v n : ℕ) → tile_of q ys ≡ Piece f v n → {at : ℕ} → ReadsTo q (drop n ys) at → ReadsTo q ys (n + at)
+  reads_on : (f : Form) (v n : ℕ) → tile_of q ys ≡ piece f v n → {at : ℕ} → ReadsTo q (drop n ys) at → ReadsTo q ys (n + at)
   reads_on f v n e start = subst (ReadsTo q ys) (zero-add n ∙ sym (add-zero n)) (tile 0 f v n start e)
   reads_on f v n e (tile at g w m r b) =
       subst (ReadsTo q ys) (add_assoc n at m) (tile (n + at) g w m (reads_on f v n e r) (ap (tile_of q) (sym (drop-drop at n ys)) ∙ b))
 
 -- a bad tile that reading comes to
 abbrev Found : ℕ → List ℕ → Type 0
-Found q ys = (at : ℕ) × (at < length ys) × ReadsTo q ys at × (tile_of q (drop at ys) ≡ Bad) × WellFormed (drop at ys)
+Found q ys = (at : ℕ) × (at < length ys) × ReadsTo q ys at × (tile_of q (drop at ys) ≡ None) × WellFormed (drop at ys)
 
 module _ (q : ℕ) (l : q < 0x80) where
   abbrev Comes : List ℕ → Type 0
@@ -88,23 +88,23 @@ module _ (q : ℕ) (l : q < 0x80) where
   some : (ys : List ℕ) → 0 < length ys → Comes (drop (tile_size (tile_of q ys)) ys) → Comes ys
   some ys k ih w b = go (tile_of q ys) refl (text_behind q ys l w) ih
     where
-      go : (t : Tile) → tile_of q ys ≡ t → TextAfter ys t → Comes (drop (tile_size t) ys) → Found q ys
-      go Bad e x ih = (0, k, start, e, w)
-      go (Piece f v n) e x ih =
-          let behind : has_bad (tiles_of q ys) ≡ has_bad (tiles_of q (drop n ys)) = bad_behind q l ys 0 k f v n e ∙ rw zero-add in
+      go : (t : Option Piece) → tile_of q ys ≡ t → TextAfter ys t → Comes (drop (tile_size t) ys) → Found q ys
+      go None e x ih = (0, k, start, e, w)
+      go (Some p) e x ih =
+          let behind : has_bad (tiles_of q ys) ≡ has_bad (tiles_of q (drop p.size ys)) = bad_behind q l ys 0 k p.form p.value p.size e ∙ rw zero-add in
           let (at, s, r, t, u) = ih x (sym behind ∙ b) in (
-            n + at,
-            omega (arith, s, length-drop n ys),
-            reads_on q l ys f v n e r,
-            ap (tile_of q) (sym (drop-drop at n ys)) ∙ t,
-            subst WellFormed (drop-drop at n ys) u,
+            p.size + at,
+            omega (arith, s, length-drop p.size ys),
+            reads_on q l ys p.form p.value p.size e r,
+            ap (tile_of q) (sym (drop-drop at p.size ys)) ∙ t,
+            subst WellFormed (drop-drop at p.size ys) u,
           )
 
   pub comes : (ys : List ℕ) → Comes ys
   comes = by_tiles q l Comes none some
 
 -- why a tile of text is bad
-pub why_bad : (q : ℕ) (zs : List ℕ) → 0 < q → 0 < length zs → WellFormed zs → tile_of q zs ≡ Bad → (peek_at zs 0 ≡ q) ⊎ (EscapeBegun q zs × (IsEscape q zs → ⊥))
+pub why_bad : (q : ℕ) (zs : List ℕ) → 0 < q → 0 < length zs → WellFormed zs → tile_of q zs ≡ None → (peek_at zs 0 ≡ q) ⊎ (EscapeBegun q zs × (IsEscape q zs → ⊥))
 why_bad q zs h k w e = go ((bad_when q zs h).0 e)
   where
     go : (peek_at zs 0 ≡ q) ⊎ ((EscapeBegun q zs × (IsEscape q zs → ⊥)) ⊎ ((EscapeBegun q zs → ⊥) × (char_length zs ≡ 0))) → (peek_at zs 0 ≡ q) ⊎ (EscapeBegun q zs × (IsEscape q zs → ⊥))
@@ -114,10 +114,10 @@ why_bad q zs h k w e = go ((bad_when q zs h).0 e)
 
 -- the sign and a bad escape are bad tiles
 module _ (q : ℕ) (h : 0 < q) (ys : List ℕ) (at : ℕ) where
-  pub bare_bad : BareSign q ys at → tile_of q (drop at ys) ≡ Bad
+  pub bare_bad : BareSign q ys at → tile_of q (drop at ys) ≡ None
   bare_bad (r, b) = (bad_when q (drop at ys) h).1 (inl b)
 
-  pub escape_bad : BadEscape q ys at → tile_of q (drop at ys) ≡ Bad
+  pub escape_bad : BadEscape q ys at → tile_of q (drop at ys) ≡ None
   escape_bad (r, b, n) = (bad_when q (drop at ys) h).1 (inr (inl (b, n)))
 
 pub bad_there : BadThere

@@ -6,8 +6,6 @@ use Rattle.string.proofs.unquote_string.Kinds as unquote_string
 use Rattle.string.proofs.unquote_string.Reads as unquote_string_reads
 use Rattle.string.proofs.part.Kinds as part
 use Rattle.string.proofs.part.Reads as part_reads
-use Rattle.string.proofs.not_unquoted.Kinds as not_unquoted
-use Rattle.string.proofs.not_unquoted.Reads as not_unquoted_reads
 
 pub same_unquote_string : OneAnswer unquote_string.ps unquote_string.r unquote_string_reads.Post
 same_unquote_string κs a x y e f p q = p.0 ∙ sym q.0
@@ -17,6 +15,3 @@ same_unquote_string_text κs a x y e f p q = let s : x ≡ y = same_unquote_stri
 
 pub same_part : OnePart part.ps part.r part_reads.Post (λ κs x. x.now)
 same_part κs a x y e f p q = p ∙ sym q
-
-pub same_not_unquoted : OneAnswer not_unquoted.ps not_unquoted.r not_unquoted_reads.Post
-same_not_unquoted κs a x y e f p q = p ∙ sym q

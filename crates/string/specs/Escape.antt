@@ -1,8 +1,7 @@
 -- Escaping a text: document 01, "Escaping writes `\\ \" \n \r \t` and copies the rest, without outer quotes", said of its characters.
 use Rattle.utf8.specs.declared.Refusal.{Refusal}
 use Rattle.utf8.specs.declared.CharNumber.{CharNumber}
-use Rattle.std.specs.Prelude.{ℕ, List, [], ◌∷◌, ◌++◌, Err, Ok, Result}
-use Rattle.std.proofs.Math.Option.{Option, none, some}
+use Rattle.std.specs.Prelude.{ℕ, List, [], ◌∷◌, ◌++◌, Option, Some, None, Err, Ok, Result}
 use Rattle.scan.specs.Byte.{backslash}
 use Rattle.utf8.specs.Code.{encoded}
 use Rattle.utf8.specs.Text.{codes_of}
@@ -12,8 +11,8 @@ use Rattle.string.specs.Letters.{letter_of}
 
 -- a backslash and the letter, or what is copied
 abbrev pub or_letter : List ℕ → Option ℕ → List ℕ
-or_letter copied (some l) = backslash ∷ l ∷ []
-or_letter copied none = copied
+or_letter copied (Some l) = backslash ∷ l ∷ []
+or_letter copied None = copied
 
 abbrev pub escaped_codes : List ℕ → List ℕ
 escaped_codes [] = []

@@ -5,47 +5,37 @@
 pub mod escape;
 pub mod tile;
 
-ghost use Rattle.std.specs.Prelude.{true, false, [], ◌≡◌, ◌+◌, ◌-◌, ◌^◌, ◌<◌, ◌≤◌, length, drop};
+ghost use Rattle.std.specs.Prelude.{true, false, [], ◌≡◌, ◌+◌, ◌-◌, ◌^◌, ◌<◌, ◌≤◌, length, drop, ◌==◌, Ok, IfSome};
+ghost use Rattle.std.specs.List.{position};
 ghost use Rattle.std.proofs.lemmas.List.Edits.{sets};
 ghost use Rattle.scan.specs.Text.{has};
 ghost use Rattle.utf8.specs.Text.{WellFormed};
 ghost use Rattle.string.specs.declared.tile.Form.TheVariants.{Letter};
-ghost use Rattle.string.specs.declared.tile.Tile.TheVariants.{Piece};
-ghost use Rattle.string.specs.Tile.{is_allowed, tile_of};
+ghost use Rattle.string.specs.Tile.{piece, is_allowed, tile_of};
 ghost use Rattle.string.specs.Tiles.{tiles_of, has_bad, gives_byte, piece_bytes, bytes_of};
-ghost use Rattle.string.specs.Literal.{has_newline, first_of, has_escape, unquoted, extent_of, unquoting_of, text_by, part_of, not_unquoted};
-ghost use Rattle.string.specs.declared.Unquoting.TheVariants.{Inner, Written};
-ghost use Rattle.string.specs.steps.Measure.{is_plain, GivesOne, is_single, tiles_extent, content_extent, behind_sign, fault_in, bad_in, left_in};
+ghost use Rattle.string.specs.Literal.{has_newline, first_of, has_escape, unquoted, extent_of, unquoting_of, text_by, part_of};
+ghost use Rattle.string.specs.declared.Unquoted.TheVariants.{Inner, Written};
+ghost use Rattle.string.specs.steps.Measure.{is_plain, GivesOne, is_single, tiles_extent, content_extent, left_sized, left_in};
 
-use crate::tile::{Form, Tile};
+use crate::tile::{Form, Piece};
 use scan::byte;
-use utf8::{Admission, ByteOffset, Reading, Refusal, Writing, encode};
+use utf8::{ByteOffset, Reading, Refusal, encode};
 
 // Document 01's "bad literal".
 pub const BAD_LITERAL: usize = 40;
 
-// Where the text of a literal stands: behind the first sign of the literal itself, so many bytes, or at the front of the text buffer;
-// or why there is none.
+// Where the text of a literal stands: behind the first sign of the literal itself, so many bytes, or at the front of the text buffer.
 #[derive(Clone, Copy)]
-pub enum Unquoting {
+pub enum Unquoted {
     Inner(usize),
     Written(usize),
-    Refused(Refusal),
 }
 
-// What a literal, or its content, comes to: a text of so many bytes, which are its own where it has no escape; or it goes wrong at an
-// offset of it.
+// A tile that gives one byte: that byte, and how many bytes the tile has.
 #[derive(Clone, Copy)]
-pub enum Extent {
-    Text { escaped: bool, size: usize },
-    Bad { at: usize },
-}
-
-// A tile that gives one byte: that byte, and how many bytes the tile has; none where it has 0.
-#[derive(Clone, Copy)]
-pub struct Single {
-    pub value: u8,
-    pub size: usize,
+struct Single {
+    value: u8,
+    size: usize,
 }
 
 // The bytes of the two signs.
@@ -58,35 +48,35 @@ const SHORT: usize = 128;
 const LONGER: usize = 4096;
 
 // Whether a text has the byte. All of it is looked at, so that many bytes are at once.
+#[tactic(auto, using(crate::proofs::Bytes::has_next, crate::proofs::Bytes::has_over))]
 fn has_byte(s: &[u8], c: u8) -> bool
     ensures { result ≡ has c s.now }
 {
     let mut found = false;
-    let mut i = 0;
-    while i < s.len() {
-        if s[i] == c {
+    for &byte in s {
+        if byte == c {
             found = true;
         }
-        i += 1;
     }
     found
+}
+
+// Where a byte first stands in a text.
+fn position_of(s: &[u8], c: u8) -> Option<usize>
+    ensures { result ≡ position (λ x. x == c) s.now }
+{
+    s.iter().position(|&byte| byte == c)
 }
 
 // Where a byte first stands in a text; its end, where it stands nowhere.
 fn first_of(s: &[u8], c: u8) -> usize
     ensures { result ≡ first_of c s.now }
 {
-    let mut i = 0;
-    while i < s.len() {
-        if s[i] == c {
-            return i;
-        }
-        i += 1;
-    }
-    i
+    position_of(s, c).unwrap_or(s.len())
 }
 
 // Whether there is a line feed where none may be.
+#[tactic(auto, unfolding(crate::specs::Literal::has_newline))]
 fn has_newline(sign: u8, inner: &[u8]) -> bool
     ensures { result ≡ has_newline sign inner.now }
 {
@@ -94,6 +84,7 @@ fn has_newline(sign: u8, inner: &[u8]) -> bool
 }
 
 // Whether there is an escape.
+#[tactic(auto, unfolding(crate::specs::Literal::has_escape))]
 fn has_escape(sign: u8, inner: &[u8]) -> bool
     ensures { result ≡ has_escape sign inner.now }
 {
@@ -101,53 +92,42 @@ fn has_escape(sign: u8, inner: &[u8]) -> bool
 }
 
 // Whether a byte is ASCII, and neither the sign nor a backslash: it is a tile by itself.
+#[tactic(auto, unfolding(crate::specs::steps::Measure::is_plain))]
 fn is_plain(sign: u8, c: u8) -> bool
     ensures { result ≡ is_plain sign c }
 {
-    c != tile::BACKSLASH && (c != sign && c as u32 <= tile::LAST_ASCII)
+    c != tile::BACKSLASH && c != sign && c.is_ascii()
 }
 
-// What the letter behind a backslash at a place stands for, or NO_VALUE where no such escape stands there.
-fn letter_at(inner: &[u8], at: usize, sign: u8) -> u32
+// What the letter behind a backslash at a place stands for, where such an escape stands there.
+#[tactic(auto, using(crate::proofs::tile::Letters::letter_tile, crate::proofs::tile::Letters::letter_small))]
+fn letter_at(inner: &[u8], at: usize, sign: u8) -> Option<u32>
     requires { at < length inner.now }
-    ensures inner_value { (result ≡ 0 → ⊥) → tile_of sign (drop at inner.now) ≡ Piece Letter result 2 }
-    ensures upper_bound { sign < 0x80 → result ≤ 0x7f }
+    ensures inner_value { IfSome result (λ v. tile_of sign (drop at inner.now) ≡ piece Letter v 2) }
+    ensures upper_bound { sign < 0x80 → IfSome result (λ v. v ≤ 0x7f) }
 {
     let c = inner[at];
-    if c != tile::BACKSLASH {
-        return tile::NO_VALUE;
+    if c != tile::BACKSLASH || c == sign || sign == tile::BACKQUOTE {
+        return None;
     }
-    if c == sign {
-        return tile::NO_VALUE;
-    }
-    if sign == tile::BACKQUOTE {
-        return tile::NO_VALUE;
-    }
-    let behind = at + tile::BEHIND_BACKSLASH;
-    if inner.len() <= behind {
-        return tile::NO_VALUE;
-    }
-    tile::letter_value(sign, inner[behind])
+    let &letter = inner.get(at + tile::BEHIND_BACKSLASH)?;
+    tile::letter_value(sign, letter)
 }
 
 // The tile at a place, where it is a plain byte or a letter behind a backslash: of these there are most.
-fn single_at(inner: &[u8], at: usize, sign: u8) -> Single
+fn single_at(inner: &[u8], at: usize, sign: u8) -> Option<Single>
     requires { (sign < 0x80) × (at < length inner.now) }
-    ensures { (result.size ≡ 0 → ⊥) → GivesOne sign (drop at inner.now) result.value result.size }
+    ensures { IfSome result (λ one. GivesOne sign (drop at inner.now) one.value one.size) }
 {
     let c = inner[at];
     if is_plain(sign, c) {
-        return Single { value: c, size: 1 };
+        return Some(Single { value: c, size: 1 });
     }
-    let value = letter_at(inner, at, sign);
-    if value == tile::NO_VALUE {
-        return Single { value: 0, size: 0 };
-    }
-    let byte = value as u8;
-    Single {
-        value: byte,
+    let value = letter_at(inner, at, sign)?;
+    Some(Single {
+        value: value as u8,
         size: tile::BEHIND_LETTER,
-    }
+    })
 }
 
 // Whether a tile gives one byte, and not a character.
@@ -161,6 +141,7 @@ fn gives_byte(reading: Reading, form: Form) -> bool
 }
 
 // Whether what a tile gives is its value as one byte.
+#[tactic(auto, unfolding(crate::specs::steps::Measure::is_single))]
 fn is_single(reading: Reading, form: Form, value: u32) -> bool
     ensures { result ≡ is_single reading form value }
 {
@@ -168,6 +149,7 @@ fn is_single(reading: Reading, form: Form, value: u32) -> bool
 }
 
 // How many bytes a tile gives.
+#[tactic(auto, using(crate::proofs::Contents::single, crate::proofs::Contents::several))]
 fn piece_size(reading: Reading, form: Form, value: u32) -> usize
     ensures { result ≡ length (piece_bytes reading form value) }
 {
@@ -177,31 +159,27 @@ fn piece_size(reading: Reading, form: Form, value: u32) -> usize
     encode::encoded_size(value)
 }
 
-// How many bytes the tiles of a content give, or where the first bad one begins.
-fn measure(inner: &[u8], sign: u8, reading: Reading) -> Extent
+// How many bytes the tiles of a content give, or where the first bad one begins. Where a tile ends is known only once it is read: no `for` goes
+// over them.
+fn measure(inner: &[u8], sign: u8, reading: Reading) -> Result<usize, usize>
     requires { sign < 0x80 }
     ensures { result ≡ tiles_extent reading (tiles_of sign inner.now) }
 {
     let mut n = 0;
     let mut from = 0;
     while from < inner.len() {
-        let one = single_at(inner, from, sign);
-        if one.size != 0 {
+        if let Some(one) = single_at(inner, from, sign) {
             n += 1;
             from += one.size;
             continue;
         }
-        let t = tile::unquote_char(&inner[from..], sign);
-        let Tile::Piece { form, value, size } = t else {
-            return Extent::Bad { at: from };
+        let Some(piece) = tile::unquote_char(&inner[from..], sign) else {
+            return Err(from);
         };
-        n += piece_size(reading, form, value);
-        from += size;
+        n += piece_size(reading, piece.form, piece.value);
+        from += piece.size;
     }
-    Extent::Text {
-        escaped: true,
-        size: n,
-    }
+    Ok(n)
 }
 
 // Writes what a tile gives at a place where it fits, and answers the place past it.
@@ -215,16 +193,12 @@ fn put_piece(reading: Reading, form: Form, value: u32, out: &mut [u8], at: usize
         out[at] = value as u8;
         return at + 1;
     }
-    let e = encode::encode(value, out, ByteOffset(at));
-    let Writing::Written(n) = e else {
-        return at;
-    };
-    at + n
+    at + encode::encode(value, out, ByteOffset(at)).unwrap()
 }
 
 // Writes what the tiles of a content give at the front of a buffer that it fits, and answers how many bytes that is, or where the first bad
-// one begins. What the tiles before that give is left there.
-fn write_pieces(inner: &[u8], sign: u8, reading: Reading, out: &mut [u8]) -> Extent
+// one begins. What the tiles before that give is left there. The turns are those of `measure`.
+fn write_pieces(inner: &[u8], sign: u8, reading: Reading, out: &mut [u8]) -> Result<usize, usize>
     requires sign_bound { sign < 0x80 }
     requires inner_in_bounds { length (bytes_of reading (tiles_of sign inner.now)) ≤ length out.old }
     ensures value { result ≡ tiles_extent reading (tiles_of sign inner.now) }
@@ -233,214 +207,147 @@ fn write_pieces(inner: &[u8], sign: u8, reading: Reading, out: &mut [u8]) -> Ext
     let mut at = 0;
     let mut from = 0;
     while from < inner.len() {
-        let one = single_at(inner, from, sign);
-        if one.size != 0 {
+        if let Some(one) = single_at(inner, from, sign) {
             out[at] = one.value;
             at += 1;
             from += one.size;
             continue;
         }
-        let t = tile::unquote_char(&inner[from..], sign);
-        let Tile::Piece { form, value, size } = t else {
-            return Extent::Bad { at: from };
+        let Some(piece) = tile::unquote_char(&inner[from..], sign) else {
+            return Err(from);
         };
-        at = put_piece(reading, form, value, out, at);
-        from += size;
+        at = put_piece(reading, piece.form, piece.value, out, at);
+        from += piece.size;
     }
-    Extent::Text {
-        escaped: true,
-        size: at,
-    }
+    Ok(at)
 }
 
-// Copies a text to the front of a buffer that it fits.
-fn copy(text: &[u8], out: &mut [u8])
-    requires { length text.now ≤ length out.old }
-    ensures { out.new ≡ sets out.old 0 text.now }
-{
-    let mut i = 0;
-    while i < text.len() {
-        out[i] = text[i];
-        i += 1;
-    }
-}
-
-// Writes the text of a content with escapes where it has room, by way of a buffer of one's own that is as long as the content.
-fn read_once(inner: &[u8], sign: u8, reading: Reading, own: &mut [u8], text: &mut [u8]) -> Extent
-    requires { (sign < 0x80) × (length inner.now ≤ length own.old) }
+// Writes the text of a content with escapes where it has room, by way of a buffer of one's own that is no shorter than the content.
+#[tactic(auto, using(crate::proofs::Passed::extent_told, crate::proofs::Contents::bytes_few, proving::proofs::Stores::written_front))]
+fn read_once<const N: usize>(
+    inner: &[u8],
+    sign: u8,
+    reading: Reading,
+    text: &mut [u8],
+) -> Result<usize, usize>
+    requires { (sign < 0x80) × (length inner.now ≤ N) × (N < 2 ^ 63) }
     ensures value { result ≡ tiles_extent reading (tiles_of sign inner.now) }
-    ensures text_after { text.new ≡ left_in result (bytes_of reading (tiles_of sign inner.now)) text.old }
+    ensures text_after { text.new ≡ left_sized result (bytes_of reading (tiles_of sign inner.now)) text.old }
 {
-    let e = write_pieces(inner, sign, reading, own);
-    let Extent::Text { escaped: _, size } = e else {
-        return e;
-    };
+    let mut own = [0; N];
+    let size = write_pieces(inner, sign, reading, &mut own)?;
     if size <= text.len() {
-        copy(&own[..size], text);
+        text[..size].copy_from_slice(&own[..size]);
     }
-    e
+    Ok(size)
 }
 
 // The same for a content of any length, which is measured first.
-fn read_twice(inner: &[u8], sign: u8, reading: Reading, text: &mut [u8]) -> Extent
+#[tactic(auto, using(crate::proofs::Passed::extent_told, crate::proofs::Bytes::sets_front))]
+fn read_twice(inner: &[u8], sign: u8, reading: Reading, text: &mut [u8]) -> Result<usize, usize>
     requires { sign < 0x80 }
     ensures value { result ≡ tiles_extent reading (tiles_of sign inner.now) }
-    ensures text_after { text.new ≡ left_in result (bytes_of reading (tiles_of sign inner.now)) text.old }
+    ensures text_after { text.new ≡ left_sized result (bytes_of reading (tiles_of sign inner.now)) text.old }
 {
-    let e = measure(inner, sign, reading);
-    let Extent::Text { escaped: _, size } = e else {
-        return e;
-    };
+    let size = measure(inner, sign, reading)?;
     if size <= text.len() {
-        write_pieces(inner, sign, reading, text);
+        return write_pieces(inner, sign, reading, text);
     }
-    e
+    Ok(size)
 }
 
 // The text of a content with escapes: but for a very long one its tiles are read once.
-fn read_tiles(inner: &[u8], sign: u8, reading: Reading, text: &mut [u8]) -> Extent
+fn read_tiles(inner: &[u8], sign: u8, reading: Reading, text: &mut [u8]) -> Result<usize, usize>
     requires { sign < 0x80 }
     ensures value { result ≡ tiles_extent reading (tiles_of sign inner.now) }
-    ensures text_after { text.new ≡ left_in result (bytes_of reading (tiles_of sign inner.now)) text.old }
+    ensures text_after { text.new ≡ left_sized result (bytes_of reading (tiles_of sign inner.now)) text.old }
 {
     if inner.len() <= SHORT {
-        let mut own = [0; SHORT];
-        return read_once(inner, sign, reading, &mut own, text);
+        return read_once::<SHORT>(inner, sign, reading, text);
     }
     if inner.len() <= LONGER {
-        let mut own = [0; LONGER];
-        return read_once(inner, sign, reading, &mut own, text);
+        return read_once::<LONGER>(inner, sign, reading, text);
     }
     read_twice(inner, sign, reading, text)
 }
 
-// What the content between two signs comes to; a text with escapes is written where it has room.
-fn read_content(inner: &[u8], sign: u8, reading: Reading, text: &mut [u8]) -> Extent
+// What the content between two signs comes to, or where it goes wrong; a text with escapes is written where it has room.
+#[tactic(auto, using(crate::proofs::Literals::unescaped_bad), unfolding(crate::specs::steps::Measure::content_extent, crate::specs::steps::Measure::tiles_extent))]
+fn read_content(
+    inner: &[u8],
+    sign: u8,
+    reading: Reading,
+    text: &mut [u8],
+) -> Result<Unquoted, usize>
     requires ascii_sign { sign < 0x80 }
     requires well_formed { WellFormed inner.now }
     ensures value { result ≡ content_extent reading sign inner.now }
     ensures text_after { text.new ≡ left_in result (bytes_of reading (tiles_of sign inner.now)) text.old }
 {
     if has_newline(sign, inner) {
-        let at = first_of(inner, tile::LINE_FEED);
-        return Extent::Bad { at };
+        return Err(first_of(inner, tile::LINE_FEED));
     }
     if has_escape(sign, inner) {
-        return read_tiles(inner, sign, reading, text);
+        let size = read_tiles(inner, sign, reading, text)?;
+        return Ok(Unquoted::Written(size));
     }
     if has_byte(inner, sign) {
-        let at = first_of(inner, sign);
-        return Extent::Bad { at };
+        return Err(first_of(inner, sign));
     }
-    Extent::Text {
-        escaped: false,
-        size: inner.len(),
-    }
+    Ok(Unquoted::Inner(inner.len()))
 }
 
-// What a content comes to, counted from the sign before it.
-fn behind_sign(e: Extent) -> Extent
-    requires { fault_in e < 2 ^ 64 - 1 }
-    ensures { result ≡ behind_sign e }
-{
-    let Extent::Bad { at } = e else {
-        return e;
-    };
-    let at = at + 1;
-    Extent::Bad { at }
-}
-
-// What a literal comes to; a text with escapes is written where it has room.
-fn read_literal(literal: &[u8], reading: Reading, text: &mut [u8]) -> Extent
+// What a literal comes to, or where it goes wrong; a text with escapes is written where it has room.
+#[tactic(auto, using(crate::proofs::Literals::sign_is, crate::proofs::Literals::last_is, crate::proofs::Literals::cut_is, crate::proofs::Literals::content_is, crate::proofs::Literals::quote_ascii, crate::proofs::Literals::inner_well, crate::proofs::Literals::encloses, crate::proofs::Literals::content_within), unfolding(crate::specs::Literal::extent_of, crate::specs::Literal::fault_of))]
+fn read_literal(literal: &[u8], reading: Reading, text: &mut [u8]) -> Result<Unquoted, usize>
     requires { WellFormed literal.now }
     ensures value { result ≡ extent_of reading literal.now }
     ensures text_after { text.new ≡ left_in result (unquoted reading literal.now) text.old }
 {
     if literal.len() < SIGNS {
-        return Extent::Bad { at: 0 };
+        return Err(0);
     }
     let sign = literal[0];
     let end = literal.len() - 1;
     if literal[end] != sign {
-        return Extent::Bad { at: end };
+        return Err(end);
     }
     if !byte::is_quote(sign as usize) {
-        return Extent::Bad { at: 0 };
+        return Err(0);
     }
-    behind_sign(read_content(&literal[1..end], sign, reading, text))
-}
-
-// Why a literal is bad, by what it comes to; where it is not, a refusal of no number.
-fn bad_literal(literal: &[u8], e: Extent) -> Refusal
-    ensures { result ≡ bad_in literal.now e }
-{
-    let Extent::Bad { at } = e else {
-        return utf8::at_start(utf8::NO_REFUSAL);
-    };
-    utf8::refused_at(literal, BAD_LITERAL, ByteOffset(at))
+    match read_content(&literal[1..end], sign, reading, text) {
+        Ok(unquoted) => Ok(unquoted),
+        Err(at) => Err(at + 1),
+    }
 }
 
 // Reads a literal: a text without escapes is left where it stands, and another is written at the front of a lent buffer; nothing is
 // written where it is refused.
-pub fn unquote_string(literal: &[u8], reading: Reading, text: &mut [u8]) -> Unquoting
+#[tactic(auto, using(crate::proofs::Literals::admitted_well), unfolding(crate::specs::Literal::unquoting_of))]
+pub fn unquote_string(
+    literal: &[u8],
+    reading: Reading,
+    text: &mut [u8],
+) -> Result<Unquoted, Refusal>
     ensures value { result ≡ unquoting_of reading (length text.old) literal.now }
     ensures text_after { text.new ≡ text_by result (unquoted reading literal.now) text.old }
 {
-    let a = utf8::admit(literal, utf8::TEXT_LIMIT);
-    let Admission::Admitted(_) = a else {
-        return Unquoting::Refused(utf8::not_admitted(a));
-    };
-    let e = read_literal(literal, reading, text);
-    let Extent::Text { escaped, size } = e else {
-        return Unquoting::Refused(bad_literal(literal, e));
-    };
-    if !escaped {
-        return Unquoting::Inner(size);
+    utf8::admit(literal, utf8::TEXT_LIMIT)?;
+    match read_literal(literal, reading, text) {
+        Ok(Unquoted::Written(size)) if text.len() < size => Err(utf8::at_start(utf8::NO_ROOM)),
+        Ok(unquoted) => Ok(unquoted),
+        Err(at) => Err(utf8::refused_at(literal, BAD_LITERAL, ByteOffset(at))),
     }
-    if text.len() < size {
-        return Unquoting::Refused(utf8::at_start(utf8::NO_ROOM));
-    }
-    Unquoting::Written(size)
-}
-
-// Why a literal has no text; where it has one, a refusal of no number.
-pub fn not_unquoted(answer: Unquoting) -> Refusal
-    ensures { result ≡ not_unquoted answer }
-{
-    let Unquoting::Refused(r) = answer else {
-        return utf8::at_start(utf8::NO_REFUSAL);
-    };
-    r
-}
-
-// So many bytes of a literal, behind its first; none where it has fewer.
-fn inner_part(literal: &[u8], n: usize) -> &[u8]
-    ensures { result.now ≡ part_of (Inner n) literal.now [] }
-{
-    if n < literal.len() {
-        let end = n + 1;
-        return &literal[1..end];
-    }
-    &literal[..0]
-}
-
-// The first so many bytes of a text buffer; none where it has fewer.
-fn front(text: &[u8], n: usize) -> &[u8]
-    ensures { result.now ≡ part_of (Written n) [] text.now }
-{
-    if n <= text.len() {
-        return &text[..n];
-    }
-    &text[..0]
 }
 
 // The text that an answer names, of the literal or of the text buffer; none where it is refused, or does not fit them.
-pub fn part<'a>(literal: &'a [u8], text: &'a [u8], answer: Unquoting) -> &'a [u8]
+#[tactic(auto, unfolding(crate::specs::Literal::part_of))]
+pub fn part<'a>(literal: &'a [u8], text: &'a [u8], answer: Result<Unquoted, Refusal>) -> &'a [u8]
     ensures { result.now ≡ part_of answer literal.now text.now }
 {
     match answer {
-        Unquoting::Inner(n) => inner_part(literal, n),
-        Unquoting::Written(n) => front(text, n),
-        Unquoting::Refused(_) => &text[..0],
+        Ok(Unquoted::Inner(n)) if n < literal.len() => &literal[1..n + 1],
+        Ok(Unquoted::Written(n)) if n <= text.len() => &text[..n],
+        _ => &text[..0],
     }
 }

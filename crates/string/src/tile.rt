@@ -1,5 +1,4 @@
 // What the content of a string literal goes on with: a character as it is, an escape, or neither.
-ghost use Rattle.std.proofs.Math.Option.{get_or};
 ghost use Rattle.std.specs.Prelude.{◌≡◌, ◌≤◌};
 ghost use Rattle.string.specs.Letters.{letter_value};
 ghost use Rattle.string.specs.Tile.{amount_from, is_byte, is_allowed, numbered, escape_of, begins_escape, tile_of};
@@ -18,18 +17,12 @@ pub enum Form {
     Point,
 }
 
-// A tile: how it is written, what it stands for and how many bytes it has; or none, since the literal is bad there.
+// A tile: how it is written, what it stands for and how many bytes it has.
 #[derive(Clone, Copy)]
-pub enum Tile {
-    Piece { form: Form, value: u32, size: usize },
-    Bad,
-}
-
-// What digits amount to.
-#[derive(Clone, Copy)]
-pub enum Amount {
-    Value(u32),
-    NotDigits,
+pub struct Piece {
+    pub form: Form,
+    pub value: u32,
+    pub size: usize,
 }
 
 pub const BACKSLASH: u8 = b'\\';
@@ -37,6 +30,8 @@ pub const BACKSLASH: u8 = b'\\';
 pub const BACKQUOTE: u8 = b'`';
 
 pub const LINE_FEED: u8 = b'\n';
+
+const NUL: u8 = 0;
 
 const ALERT: u32 = 0x07;
 
@@ -49,9 +44,6 @@ const VERTICAL_TAB: u32 = 0x0b;
 const FORM_FEED: u32 = 0x0c;
 
 const CARRIAGE_RETURN: u32 = 0x0d;
-
-// No letter stands for this code point.
-pub const NO_VALUE: u32 = 0;
 
 const LARGEST_BYTE: u32 = 0xff;
 
@@ -66,58 +58,53 @@ pub const BEHIND_BACKSLASH: usize = 1;
 
 pub const BEHIND_LETTER: usize = 2;
 
-// The code point that a letter behind the backslash stands for, or NO_VALUE.
-pub fn letter_value(quote: u8, c: u8) -> u32
-    ensures { result ≡ get_or (letter_value quote c) 0 }
+// The code point that a letter behind the backslash stands for, in a literal with a quote sign; NUL is no sign.
+#[tactic(auto, unfolding(crate::specs::Letters::letter_value, crate::specs::Letters::looked_up))]
+pub fn letter_value(quote: u8, c: u8) -> Option<u32>
+    ensures { result ≡ letter_value quote c }
 {
-    if c == quote {
-        return quote as u32;
+    if c == quote && quote != NUL {
+        return Some(u32::from(quote));
     }
     match c {
-        b'a' => ALERT,
-        b'b' => BACKSPACE,
-        b'f' => FORM_FEED,
-        b'n' => LINE_FEED as u32,
-        b'r' => CARRIAGE_RETURN,
-        b't' => TAB,
-        b'v' => VERTICAL_TAB,
-        b'\\' => BACKSLASH as u32,
-        _ => NO_VALUE,
+        b'a' => Some(ALERT),
+        b'b' => Some(BACKSPACE),
+        b'f' => Some(FORM_FEED),
+        b'n' => Some(u32::from(LINE_FEED)),
+        b'r' => Some(CARRIAGE_RETURN),
+        b't' => Some(TAB),
+        b'v' => Some(VERTICAL_TAB),
+        b'\\' => Some(u32::from(BACKSLASH)),
+        _ => None,
     }
 }
 
-// What the `count` digits of a radix from an offset on amount to.
-fn read_digits(s: &[u8], at: usize, count: usize, radix: usize) -> Amount
+// What the `count` digits of a radix from an offset on amount to; nothing where other bytes stand there.
+#[tactic(auto, using(crate::proofs::tile::Digits::grown, crate::proofs::tile::Digits::digits_on, crate::proofs::tile::Digits::digits_stop, crate::proofs::tile::Digits::digits_out, scan::proofs::byte::Classes::digit_bound))]
+fn read_digits(s: &[u8], at: usize, count: usize, radix: usize) -> Option<u32>
     requires { (at ≤ 2) × (count ≤ 8) × (radix ≤ 16) }
     ensures { result ≡ amount_from radix 0 count at s.now }
 {
     let mut value = 0;
-    let mut i = 0;
-    while i < count {
+    for i in 0..count {
         let c = byte::peek(s, at + i);
         if !byte::is_digit_in(radix, c) {
-            return Amount::NotDigits;
+            return None;
         }
         value = value * radix as u32 + byte::digit_of(c) as u32;
-        i += 1;
     }
-    Amount::Value(value)
+    Some(value)
 }
 
 // Whether a tile stands for one byte in the documented reading.
 pub fn is_byte(form: Form) -> bool
     ensures { result ≡ is_byte form }
 {
-    match form {
-        Form::Plain => false,
-        Form::Letter => false,
-        Form::Hex => true,
-        Form::Octal => true,
-        Form::Point => false,
-    }
+    matches!(form, Form::Hex | Form::Octal)
 }
 
 // Whether an escape may stand for a value: a byte, or a character's code point.
+#[tactic(auto, unfolding(crate::specs::Tile::is_allowed))]
 fn is_allowed(form: Form, value: u32) -> bool
     ensures { result ≡ is_allowed form value }
 {
@@ -128,36 +115,34 @@ fn is_allowed(form: Form, value: u32) -> bool
 }
 
 // An escape by so many digits of a radix.
-fn numbered(s: &[u8], form: Form, radix: usize, at: usize, count: usize) -> Tile
+#[tactic(auto, unfolding(crate::specs::Tile::numbered))]
+fn numbered(s: &[u8], form: Form, radix: usize, at: usize, count: usize) -> Option<Piece>
     requires { (at ≤ 2) × (count ≤ 8) × (radix ≤ 16) }
     ensures { result ≡ numbered form radix at count s.now }
 {
-    let n = read_digits(s, at, count, radix);
-    let Amount::Value(value) = n else {
-        return Tile::Bad;
-    };
+    let value = read_digits(s, at, count, radix)?;
     if !is_allowed(form, value) {
-        return Tile::Bad;
+        return None;
     }
-    let size = at + count;
-    Tile::Piece { form, value, size }
+    Some(Piece {
+        form,
+        value,
+        size: at + count,
+    })
 }
 
 // The escape that begins with a backslash.
-fn escape(s: &[u8], quote: u8) -> Tile
+#[tactic(auto, unfolding(crate::specs::Tile::escape_of))]
+fn escape(s: &[u8], quote: u8) -> Option<Piece>
     ensures { result ≡ escape_of quote s.now }
 {
-    if s.len() <= BEHIND_BACKSLASH {
-        return Tile::Bad;
-    }
-    let c = s[BEHIND_BACKSLASH];
-    let value = letter_value(quote, c);
-    if value != NO_VALUE {
-        return Tile::Piece {
+    let &c = s.get(BEHIND_BACKSLASH)?;
+    if let Some(value) = letter_value(quote, c) {
+        return Some(Piece {
             form: Form::Letter,
             value,
             size: BEHIND_LETTER,
-        };
+        });
     }
     match c {
         b'x' => numbered(s, Form::Hex, HEX, BEHIND_LETTER, 2),
@@ -168,38 +153,38 @@ fn escape(s: &[u8], quote: u8) -> Tile
 }
 
 // Whether a byte begins an escape, by the literal's quote sign.
+#[tactic(auto, unfolding(crate::specs::Tile::begins_escape))]
 fn begins_escape(quote: u8, c: usize) -> bool
     ensures { result ≡ begins_escape quote c }
 {
     c == BACKSLASH as usize && quote != BACKQUOTE
 }
 
-// The tile that bytes of a literal begin with, by the literal's quote sign.
-pub fn unquote_char(s: &[u8], quote: u8) -> Tile
+// The tile that bytes of a literal begin with, by the literal's quote sign; none, where the literal is bad there.
+#[tactic(auto, using(utf8::proofs::Bounds::ascii_at), unfolding(crate::specs::Tile::tile_of))]
+pub fn unquote_char(s: &[u8], quote: u8) -> Option<Piece>
     ensures { result ≡ tile_of quote s.now }
 {
     let first = byte::peek(s, 0);
     if first == quote as usize {
-        return Tile::Bad;
+        return None;
     }
     if begins_escape(quote, first) {
         return escape(s, quote);
     }
     if first <= LAST_ASCII as usize {
-        let value = first as u32;
-        return Tile::Piece {
+        return Some(Piece {
             form: Form::Plain,
-            value,
+            value: first as u32,
             size: 1,
-        };
+        });
     }
-    let a = utf8::char_at(s, ByteOffset(0));
-    let Character::Scalar { code, size } = a else {
-        return Tile::Bad;
-    };
-    Tile::Piece {
-        form: Form::Plain,
-        value: code,
-        size,
+    match utf8::char_at(s, ByteOffset(0)) {
+        Character::Scalar { code, size } => Some(Piece {
+            form: Form::Plain,
+            value: code,
+            size,
+        }),
+        Character::Nothing | Character::IllFormed => None,
     }
 }

@@ -1,12 +1,12 @@
 -- Lexing and reading of one string, as statements; `proofs/Backquoted` has the proof. Document 02, L5.
-use Rattle.std.specs.Prelude.{ℕ, suc, ◌-◌, ◌≤◌, List, ◌≡◌, length, take, drop}
+use Rattle.std.specs.Prelude.{ℕ, suc, ◌-◌, ◌≤◌, List, ◌≡◌, length, take, drop, Ok}
 use Rattle.scan.specs.Byte.{peek_at, backquote}
 use Rattle.token.specs.Kinds.{string}
 use Rattle.utf8.specs.declared.Reading.{Reading}
 use Rattle.utf8.specs.declared.Reading.TheVariants.{Documented}
 use Rattle.utf8.specs.Answers.{text_limit}
 use Rattle.utf8.specs.laws.Refusals.{Taken}
-use Rattle.string.specs.declared.Unquoting.TheVariants.{Inner}
+use Rattle.string.specs.declared.Unquoted.TheVariants.{Inner}
 use Rattle.string.specs.Literal.{unquoted, unquoting_of, part_of}
 use Rattle.lex.specs.Outcome.{Entry}
 use Rattle.lex.specs.Lex.{entries_of}
@@ -31,4 +31,4 @@ BackquotedGood =
     (both_signs ≤ e.length)
     × ((r : Reading) (d : List ℕ) →
     let u = unquoting_of r (length d) (literal_of q e) in
-    (u ≡ Inner (e.length - both_signs)) × (unquoted r (literal_of q e) ≡ between_signs q e) × (part_of u (literal_of q e) d ≡ between_signs q e))
+    (u ≡ Ok (Inner (e.length - both_signs))) × (unquoted r (literal_of q e) ≡ between_signs q e) × (part_of u (literal_of q e) d ≡ between_signs q e))

@@ -1,55 +1,51 @@
 -- Laws of escaping. A byte is escaped to one or two; text escaped byte by byte is the text escaped by characters, since the five that
 -- have a letter are ASCII, and the bytes of a longer character have none.
 use Prim.Native.Nat.{ℕ, suc, ◌+◌, ◌<◌, ◌≤◌}
-use native.Mathlib.Nat.{zero-add}
 use native.Mathlib.Numerals.{add-one}
 use native.Mathlib.Omega.{arith}
 use native.Mathlib.Decide.{dec_lt}
 use mathlib.Core.Bool.{Bool, true, ◌&&◌}
 use mathlib.Core.List.{List, [], ◌∷◌, ◌++◌, append_assoc, append-nil}
-use mathlib.Core.Option
-use mathlib.Core.Option.{Option, none, some}
+use Rattle.std.specs.Prelude.{None, Ok, Option, Some}
 use mathlib.Core.Path.{◌≡◌, refl, sym, ap, ◌∙◌}
 use lib.Dec.{ltb}
-use lib.ListN.{length, get_or, drop}
-use lib.Seq.{take-length, drop-cons, sets, sets-eq}
-use borrow.Author.Tests.{ne_eqb, le-leb, lt-leb, lt-ltb}
-use Rattle.std.specs.Prelude.{Err, Ok}
+use lib.ListN.{length, get_or, drop, drop_of_length-le, length-append}
+use lib.Seq.{take-length, drop-cons, sets}
+use borrow.Author.Tests.{ne_eqb, lt-ltb}
 use Rattle.scan.specs.Ascii.{ascii}
 use Rattle.scan.specs.Byte.{peek_at, backslash, double_quote}
 use Rattle.proving.proofs.Choice.{either, and_left, and_right}
+use Rattle.proving.proofs.Stores.{sets_join}
 use Rattle.utf8.specs.Table.{char_length}
 use Rattle.utf8.specs.Code.{code_of, encoded}
 use Rattle.utf8.specs.Text.{WellFormed}
 use Rattle.utf8.specs.declared.CharNumber.{CharNumber}
-use Rattle.utf8.specs.declared.Refusal.{Refusal}
-use Rattle.utf8.specs.Answers.{text_limit, no_room, admitted}
+use Rattle.utf8.specs.Answers.{text_limit, admitted}
 use Rattle.utf8.specs.laws.Characters.{One}
 use Rattle.utf8.proofs.Texts.{chars_one, by_characters}
 use Rattle.utf8.proofs.Laws.{steps, none_empty, rest_well, none_ascii, ascii_code, one_text, text_join}
 use Rattle.utf8.proofs.Ascii.{ascii_text, one_ascii}
 use Rattle.utf8.proofs.Given.{admitted_text}
 use Rattle.utf8.proofs.Inverse.{decode_encode, long_code}
-use Rattle.utf8.specs.Writing.{left_by}
 use Rattle.string.specs.Letters.{looked_up, letter_value, is_for, letter_among, letter_of}
-use Rattle.string.specs.Escape.{or_letter, escaped, escaping_of}
+use Rattle.string.specs.Escape.{or_letter, escaped}
 use Rattle.string.specs.laws.Escape.{EscapeJoin, EscapedText}
 use Rattle.string.specs.steps.Bytes.{escaped_byte, escaped_bytes}
-use Rattle.string.proofs.tile.Letters.{passes, every, none_is}
+use Rattle.string.proofs.tile.Letters.{passes, every}
 
 module _ (b : ℕ) where
-  pub copied : letter_of b ≡ none → escaped_byte b ≡ b ∷ []
+  pub copied : letter_of b ≡ None → escaped_byte b ≡ b ∷ []
   copied e = rw e
 
-  pub lettered : (l : ℕ) → letter_of b ≡ some l → escaped_byte b ≡ backslash ∷ l ∷ []
+  pub lettered : (l : ℕ) → letter_of b ≡ Some l → escaped_byte b ≡ backslash ∷ l ∷ []
   lettered l e = rw e
 
   pub byte_few : length (escaped_byte b) ≤ 2
   byte_few = go (letter_of b)
     where
       go : (o : Option ℕ) → length (or_letter (b ∷ []) o) ≤ 2
-      go (some l) = omega arith
-      go none = omega arith
+      go (Some l) = omega arith
+      go None = omega arith
 
 -- the letters that are written are ASCII, and no NUL
 abbrev is_letter : ℕ → Bool
@@ -66,24 +62,32 @@ letter_is : (c : ℕ) → passes is_letter (letter_of c) ≡ true
 unfolding letter_of
 letter_is c = letter_among_holds (ascii "\\\"nrt") c refl
 
-pub uncopied : (c : ℕ) → Option.get_or (letter_of c) 0 ≡ 0 → letter_of c ≡ none
-uncopied c = none_is (letter_of c) (go (letter_of c) (letter_is c))
-  where
-    go : (o : Option ℕ) → passes is_letter o ≡ true → passes (ltb 0) o ≡ true
-    go (some l) e = and_left (ltb 0 l) (ltb l 0x80) e
-    go none e = refl
-
 -- from i on: the byte there, and what follows it
 pub next : (xs : List ℕ) (i : ℕ) → i < length xs → escaped_bytes (drop i xs) ≡ escaped_byte (get_or xs i 0) ++ escaped_bytes (drop (i + 1) xs)
 unfolding escaped_bytes
 next xs i h = rw (drop-cons xs i 0 h, add-one)
+
+pub next_length : (xs : List ℕ) (i : ℕ) → i < length xs → length (escaped_bytes (drop i xs)) ≡ length (escaped_byte (get_or xs i 0)) + length (escaped_bytes (drop (i + 1) xs))
+next_length xs i h = rw (next xs i h) (length-append _ _)
+
+pub over_length : (xs : List ℕ) (i : ℕ) → length xs ≤ i → length (escaped_bytes (drop i xs)) ≡ 0
+unfolding escaped_bytes
+over_length xs i h = rw (drop_of_length-le xs h)
+
+-- and where they are written
+pub next_written : (xs out : List ℕ) (i at : ℕ) → i < length xs → sets out at (escaped_bytes (drop i xs)) ≡ sets (sets out at (escaped_byte (get_or xs i 0))) (at + length (escaped_byte (get_or xs i 0))) (escaped_bytes (drop (i + 1) xs))
+next_written xs out i at h = rw (next xs i h, sets_join)
+
+pub over_written : (xs out : List ℕ) (i at : ℕ) → length xs ≤ i → sets out at (escaped_bytes (drop i xs)) ≡ out
+unfolding escaped_bytes
+over_written xs out i at h = rw (drop_of_length-le xs h)
 
 pub empty_escaped : escaped_bytes [] ≡ []
 unfolding escaped_bytes
 empty_escaped = refl
 
 -- what is not ASCII has no letter
-high : (c : ℕ) → 0x80 ≤ c → letter_of c ≡ none
+high : (c : ℕ) → 0x80 ≤ c → letter_of c ≡ None
 unfolding letter_of letter_among letter_value looked_up
 high c h =
     rw (ne_eqb 92 c (λ e. omega arith), ne_eqb 34 c (λ e. omega arith), ne_eqb 10 c (λ e. omega arith), ne_eqb 13 c (λ e. omega arith), ne_eqb 9 c (λ e. omega arith))
@@ -143,8 +147,8 @@ byte_text : (b : ℕ) → b < 0x80 → WellFormed (escaped_byte b)
 byte_text b l = go (letter_of b) (letter_is b)
   where
     go : (o : Option ℕ) → passes is_letter o ≡ true → WellFormed (or_letter (b ∷ []) o)
-    go (some k) e = (ascii_text (backslash ∷ k ∷ []) (rw (and_right (ltb 0 k) (ltb k 0x80) e))).0
-    go none e = (ascii_text (b ∷ []) (rw (lt-ltb b 0x80 l))).0
+    go (Some k) e = (ascii_text (backslash ∷ k ∷ []) (rw (and_right (ltb 0 k) (ltb k 0x80) e))).0
+    go None e = (ascii_text (b ∷ []) (rw (lt-ltb b 0x80 l))).0
 
 one_escaped : (bs : List ℕ) → One bs → WellFormed (escaped_bytes bs)
 one_escaped bs o = go bs o (dec_lt 1 (length bs))
@@ -164,23 +168,10 @@ escaped_text xs w = rw (by_characters_escaped xs w) (go xs w)
         (λ xs e w. rw (none_empty xs e w, empty_escaped) (ascii_text [] refl).0)
         (λ bs ys o ih w. rw (bytes_join bs ys) (text_join (escaped_bytes bs) (escaped_bytes ys) (one_escaped bs o) (ih (rest_well bs ys o w))))
 
--- the answers, by what is admitted and the room
-module _ (xs d : List ℕ) where
-  pub refused_first : (r : Refusal) → admitted text_limit xs ≡ Err r → Err r ≡ escaping_of (length d) xs
-  unfolding escaping_of
-  refused_first r a = rw a
+-- a text that is admitted is within the limit, and escaped byte by byte
+module _ (xs : List ℕ) (n : CharNumber) (a : admitted text_limit xs ≡ Ok n) where
+  pub admitted_few : length xs ≤ text_limit
+  admitted_few = omega (arith, (admitted_text text_limit xs n a).0)
 
-  module _ (n : CharNumber) (a : admitted text_limit xs ≡ Ok n) where
-    by_bytes : escaped xs ≡ escaped_bytes xs
-    by_bytes = by_characters_escaped xs (admitted_text text_limit xs n a).1
-
-    pub not_fitted : length d < length (escaped_bytes xs) → Err no_room ≡ escaping_of (length d) xs
-    unfolding escaping_of
-    not_fitted h = rw (a, by_bytes, lt-leb (length (escaped_bytes xs)) (length d) h)
-
-    pub written : length (escaped_bytes xs) ≤ length d → Ok (length (escaped_bytes xs)) ≡ escaping_of (length d) xs
-    unfolding escaping_of
-    written h = rw (a, by_bytes, le-leb (length (escaped_bytes xs)) (length d) h)
-
-    pub left : length (escaped_bytes xs) ≤ length d → sets d 0 (escaped_bytes xs) ≡ left_by (Ok (length (escaped_bytes xs))) (escaped xs) d
-    left h = rw by_bytes (sets-eq (escaped_bytes xs) d 0 (omega arith) ∙ rw zero-add)
+  pub admitted_bytes : escaped xs ≡ escaped_bytes xs
+  admitted_bytes = by_characters_escaped xs (admitted_text text_limit xs n a).1

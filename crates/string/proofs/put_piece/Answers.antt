@@ -1,18 +1,14 @@
 -- One byte is stored: an ASCII character's, or a byte escape's, whose value is at most 255. Any other character is encoded, and every value
 -- that a form may have is one.
-use Prim.Native.Nat.{ℕ, ◌+◌, ◌≤◌}
-use native.Mathlib.Omega.{arith}
-use mathlib.Core.Bool.{Bool, true, false, ◌||◌, true≢false}
-use mathlib.Core.List.{[], ◌∷◌}
-use mathlib.Core.Path.{◌≡◌, refl, sym, ap, ◌∙◌}
-use lib.ListN.{length}
+use Rattle.std.proofs.Common.{ℕ, ◌+◌, ◌≤◌, Bool, true, false, ◌||◌, List, [], ◌∷◌, ◌≡◌, refl, sym, ap, ◌∙◌, length, Ok, arith}
+use Rattle.std.proofs.lemmas.List.Edits.{sets}
+use mathlib.Core.Bool.{true≢false}
 use lib.Dec.{leb}
 use borrow.Author.Tests.{leb-true}
-use Rattle.utf8.specs.declared.Refusal.{Refusal}
-use Rattle.std.specs.Prelude.{Ok, Result}
 use Rattle.utf8.specs.declared.Reading.{Reading}
 use Rattle.utf8.specs.declared.Reading.TheVariants.{Crate, Documented}
 use Rattle.utf8.specs.Code.{is_scalar, encoded}
+use Rattle.utf8.specs.Encode.{encoding_of}
 use Rattle.utf8.specs.Writing.{left_at}
 use Rattle.utf8.proofs.Bounds.{byte_scalar}
 use Rattle.utf8.proofs.encode.Bounds.{encoding_fits, written_sets}
@@ -22,7 +18,7 @@ use Rattle.string.specs.Tiles.{gives_byte, piece_bytes}
 use Rattle.string.specs.steps.Measure.{is_single}
 use Rattle.string.proofs.Contents.{single, several}
 use Rattle.string.proofs.put_piece.Goals as goal
-use Rattle.string.proofs.put_piece.Goals.{After-encode-e, In-Written, Start, Then-is_single}
+use Rattle.string.proofs.put_piece.Goals.{After-encode, After-unwrap, Start, Then-is_single}
 
 module _ (f : Form) (v : ℕ) (a : is_allowed f v ≡ true) where
   byte_small : (r : Reading) → is_single r f v ≡ true → v ≤ 0xff
@@ -42,53 +38,44 @@ module _ (f : Form) (v : ℕ) (a : is_allowed f v ≡ true) where
       go true e = byte_scalar v (leb-true v 0xff (rw e at a))
       go false e = rw e at a
 
-one : (c : Then-is_single) → let a = c.args in is_single a.reading a.form a.value ≡ true
-one c = sym c.is_single.ensures ∙ c.if-is_single.true
+  stored : (r : Reading) → is_single r f v ≡ true → (piece_bytes r f v ≡ v ∷ []) × (v ≤ 0xff)
+  stored r s = (single r f v s, byte_small r s)
 
-stored : (c : Then-is_single) → let a = c.args in piece_bytes a.reading a.form a.value ≡ a.value ∷ []
-stored c = let a = c.args in single a.reading a.form a.value (one c)
+  written : (r : Reading) (at : ℕ) (d : List ℕ) → is_single r f v ≡ false → at + length (piece_bytes r f v) ≤ length d → (encoding_of v (length d) at ≡ Ok (length (piece_bytes r f v))) × (left_at at (encoding_of v (length d) at) (encoded v) d ≡ sets d at (piece_bytes r f v))
+  written r at d s h =
+      let k : at + length (encoded v) ≤ length d = omega (arith, h, ap length (several r f v s)) in
+      let e = encoding_fits v (length d) at scalar k in
+      rw (several r f v s, e) (refl, written_sets (encoded v) d at k)
+
+one : (c : Then-is_single) → let a = c.args in (piece_bytes a.reading a.form a.value ≡ a.value ∷ []) × (a.value ≤ 0xff)
+one c =
+    let a = (goal.at.Then-is_single c).Start in
+    stored a.args.form a.args.value a.requires.value_value a.args.reading (sym c.is_single.ensures ∙ c.if-is_single.true)
 
 pub overflow_cast-out : goal.overflow_cast-out
-overflow_cast-out c =
-    let a = (goal.at.overflow_cast-out c).Start in
-    omega (arith, byte_small a.args.form a.args.value a.requires.value_value a.args.reading (one c))
+overflow_cast-out c = omega (arith, (one c).1)
 
 pub bounds-out-at : goal.bounds-out-at
-bounds-out-at c = omega (arith, c.requires.value_in_bounds, ap length (stored c))
+bounds-out-at c = omega (arith, ap length (one c).0, c.requires.value_in_bounds)
 
 pub returns-then-is_single : goal.returns-then-is_single
-returns-then-is_single c = rw (stored c) record { value = refl; out_after = refl }
+returns-then-is_single c = rw ((one c).0) record { value = refl; out_after = refl }
 
--- the character has room
-module _ (c : After-encode-e) where
-  abbrev a : Start
-  a = (goal.at.After-encode-e c).Start
+-- it has room
+more : (c : After-encode) → let a = c.args in (c.encode.result ≡ Ok (length (piece_bytes a.reading a.form a.value))) × (c.encode.new.out ≡ sets a.out.now a.at (piece_bytes a.reading a.form a.value))
+more c =
+    let a = (goal.at.After-encode c).Start in
+    let w = written a.args.form a.args.value a.requires.value_value a.args.reading a.args.at a.args.out.now (sym c.is_single.ensures ∙ c.if-is_single.false) a.requires.value_in_bounds in
+    (c.encode.ensures.value ∙ w.0, cc (w.1, c.encode.ensures.value, c.encode.ensures.out_after))
 
-  its : piece_bytes a.args.reading a.args.form a.args.value ≡ encoded a.args.value
-  its = several a.args.reading a.args.form a.args.value (sym c.is_single.ensures ∙ c.if-is_single.false)
+pub unwrap-requires : goal.unwrap-requires
+unwrap-requires c = rw (more (goal.at.unwrap-requires c).After-encode).0
 
-  fits : a.args.at + length (encoded a.args.value) ≤ length a.args.out.now
-  fits = omega (arith, a.requires.value_in_bounds, ap length its)
-
-  written : c.encode-e.result ≡ Ok (length (encoded a.args.value))
-  written = c.encode-e.ensures.value ∙ encoding_fits a.args.value (length a.args.out.now) a.args.at (scalar a.args.form a.args.value a.requires.value_value) fits
-
-pub returns-in_default : goal.returns-in_default
-returns-in_default c =
-    let e = sym c.in_default.is ∙ written (goal.at.returns-in_default c).After-encode-e in
-    let z : ◌≡◌ {A = ℕ} 0 1 = cc in absurd (omega arith)
-
-size : (c : In-Written) → c.in-Written.n ≡ length (encoded (a (goal.at.In-Written c).After-encode-e).args.value)
-size c = let e = sym c.in-Written.is ∙ written (goal.at.In-Written c).After-encode-e in cc
+size : (c : After-unwrap) → let a = c.args in c.unwrap.result ≡ length (piece_bytes a.reading a.form a.value)
+size c = cc (c.unwrap.ensures, (more (goal.at.After-unwrap c).After-encode).0)
 
 pub overflow_add-result-2 : goal.overflow_add-result-2
-overflow_add-result-2 c = omega (arith, size c, fits (goal.at.overflow_add-result-2 c).After-encode-e)
+overflow_add-result-2 c = omega (arith, size c, c.requires.value_in_bounds)
 
 pub returns : goal.returns
-returns c =
-    let d = (goal.at.returns c).After-encode-e in
-    let out = (a d).args.out.now in
-    rw (size c, its d) record {
-      value = refl;
-      out_after = d.encode-e.ensures.out_after ∙ ap (λ (e : Result ℕ Refusal). left_at (a d).args.at e (encoded (a d).args.value) out) (written d) ∙ written_sets (encoded (a d).args.value) out (a d).args.at (fits d);
-    }
+returns c = rw (size c) record { value = refl; out_after = (more (goal.at.returns c).After-encode).1 }

@@ -5,7 +5,7 @@ use native.Mathlib.Decide.{dec_lt, ℕ_discrete}
 use mathlib.Core.Bool.{true, not}
 use mathlib.Core.List.{List, [], ◌∷◌}
 use mathlib.Core.Logic.{◌⊎◌, inl, inr}
-use mathlib.Core.Option.{some}
+use Rattle.std.specs.Prelude.{None, Option, Some}
 use mathlib.Core.Path.{◌≡◌, refl, sym, ◌∙◌}
 use lib.Dec.{eqb, ltb}
 use lib.ListN.{drop}
@@ -24,19 +24,16 @@ use Rattle.utf8.proofs.Bounds.{first_character}
 use Rattle.utf8.proofs.Laws.{ascii_head, rest_text}
 use Rattle.string.specs.declared.tile.Form.{Form}
 use Rattle.string.specs.declared.tile.Form.TheVariants.{Hex, Octal, Point}
-use Rattle.string.specs.declared.tile.Amount.{Amount}
-use Rattle.string.specs.declared.tile.Amount.TheVariants.{Value, NotDigits}
-use Rattle.string.specs.declared.tile.Tile.{Tile}
-use Rattle.string.specs.declared.tile.Tile.TheVariants.{Piece, Bad}
 use Rattle.string.specs.Letters.{letter_value}
 use Rattle.string.specs.Tile.{amount_from, is_allowed, numbered_as, numbered, escape_of, begins_escape, plain_of, tile_of}
 use Rattle.string.proofs.tile.Digits.{here, turn}
 use Rattle.string.proofs.tile.Letters.{letter_told}
 use Rattle.string.proofs.tile.Forms.{by_letter}
+use Rattle.string.specs.declared.tile.Piece.{Piece}
 
-abbrev pub TextAfter : List ℕ → Tile → Type 0
-TextAfter xs (Piece f v n) = WellFormed (drop n xs)
-TextAfter xs Bad = Unit {0}
+abbrev pub TextAfter : List ℕ → Option Piece → Type 0
+TextAfter xs (Some p) = WellFormed (drop p.size xs)
+TextAfter xs None = Unit {0}
 
 -- ASCII bytes are passed one by one
 ascii_drop : (n : ℕ) (xs : List ℕ) → ((i : ℕ) → i < n → peek_at xs i < 0x80) → WellFormed xs → WellFormed (drop n xs)
@@ -46,7 +43,7 @@ ascii_drop (suc n) (x ∷ xs) a w =
     ascii_drop n xs (λ i l. a (suc i) (omega arith)) (omega (arith, (ascii_head x xs (a 0 (omega arith))).0, w))
 
 -- each place of digits
-places : (radix : ℕ) (xs : List ℕ) (n v at w : ℕ) → amount_from radix v n at xs ≡ Value w → (i : ℕ) → at ≤ i → i < at + n → peek_at xs i < 0x80
+places : (radix : ℕ) (xs : List ℕ) (n v at w : ℕ) → amount_from radix v n at xs ≡ Some w → (i : ℕ) → at ≤ i → i < at + n → peek_at xs i < 0x80
 places radix xs zero v at w e i l m = let f : ⊥ = omega arith in absurd f
 places radix xs (suc n) v at w e i l m =
     let d = here radix xs n v at w e in
@@ -67,16 +64,16 @@ module _ (xs : List ℕ) (w : WellFormed xs) (b : peek_at xs 0 ≡ backslash) wh
   unfolding numbered
   numbered_text f radix at n a = go (amount_from radix 0 n at xs) refl
     where
-      all : (v : ℕ) → amount_from radix 0 n at xs ≡ Value v → (i : ℕ) → i < at + n → peek_at xs i < 0x80
+      all : (v : ℕ) → amount_from radix 0 n at xs ≡ Some v → (i : ℕ) → i < at + n → peek_at xs i < 0x80
       all v e i l = by (dec_lt i at)
         where
           by : Dec (i < at) → peek_at xs i < 0x80
           by (yes m) = a i m
           by (no m) = places radix xs n 0 at v e i (omega arith) l
 
-      go : (m : Amount) → amount_from radix 0 n at xs ≡ m → TextAfter xs (numbered_as f (at + n) m)
-      go (Value v) e = either (TextAfter xs) (is_allowed f v) (λ t. ascii_drop (at + n) xs (all v e) w) (λ t. tt)
-      go NotDigits e = tt
+      go : (m : Option ℕ) → amount_from radix 0 n at xs ≡ m → TextAfter xs (numbered_as f (at + n) m)
+      go (Some v) e = either (TextAfter xs) (is_allowed f v) (λ t. ascii_drop (at + n) xs (all v e) w) (λ t. tt)
+      go None e = tt
 
   two : peek_at xs 1 < 0x80 → (i : ℕ) → i < 2 → peek_at xs i < 0x80
   two l zero m = rw b (omega arith)
@@ -87,7 +84,7 @@ module _ (xs : List ℕ) (w : WellFormed xs) (b : peek_at xs 0 ≡ backslash) wh
   one zero m = rw b (omega arith)
   one (suc i) m = let f : ⊥ = omega arith in absurd f
 
-  letter_ascii : (q v : ℕ) → q < 0x80 → letter_value q (peek_at xs 1) ≡ some v → peek_at xs 1 < 0x80
+  letter_ascii : (q v : ℕ) → q < 0x80 → letter_value q (peek_at xs 1) ≡ Some v → peek_at xs 1 < 0x80
   letter_ascii q v l e = go (letter_told q (peek_at xs 1) v e)
     where
       go : (peek_at xs 1 ≡ q) ⊎ Stands (peek_at xs 1) (ascii "abfnrtv\\") → peek_at xs 1 < 0x80
@@ -97,7 +94,7 @@ module _ (xs : List ℕ) (w : WellFormed xs) (b : peek_at xs 0 ≡ backslash) wh
   escape_text : (q : ℕ) → q < 0x80 → TextAfter xs (escape_of q xs)
   unfolding escape_of
   escape_text q l =
-      let P : Tile → Type 0 = TextAfter xs in
+      let P : Option Piece → Type 0 = TextAfter xs in
       let c = peek_at xs 1 in
       by_letter P (letter_value q c) (λ v e. ascii_drop 2 xs (two (letter_ascii q v l e)) w)
       (λ e. either P (eqb c 120) (λ e. numbered_text Hex 16 2 2 (two (omega (arith, eqb-true c 120 e))))
@@ -123,6 +120,6 @@ begins q c e = eqb-true c backslash (and_left (eqb c backslash) (not (eqb q back
 pub text_behind : (q : ℕ) (xs : List ℕ) → q < 0x80 → WellFormed xs → TextAfter xs (tile_of q xs)
 unfolding tile_of
 text_behind q xs l w =
-    let P : Tile → Type 0 = TextAfter xs in
+    let P : Option Piece → Type 0 = TextAfter xs in
     either P (eqb (peek_at xs 0) q) (λ e. tt)
     (λ e. either P (begins_escape q (peek_at xs 0)) (λ e. escape_text xs w (begins q (peek_at xs 0) e) q l) (λ e. plain_text_holds xs w))

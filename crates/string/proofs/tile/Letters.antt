@@ -1,29 +1,29 @@
--- A letter stands for a code point exactly where it is the sign or one of 01's letters, since the table is looked through from its front;
--- and no letter stands for NUL, so that the code may answer 0 for none.
-use Prim.Native.Nat.{ℕ, ◌<◌}
+-- A letter stands for a code point exactly where it is the sign or one of 01's letters, since the table is looked through from its front.
+use Prim.Native.Nat.{ℕ, ◌<◌, ◌+◌, ◌≤◌}
 use native.Mathlib.Omega.{arith}
 use mathlib.Core.Bool.{Bool, true, false, cond, ◌&&◌, ◌||◌}
 use mathlib.Core.List.{List, [], ◌∷◌, map}
 use mathlib.Core.Logic.{◌⊎◌, inl, inr}
-use mathlib.Core.Option.{Option, none, some, get_or}
-use mathlib.Core.Path.{◌≡◌, refl, sym, ap, subst}
-use lib.Dec.{eqb, ltb}
-use borrow.Author.Tests.{eq-eqb, eqb-true, lt-ltb, ltb-true}
+use Rattle.std.specs.Prelude.{None, Option, Some, is_some}
+use mathlib.Core.Path.{◌≡◌, refl, sym, ap, subst, ◌∙◌}
+use lib.Dec.{eqb, ltb, leb}
+use borrow.Author.Tests.{eq-eqb, eqb-true, lt-ltb, ltb-true, ne_eqb, le-leb, leb-true}
 use Rattle.scan.specs.Ascii.{ascii}
 use Rattle.scan.specs.Text.{has, Stands}
 use Rattle.proving.proofs.Choice.{either, and_left, and_right}
 use Rattle.proving.proofs.Tests.{Tests}
 use Rattle.scan.proofs.Stands.{tests_has}
 use Rattle.string.specs.Letters.{letters, looked_up, is_own_sign, letter_value}
-
-abbrev pub is_some : Option ℕ → Bool
-is_some (some v) = true
-is_some none = false
+use Rattle.scan.specs.Byte.{peek_at, backslash, backquote}
+use Rattle.string.specs.Tile.{piece, tile_of, begins_escape, escape_of}
+use Rattle.string.specs.declared.tile.Form.TheVariants.{Letter}
+use Rattle.string.proofs.Bytes.{peek_here, peek_behind}
+use lib.ListN.{length, get_or, drop}
 
 -- what is found passes a test
 abbrev pub passes : (ℕ → Bool) → Option ℕ → Bool
-passes p (some v) = p v
-passes p none = true
+passes p (Some v) = p v
+passes p None = true
 
 abbrev pub every : (ℕ → Bool) → List ℕ → Bool
 every p [] = true
@@ -41,7 +41,7 @@ unfolding looked_up has
 in_table [] c = refl
 in_table (r ∷ rs) c = go (eqb r.0 c) (in_table rs c)
   where
-    go : (b : Bool) → is_some (looked_up rs c) ≡ has c (keys rs) → is_some (cond b (some r.1) (looked_up rs c)) ≡ b || has c (keys rs)
+    go : (b : Bool) → is_some (looked_up rs c) ≡ has c (keys rs) → is_some (cond b (Some r.1) (looked_up rs c)) ≡ b || has c (keys rs)
     go true e = refl
     go false e = e
 
@@ -56,10 +56,10 @@ tests_table : (c : ℕ) → Tests (is_some (looked_up letters c)) (Stands c (asc
 tests_table c = subst (λ (b : Bool). Tests b (Stands c (ascii "abfnrtv\\"))) (sym (in_table letters c)) (tests_has c (ascii "abfnrtv\\"))
 
 module _ (q c : ℕ) where
-  pub letter_told : (v : ℕ) → letter_value q c ≡ some v → (c ≡ q) ⊎ Stands c (ascii "abfnrtv\\")
+  pub letter_told : (v : ℕ) → letter_value q c ≡ Some v → (c ≡ q) ⊎ Stands c (ascii "abfnrtv\\")
   unfolding letter_value
   letter_told v =
-      either (λ (o : Option ℕ). o ≡ some v → (c ≡ q) ⊎ Stands c (ascii "abfnrtv\\")) (is_own_sign q c)
+      either (λ (o : Option ℕ). o ≡ Some v → (c ≡ q) ⊎ Stands c (ascii "abfnrtv\\")) (is_own_sign q c)
       (λ t e. inl (eqb-true c q (and_left (eqb c q) (ltb 0 q) t)))
       (λ t e. inr ((tests_table c).0 (ap is_some e)))
 
@@ -68,7 +68,7 @@ module _ (q c : ℕ) where
   letter_some h (inl e) = rw (eq-eqb c q e, lt-ltb 0 q h)
   letter_some h (inr s) = either (λ (o : Option ℕ). is_some o ≡ true) (is_own_sign q c) (λ t. refl) (λ t. (tests_table c).1 s)
 
-  -- every value is some sign or one of the table's
+  -- every value is Some sign or one of the table's
   pub letter_passes : (p : ℕ → Bool) → (0 < q → p q ≡ true) → every p (values letters) ≡ true → passes p (letter_value q c) ≡ true
   unfolding letter_value
   letter_passes p s a =
@@ -76,14 +76,15 @@ module _ (q c : ℕ) where
       (λ t. s (ltb-true 0 q (and_right (eqb c q) (ltb 0 q) t)))
       (λ t. value_passes p letters c a)
 
--- what is found is no NUL, so that 0 can be told for none
-pub none_is : (o : Option ℕ) → passes (ltb 0) o ≡ true → get_or o 0 ≡ 0 → o ≡ none
-none_is none p e = refl
-none_is (some v) p e = absurd (omega (arith, ltb-true 0 v p))
+-- what a letter behind a backslash at a place stands for is a tile there, and is ASCII, as signs are
+pub letter_tile : (q v : ℕ) (xs : List ℕ) (at : ℕ) → at + 1 < length xs → get_or xs at 0 ≡ backslash → (backslash ≡ q → ⊥) → (q ≡ backquote → ⊥) → letter_value q (get_or xs (at + 1) 0) ≡ Some v → tile_of q (drop at xs) ≡ piece Letter v 2
+unfolding tile_of begins_escape escape_of
+letter_tile q v xs at k e n m l =
+    let here : peek_at (drop at xs) 0 ≡ backslash = peek_here xs at (omega arith) ∙ e in
+    let behind = peek_behind xs at 1 k in
+    rw (here, ne_eqb backslash q n, ne_eqb q backquote m, behind, l)
 
-pub some_is : (o : Option ℕ) → (get_or o 0 ≡ 0 → ⊥) → o ≡ some (get_or o 0)
-some_is none n = absurd (n refl)
-some_is (some v) n = refl
-
-pub letter_none : (q c : ℕ) → get_or (letter_value q c) 0 ≡ 0 → letter_value q c ≡ none
-letter_none q c = none_is (letter_value q c) (letter_passes q c (ltb 0) (lt-ltb 0 q) refl)
+pub letter_small : (q c v : ℕ) → q < 0x80 → letter_value q c ≡ Some v → v ≤ 0x7f
+letter_small q c v h e =
+    let p : ℕ → Bool = λ n. leb n 0x7f in
+    leb-true v 0x7f (sym (ap (passes p) e) ∙ letter_passes q c p (λ s. le-leb q 0x7f (omega arith)) refl)

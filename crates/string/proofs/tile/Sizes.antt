@@ -15,27 +15,25 @@ use Rattle.utf8.specs.Answers.{character_at}
 use Rattle.utf8.proofs.Bounds.{first_character}
 use Rattle.string.specs.declared.tile.Form.{Form}
 use Rattle.string.specs.declared.tile.Form.TheVariants.{Hex, Octal, Point}
-use Rattle.string.specs.declared.tile.Amount.{Amount}
-use Rattle.string.specs.declared.tile.Amount.TheVariants.{Value, NotDigits}
-use Rattle.string.specs.declared.tile.Tile.{Tile}
-use Rattle.string.specs.declared.tile.Tile.TheVariants.{Piece, Bad}
 use Rattle.string.specs.Letters.{letter_value}
 use Rattle.string.specs.Tile.{amount_from, is_allowed, numbered_as, numbered, escape_of, begins_escape, plain_of, tile_of}
 use Rattle.string.specs.laws.Tile.{SizedAs, PieceSized}
 use Rattle.string.proofs.tile.Forms.{by_letter}
+use Rattle.std.specs.Prelude.{None, Option, Some}
+use Rattle.string.specs.declared.tile.Piece.{Piece}
 
-abbrev Sized : List ℕ → Tile → Type 0
-Sized xs (Piece f v n) = SizedAs f xs n
-Sized xs Bad = Unit {0}
+abbrev Sized : List ℕ → Option Piece → Type 0
+Sized xs (Some p) = SizedAs p.form xs p.size
+Sized xs None = Unit {0}
 
 module _ (xs : List ℕ) where
   numbered_sized : (f : Form) (radix at n : ℕ) → SizedAs f xs (at + n) → Sized xs (numbered f radix at n xs)
   unfolding numbered
   numbered_sized f radix at n s = go (amount_from radix 0 n at xs)
     where
-      go : (m : Amount) → Sized xs (numbered_as f (at + n) m)
-      go (Value v) = either (Sized xs) (is_allowed f v) (λ t. s) (λ t. tt)
-      go NotDigits = tt
+      go : (m : Option ℕ) → Sized xs (numbered_as f (at + n) m)
+      go (Some v) = either (Sized xs) (is_allowed f v) (λ t. s) (λ t. tt)
+      go None = tt
 
   plain_sized : Sized xs (plain_of (character_at xs 0))
   plain_sized = go (ℕ_discrete (char_length xs) 0)
@@ -51,7 +49,7 @@ module _ (xs : List ℕ) where
   tile_sized : (q : ℕ) → Sized xs (tile_of q xs)
   unfolding tile_of escape_of
   tile_sized q =
-      let P : Tile → Type 0 = Sized xs in
+      let P : Option Piece → Type 0 = Sized xs in
       let c = peek_at xs 1 in
       either P (eqb (peek_at xs 0) q) (λ e. tt)
       (λ e. either P (begins_escape q (peek_at xs 0))

@@ -6,7 +6,7 @@ use native.Mathlib.Decide.{dec_lt, ℕ_discrete}
 use mathlib.Core.Bool.{Bool, true, true≢false}
 use mathlib.Core.List.{List}
 use mathlib.Core.Logic.{◌⊎◌, inl, inr}
-use mathlib.Core.Option.{none, some}
+use Rattle.std.specs.Prelude.{None, Option, Some, is_some}
 use mathlib.Core.Path.{◌≡◌, refl, sym, ap, ◌∙◌}
 use lib.Dec.{eqb, ltb}
 use lib.ListN.{length, get_or-eq_default}
@@ -24,15 +24,12 @@ use Rattle.utf8.proofs.Bounds.{first_character, byte_scalar, encoded_bound}
 use Rattle.utf8.proofs.Inverse.{decode_encode}
 use Rattle.string.specs.declared.tile.Form.{Form}
 use Rattle.string.specs.declared.tile.Form.TheVariants.{Plain, Letter, Hex, Octal, Point}
-use Rattle.string.specs.declared.tile.Amount.{Amount}
-use Rattle.string.specs.declared.tile.Amount.TheVariants.{Value, NotDigits}
-use Rattle.string.specs.declared.tile.Tile.{Tile}
-use Rattle.string.specs.declared.tile.Tile.TheVariants.{Piece, Bad}
 use Rattle.string.specs.Letters.{looked_up, letter_value}
 use Rattle.string.specs.Tile.{amount_from, is_allowed, numbered_as, numbered, escape_of, begins_escape, plain_of, tile_of}
-use Rattle.string.proofs.tile.Letters.{is_some, passes, letter_passes}
+use Rattle.string.proofs.tile.Letters.{passes, letter_passes}
 use Rattle.string.proofs.tile.Forms.{by_letter}
 use Rattle.string.proofs.tile.Digits.{digits_within_text}
+use Rattle.string.specs.declared.tile.Piece.{Piece}
 
 -- a tile takes one byte at least, and no more than there are; its form may have its value, and has as many bytes as that character, or more
 pub record Fair (room : ℕ) (form : Form) (value size : ℕ) : Type 0 where
@@ -41,9 +38,9 @@ pub record Fair (room : ℕ) (form : Form) (value size : ℕ) : Type 0 where
   pub allowed : is_allowed form value ≡ true
   pub few : length (encoded value) ≤ size
 
-abbrev pub FairTile : ℕ → Tile → Type 0
-FairTile room (Piece f v n) = Fair room f v n
-FairTile room Bad = Unit {0}
+abbrev pub FairTile : ℕ → Option Piece → Type 0
+FairTile room (Some p) = Fair room p.form p.value p.size
+FairTile room None = Unit {0}
 
 module _ (xs : List ℕ) where
   abbrev n : ℕ
@@ -71,16 +68,16 @@ unfolding is_allowed
 ascii_allowed v l = byte_scalar v (omega arith)
 
 module _ (q : ℕ) (h : q < 0x80) where
-  letter_ascii : (c v : ℕ) → letter_value q c ≡ some v → v < 0x80
+  letter_ascii : (c v : ℕ) → letter_value q c ≡ Some v → v < 0x80
   letter_ascii c v e =
       let p : ℕ → Bool = λ n. ltb n 0x80 in
       ltb-true v 0x80 (sym (ap (passes p) e) ∙ letter_passes q c p (λ s. lt-ltb q 0x80 h) refl)
 
-  no_letter : letter_value q end ≡ none
+  no_letter : letter_value q end ≡ None
   unfolding letter_value looked_up
   no_letter = rw (ne_eqb end q (λ e. omega arith))
 
-  letter_fair : (xs : List ℕ) (v : ℕ) → letter_value q (peek_at xs 1) ≡ some v → Fair (length xs) Letter v 2
+  letter_fair : (xs : List ℕ) (v : ℕ) → letter_value q (peek_at xs 1) ≡ Some v → Fair (length xs) Letter v 2
   letter_fair xs v e =
       let l = letter_ascii (peek_at xs 1) v e in
       record { some = omega arith; within = inside (dec_lt 1 (length xs)); allowed = ascii_allowed v l; few = omega (arith, ap length (ascii_bytes v l)) }
@@ -88,25 +85,25 @@ module _ (q : ℕ) (h : q < 0x80) where
       inside : Dec (1 < length xs) → 2 ≤ length xs
       inside (yes l) = omega arith
       inside (no l) =
-          let z : none ≡ some v = sym (ap (letter_value q) (get_or-eq_default xs end (omega arith)) ∙ no_letter) ∙ e in
+          let z : None ≡ Some v = sym (ap (letter_value q) (get_or-eq_default xs end (omega arith)) ∙ no_letter) ∙ e in
           absurd (true≢false (sym (ap is_some z)))
 
 numbered_fair : (f : Form) (radix at n : ℕ) (xs : List ℕ) → 4 ≤ at + suc n → FairTile (length xs) (numbered f radix at (suc n) xs)
 unfolding numbered
 numbered_fair f radix at n xs h = go (amount_from radix 0 (suc n) at xs) refl
   where
-    go : (m : Amount) → amount_from radix 0 (suc n) at xs ≡ m → FairTile (length xs) (numbered_as f (at + suc n) m)
-    go (Value v) e =
+    go : (m : Option ℕ) → amount_from radix 0 (suc n) at xs ≡ m → FairTile (length xs) (numbered_as f (at + suc n) m)
+    go (Some v) e =
         either (FairTile (length xs)) (is_allowed f v)
         (λ t. record { some = omega arith; within = digits_within_text radix xs n 0 at v e; allowed = t; few = omega (arith, encoded_bound v) })
         (λ t. tt)
-    go NotDigits e = tt
+    go None e = tt
 
 -- every tile is such a one, where the sign is ASCII, as quote signs are
 pub each_fair : (q : ℕ) (xs : List ℕ) → q < 0x80 → FairTile (length xs) (tile_of q xs)
 unfolding tile_of escape_of
 each_fair q xs h =
-    let P : Tile → Type 0 = FairTile (length xs) in
+    let P : Option Piece → Type 0 = FairTile (length xs) in
     let c = peek_at xs 1 in
     either P (eqb (peek_at xs 0) q) (λ e. tt)
     (λ e. either P (begins_escape q (peek_at xs 0))

@@ -1,25 +1,23 @@
 -- What holds of reading a literal, as statements. Their proofs stand in `proofs/Readings` and `proofs/Back`.
-use Rattle.std.specs.Prelude.{ℕ, ◌≤◌, Bool, true, false, ◌&&◌, ◌||◌, List, [], ◌∷◌, ◌++◌, ◌≡◌, leb, length}
+use Rattle.std.specs.Prelude.{ℕ, ◌≤◌, Bool, true, false, ◌&&◌, ◌||◌, List, [], ◌∷◌, ◌++◌, ◌≡◌, leb, length, Option, Some, None, Err, Ok, Result}
+use Rattle.utf8.specs.declared.Refusal.{Refusal}
 use Rattle.scan.specs.Byte.{double_quote}
 use Rattle.utf8.specs.declared.Reading.{Reading}
 use Rattle.utf8.specs.declared.Reading.TheVariants.{Crate, Documented}
 use Rattle.utf8.specs.Text.{WellFormed}
 use Rattle.utf8.specs.Answers.{text_limit}
 use Rattle.utf8.specs.laws.Refusals.{Taken}
-use Rattle.string.specs.declared.tile.Tile.{Tile}
-use Rattle.string.specs.declared.tile.Tile.TheVariants.{Piece, Bad}
+use Rattle.string.specs.declared.tile.Piece.{Piece}
 use Rattle.string.specs.Tile.{is_byte}
-use Rattle.string.specs.declared.Unquoting.{Unquoting}
-use Rattle.string.specs.declared.Unquoting.TheVariants.{Inner, Written, Refused}
+use Rattle.string.specs.declared.Unquoted.{Unquoted}
 use Rattle.string.specs.Escape.{escaped}
 use Rattle.string.specs.Tiles.{tiles_of}
 use Rattle.string.specs.Literal.{sign_of, inner_of, is_bad_literal, unquoted, unquoting_of, text_by, part_of}
 
 -- an answer that is no refusal names the text of the literal, in the literal or in the buffer as it was left
-abbrev pub is_read : Unquoting → Bool
-is_read (Inner n) = true
-is_read (Written n) = true
-is_read (Refused s) = false
+abbrev pub is_read : Result Unquoted Refusal → Bool
+is_read (Ok t) = true
+is_read (Err s) = false
 
 abbrev pub PartIsText : Type 0
 PartIsText =
@@ -34,11 +32,11 @@ GoodRead =
     is_read (unquoting_of r room xs) ≡ true
 
 -- the two readings give the same where no byte escape has a value of 80 hex or more
-abbrev pub is_high_byte : Tile → Bool
-is_high_byte (Piece f v n) = is_byte f && leb 0x80 v
-is_high_byte Bad = false
+abbrev pub is_high_byte : Option Piece → Bool
+is_high_byte (Some p) = is_byte p.form && leb 0x80 p.value
+is_high_byte None = false
 
-unfoldable pub has_high_byte : List Tile → Bool
+unfoldable pub has_high_byte : List (Option Piece) → Bool
 has_high_byte [] = false
 has_high_byte (t ∷ ts) = is_high_byte t || has_high_byte ts
 

@@ -1,7 +1,8 @@
 -- Document 01's rows 1, 2, 40 and 3 as conditions on a literal, with the place of 40 by document 02, L1, and the statement that each answer is
 -- given exactly when its row holds; `proofs/Given`, `proofs/Answers`, `proofs/There`, `proofs/Faults` and `proofs/Before` have the proofs. "Order: 1, 2,
 -- the reading left to right (first refusal wins), 3."
-use Rattle.std.specs.Prelude.{ℕ, suc, ◌+◌, ◌-◌, ◌<◌, ◌≤◌, List, [], ◌∷◌, ◌++◌, ◌↔◌, ◌⊎◌, ◌≡◌, length, take, drop, Err}
+use Rattle.std.specs.Prelude.{ℕ, suc, ◌+◌, ◌-◌, ◌<◌, ◌≤◌, List, [], ◌∷◌, ◌++◌, ◌↔◌, ◌⊎◌, ◌≡◌, length, take, drop, Option, None, Err, Ok, Result}
+use Rattle.utf8.specs.declared.Refusal.{Refusal}
 use Rattle.scan.specs.Byte.{peek_at, backslash, backquote, double_quote, single_quote}
 use Rattle.scan.specs.Text.{Stands}
 use Rattle.utf8.specs.declared.Reading.{Reading}
@@ -9,12 +10,11 @@ use Rattle.utf8.specs.Text.{prefix_end, WellFormed}
 use Rattle.utf8.specs.Answers.{text_limit, place_at, too_long, not_utf8, no_room, admitted}
 use Rattle.utf8.specs.laws.Refusals.{TooLong, NotUtf8, NoRoom, Taken}
 use Rattle.string.specs.declared.tile.Form.{Form}
-use Rattle.string.specs.declared.tile.Tile.{Tile}
-use Rattle.string.specs.declared.tile.Tile.TheVariants.{Piece, Bad}
-use Rattle.string.specs.declared.Unquoting.{Unquoting}
-use Rattle.string.specs.declared.Unquoting.TheVariants.{Inner, Written, Refused}
+use Rattle.string.specs.declared.tile.Piece.{Piece}
+use Rattle.string.specs.declared.Unquoted.{Unquoted}
+use Rattle.string.specs.declared.Unquoted.TheVariants.{Inner, Written}
 use Rattle.string.specs.laws.Tile.{IsEscape, EscapeBegun}
-use Rattle.string.specs.Tile.{tile_of}
+use Rattle.string.specs.Tile.{piece, tile_of}
 use Rattle.string.specs.Tiles.{tiles_of}
 use Rattle.string.specs.Literal.{line_feed, sign_of, inner_of, unquoted, bad_literal, unquoting_of}
 
@@ -35,15 +35,15 @@ abbrev pub Newline : List ℕ → Type 0
 Newline xs = (¬ (sign_of xs ≡ backquote)) × Stands line_feed (inner_of xs)
 
 -- no bare closing sign", and no other escape than those of the list: no tile is bad
-abbrev pub BadAmong : List Tile → Type 0
+abbrev pub BadAmong : List (Option Piece) → Type 0
 BadAmong [] = ⊥
-BadAmong (t ∷ ts) = (t ≡ Bad) ⊎ BadAmong ts
+BadAmong (t ∷ ts) = (t ≡ None) ⊎ BadAmong ts
 
 -- which in text means: reading comes to an offset, tile by tile, with nothing bad before, and there stands the sign, or a backslash that begins
 -- none of 01's escapes (`laws/Tile`)
 pub data ReadsTo (q : ℕ) (ys : List ℕ) : ℕ → Type 0 where
   start : ReadsTo q ys 0
-  tile : (at : ℕ) (f : Form) (v n : ℕ) → ReadsTo q ys at → tile_of q (drop at ys) ≡ Piece f v n → ReadsTo q ys (at + n)
+  tile : (at : ℕ) (f : Form) (v n : ℕ) → ReadsTo q ys at → tile_of q (drop at ys) ≡ piece f v n → ReadsTo q ys (at + n)
 
 abbrev pub BareSign : ℕ → List ℕ → ℕ → Type 0
 BareSign q ys at = ReadsTo q ys at × (peek_at (drop at ys) 0 ≡ q)
@@ -125,19 +125,19 @@ abbrev pub UnquotingGiven : Type 0
 UnquotingGiven =
     (r : Reading) (room : ℕ) (xs : List ℕ) →
     let u = unquoting_of r room xs in
-    (u ≡ Refused too_long ↔ TooLong text_limit xs)
-    × (u ≡ Refused (not_utf8 (place_at xs (prefix_end xs))) ↔ (¬ (TooLong text_limit xs)) × NotUtf8 xs)
-    × ((p : ℕ) → u ≡ Refused (bad_literal xs p) ↔ Taken text_limit xs × ((f : Fault) × FaultAt f xs p))
-    × (u ≡ Refused no_room ↔ Taken text_limit xs × (¬ (BadLiteral xs)) × WithEscape xs × NoRoom room (unquoted r xs))
-    × (u ≡ Inner (length (inner_of xs)) ↔ Taken text_limit xs × (¬ (BadLiteral xs)) × (¬ (WithEscape xs)))
-    × (u ≡ Written (length (unquoted r xs)) ↔ Taken text_limit xs × (¬ (BadLiteral xs)) × WithEscape xs × (¬ (NoRoom room (unquoted r xs))))
+    (u ≡ Err too_long ↔ TooLong text_limit xs)
+    × (u ≡ Err (not_utf8 (place_at xs (prefix_end xs))) ↔ (¬ (TooLong text_limit xs)) × NotUtf8 xs)
+    × ((p : ℕ) → u ≡ Err (bad_literal xs p) ↔ Taken text_limit xs × ((f : Fault) × FaultAt f xs p))
+    × (u ≡ Err no_room ↔ Taken text_limit xs × (¬ (BadLiteral xs)) × WithEscape xs × NoRoom room (unquoted r xs))
+    × (u ≡ Ok (Inner (length (inner_of xs))) ↔ Taken text_limit xs × (¬ (BadLiteral xs)) × (¬ (WithEscape xs)))
+    × (u ≡ Ok (Written (length (unquoted r xs))) ↔ Taken text_limit xs × (¬ (BadLiteral xs)) × WithEscape xs × (¬ (NoRoom room (unquoted r xs))))
 
 -- what each answer tells: so many bytes of a literal within the limit are its text, or were written, no more than it has; or it is refused
 -- with 1 or 2, as it is not taken up, or with 40 at an offset of it, or 3
-abbrev pub LiteralTells : Reading → List ℕ → Unquoting → Type 0
-LiteralTells r xs (Inner n) = Taken text_limit xs × (n ≡ length (inner_of xs)) × (n ≤ length xs)
-LiteralTells r xs (Written n) = Taken text_limit xs × (n ≡ length (unquoted r xs)) × (n ≤ length xs)
-LiteralTells r xs (Refused s) =
+abbrev pub LiteralTells : Reading → List ℕ → Result Unquoted Refusal → Type 0
+LiteralTells r xs (Ok (Inner n)) = Taken text_limit xs × (n ≡ length (inner_of xs)) × (n ≤ length xs)
+LiteralTells r xs (Ok (Written n)) = Taken text_limit xs × (n ≡ length (unquoted r xs)) × (n ≤ length xs)
+LiteralTells r xs (Err s) =
     (admitted text_limit xs ≡ Err s) ⊎ (Taken text_limit xs × ((p : ℕ) × ((p < length xs) ⊎ (p ≡ 0)) × (s ≡ bad_literal xs p))) ⊎ (s ≡ no_room)
 
 abbrev pub LiteralAnswers : Type 0

@@ -1,5 +1,5 @@
 -- When a tile is bad, by 01's list of escapes, and how many bytes one has that is good; `proofs/tile/Bad` and `proofs/tile/Sizes` have the proofs.
-use Rattle.std.specs.Prelude.{ℕ, ◌<◌, ◌≤◌, true, List, ◌↔◌, ◌⊎◌, ◌≡◌}
+use Rattle.std.specs.Prelude.{ℕ, ◌<◌, ◌≤◌, true, List, ◌↔◌, ◌⊎◌, ◌≡◌, Some, None}
 use Prim.Native.Char.{code}
 use Rattle.scan.specs.Ascii.{ascii}
 use Rattle.scan.specs.Byte.{peek_at, backslash, backquote}
@@ -8,13 +8,11 @@ use Rattle.utf8.specs.Table.{char_length}
 use Rattle.utf8.specs.Code.{is_scalar}
 use Rattle.string.specs.declared.tile.Form.{Form}
 use Rattle.string.specs.declared.tile.Form.TheVariants.{Plain, Letter, Hex, Octal, Point}
-use Rattle.string.specs.declared.tile.Tile.TheVariants.{Piece, Bad}
-use Rattle.string.specs.declared.tile.Amount.TheVariants.{Value}
-use Rattle.string.specs.Tile.{amount_from, tile_of}
+use Rattle.string.specs.Tile.{piece, amount_from, tile_of}
 
 -- n digits of a radix stand from an offset on, and amount to v
 abbrev pub AmountTo : ℕ → ℕ → ℕ → List ℕ → ℕ → Type 0
-AmountTo radix at n xs v = amount_from radix 0 n at xs ≡ Value v
+AmountTo radix at n xs v = amount_from radix 0 n at xs ≡ Some v
 
 -- 01's escapes, by what follows the backslash: "`\a \b \f \n \r \t \v \\`, the literal's own quote sign,
 abbrev pub IsLetter : ℕ → List ℕ → Type 0
@@ -45,7 +43,7 @@ EscapeBegun q xs = (peek_at xs 0 ≡ backslash) × (¬ (q ≡ backquote))
 abbrev pub BadWhen : Type 0
 BadWhen =
     (q : ℕ) (xs : List ℕ) → 0 < q →
-    tile_of q xs ≡ Bad ↔ (peek_at xs 0 ≡ q) ⊎ ((EscapeBegun q xs × (¬ (IsEscape q xs))) ⊎ ((¬ (EscapeBegun q xs)) × (char_length xs ≡ 0)))
+    tile_of q xs ≡ None ↔ (peek_at xs 0 ≡ q) ⊎ ((EscapeBegun q xs × (¬ (IsEscape q xs))) ⊎ ((¬ (EscapeBegun q xs)) × (char_length xs ≡ 0)))
 
 -- how many bytes a good tile has: a character those of its own; `\a` and the like two; `\xhh` and three octal digits four; `\uhhhh` six and `\Uhhhhhhhh` ten
 abbrev pub SizedAs : Form → List ℕ → ℕ → Type 0
@@ -56,4 +54,4 @@ SizedAs Octal xs n = n ≡ 4
 SizedAs Point xs n = ((peek_at xs 1 ≡ code "u") × (n ≡ 6)) ⊎ ((peek_at xs 1 ≡ code "U") × (n ≡ 10))
 
 abbrev pub PieceSized : Type 0
-PieceSized = (q : ℕ) (xs : List ℕ) (f : Form) (v n : ℕ) → tile_of q xs ≡ Piece f v n → SizedAs f xs n
+PieceSized = (q : ℕ) (xs : List ℕ) (f : Form) (v n : ℕ) → tile_of q xs ≡ piece f v n → SizedAs f xs n

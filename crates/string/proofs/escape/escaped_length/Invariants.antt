@@ -1,12 +1,10 @@
-use Prim.Native.Nat.{◌+◌, ◌-◌, ◌≤◌}
-use mathlib.Core.Path.{◌≡◌}
-use lib.ListN.{length, drop}
+-- With what is left, the bytes so far and what these have more is the length of the whole; and a byte has one more at most.
+use Rattle.std.proofs.Common.{◌+◌, ◌≤◌, ◌≡◌, length, drop}
 use Rattle.string.specs.steps.Bytes.{escaped_bytes}
 use Rattle.string.proofs.escape.escaped_length.Given as goal
 
-abbrev pub invariant-loop-i : goal.invariant-loop-i
-invariant-loop-i l =
-    (l.i ≤ length l.text) × (l.more ≤ l.i) × (l.i + l.more + length (escaped_bytes (drop l.i l.text)) ≡ length (escaped_bytes l.text))
-
-abbrev pub decreases-loop-i : goal.decreases-loop-i
-decreases-loop-i l = length l.text - l.i
+abbrev pub invariant-loop-byte : goal.invariant-loop-byte
+invariant-loop-byte l = record {
+  few : l.more ≤ l.byte-index;
+  whole : l.byte-index + l.more + length (escaped_bytes (drop l.byte-index l.text)) ≡ length (escaped_bytes l.text);
+}
