@@ -4,7 +4,7 @@ ghost use Rattle.decimal.specs.Value.{most_exponent};
 ghost use Rattle.decimal.specs.steps.Scale.{ten_to};
 
 // A power of ten.
-pub fn power(e: usize) -> f64
+pub(super) fn power(e: usize) -> f64
     requires { e ≤ most_exponent }
     ensures { result ≡ ten_to e }
 {
