@@ -6,6 +6,7 @@ pub mod Signs
 pub mod Places
 pub mod Zeros
 pub mod Cuts
+pub mod Names
 pub mod Pieces
 pub mod Spelling
 pub mod Caps

@@ -1,14 +1,15 @@
 -- Laws of trailing zeros: they are counted from the end, digit by digit, and of two runs the first counts where the second is all zeros.
-use Prim.Native.Nat.{ℕ, suc, ◌+◌, ◌-◌, ◌<◌, ◌≤◌}
+use Prim.Native.Nat.{ℕ, zero, suc, ◌+◌, ◌-◌, ◌<◌, ◌≤◌}
 use native.Mathlib.Omega.{arith}
 use mathlib.Core.Bool.{Bool, true, false, cond, ◌&&◌, true≢false}
 use mathlib.Core.List.{List, [], ◌∷◌, ◌++◌}
 use mathlib.Core.Path.{◌≡◌, refl, ◌∙◌}
 use lib.Dec.{eqb}
 use lib.ListN.{length, get_or, take, drop, length-append, length-drop}
-use lib.Seq.{take-suc, get_or-drop, take-append-le, take-append-add, take-take, length-take-le}
+use lib.Seq.{take-suc, take-length, take-append-le, take-append-add, take-take, length-take-le}
 use Rattle.proving.proofs.Choice.{either}
-use borrow.Author.Tests.{ne_eqb}
+use Rattle.std.specs.List.{suffix_len}
+use Rattle.std.proofs.lemmas.List.Sums.{suffix_len-take_yes, suffix_len-take_no}
 use Rattle.scan.specs.Byte.{digit_of}
 use Rattle.decimal.specs.Grammar.{between}
 use Rattle.decimal.specs.steps.Scale.{is_zeros, trailing, trimmed}
@@ -49,25 +50,28 @@ trailing_first xs ys e = trailing_join xs ys ∙ rw e
 pub trailing_last : (xs ys : List ℕ) → is_zeros ys ≡ false → trailing (xs ++ ys) ≡ trailing ys
 trailing_last xs ys e = trailing_join xs ys ∙ rw e
 
--- the last digit, and those before it
-module _ (xs : List ℕ) (from at : ℕ) (l : from < at) (h : at ≤ length xs) where
-  last : between xs from at ≡ between xs from (at - 1) ++ (get_or xs (at - 1) 0 ∷ [])
-  last =
-      let k : at - from ≡ suc (at - 1 - from) = omega arith in
-      let m : from + (at - 1 - from) ≡ at - 1 = omega arith in
-      rw k (take-suc (drop from xs) (at - 1 - from) 0 (omega (arith, length-drop from xs)) ∙ rw (get_or-drop, m))
+-- std counts them from the back: one more where the last of the first n + 1 digits is a zero, and else none
+abbrev pub is_zero : ℕ → Bool
+is_zero c = eqb (digit_of c) 0
 
-  pub zero_last : digit_of (get_or xs (at - 1) 0) ≡ 0 → trailing (between xs from at) ≡ suc (trailing (between xs from (at - 1)))
-  unfolding is_zeros
-  zero_last e = rw (last, trailing_join (between xs from (at - 1)) (get_or xs (at - 1) 0 ∷ []), e) (omega arith)
+counted_first : (ds : List ℕ) (n : ℕ) → n ≤ length ds → suffix_len is_zero (take n ds) ≡ trailing (take n ds)
+unfolding is_zeros trailing
+counted_first ds zero h = refl
+counted_first ds (suc n) h = go (is_zero (get_or ds n 0)) refl (counted_first ds n (omega arith))
+  where
+    k : suc n - 1 ≡ n
+    k = omega arith
 
-  pub other_last : (digit_of (get_or xs (at - 1) 0) ≡ 0 → ⊥) → trailing (between xs from at) ≡ 0
-  unfolding is_zeros trailing
-  other_last n = rw (last, trailing_join (between xs from (at - 1)) (get_or xs (at - 1) 0 ∷ []), ne_eqb (digit_of (get_or xs (at - 1) 0)) 0 n)
+    go : (b : Bool) → is_zero (get_or ds n 0) ≡ b → suffix_len is_zero (take n ds) ≡ trailing (take n ds) → suffix_len is_zero (take (suc n) ds) ≡ trailing (take (suc n) ds)
+    go true e i =
+        let t : trailing (take (suc n) ds) ≡ suc (trailing (take n ds)) = rw (take-suc ds n 0 h, trailing_join (take n ds) (get_or ds n 0 ∷ []), e) (omega arith) in
+        omega (arith, t, i, rw k at (suffix_len-take_yes is_zero ds (suc n) 0 (omega arith) h (rw k e)))
+    go false e i =
+        let t : trailing (take (suc n) ds) ≡ 0 = rw (take-suc ds n 0 h, trailing_join (take n ds) (get_or ds n 0 ∷ []), e) in
+        omega (arith, t, suffix_len-take_no is_zero ds (suc n) 0 (omega arith) h (rw k e))
 
-pub none_between : (xs : List ℕ) (from at : ℕ) → at ≤ from → trailing (between xs from at) ≡ 0
-unfolding trailing
-none_between xs from at l = let k : at - from ≡ 0 = omega arith in rw k
+pub trailing_counted : (ds : List ℕ) → suffix_len is_zero ds ≡ trailing ds
+trailing_counted ds = rw take-length at (counted_first ds (length ds) (omega arith))
 
 -- they are no more than the digits, and fewer where one is no zero
 pub trailing_few : (ys : List ℕ) → trailing ys ≤ length ys

@@ -129,6 +129,7 @@ fn parts_of(s: &[u8]) -> Parts
 }
 
 // Whether there are digits before the point or behind it.
+#[tactic(auto, unfolding(crate::specs::Grammar::has_digits))]
 fn has_digits(p: Parts) -> bool
     ensures { result ≡ has_digits p }
 {
@@ -136,6 +137,7 @@ fn has_digits(p: Parts) -> bool
 }
 
 // Whether an exponent has digits, where there is one.
+#[tactic(auto, unfolding(crate::specs::Grammar::exponent_has_digits))]
 fn exponent_has_digits(s: &[u8], p: Parts) -> bool
     ensures { result ≡ exponent_has_digits s.now p }
 {
@@ -143,28 +145,12 @@ fn exponent_has_digits(s: &[u8], p: Parts) -> bool
 }
 
 // Whether a text is digits with a point and an exponent, and nothing else, by where its parts lie.
+#[tactic(auto, unfolding(crate::specs::Grammar::is_numeral))]
 fn is_numeral(s: &[u8], p: Parts) -> bool
     requires { p ≡ parts_of s.now }
     ensures { result ≡ is_numeral s.now }
 {
-    has_digits(p) && (exponent_has_digits(s, p) && p.exponent_to == s.len())
-}
-
-// Whether a word is a name, in any case of its letters.
-fn is_named(word: &[u8], name: &[u8]) -> bool
-    ensures { result ≡ same_text (map lowered word.now) name.now }
-{
-    if word.len() != name.len() {
-        return false;
-    }
-    let mut i = 0;
-    while i < word.len() {
-        if byte::lowered(word[i] as usize) != name[i] as usize {
-            return false;
-        }
-        i += 1;
-    }
-    true
+    has_digits(p) && exponent_has_digits(s, p) && p.exponent_to == s.len()
 }
 
 // What `digits_value` answers for this and every greater value: no magnitude of a signed 64-bit integer is so great.
@@ -181,13 +167,6 @@ pub fn radix(notation: Notation) -> usize
     }
 }
 
-// A number, or the most that is told apart.
-fn capped(n: u64) -> u64
-    ensures { result ≡ min most_told n }
-{
-    if n < MOST_TOLD { n } else { MOST_TOLD }
-}
-
 // What digits of a notation amount to behind those that amount to `start`, or the most that is told apart.
 pub fn digits_value(start: u64, notation: Notation, digits: &[u8]) -> u64
     ensures { result ≡ min most_told (value_from (radix_of notation) start digits.now) }
@@ -195,15 +174,13 @@ pub fn digits_value(start: u64, notation: Notation, digits: &[u8]) -> u64
     let radix = radix(notation) as u64;
     let last = MOST_TOLD / radix;
     let mut value = start;
-    let mut i = 0;
-    while i < digits.len() {
+    for digit in digits {
         if last < value {
             return MOST_TOLD;
         }
-        value = value * radix + byte::digit_of(digits[i] as usize) as u64;
-        i += 1;
+        value = value * radix + byte::digit_of(*digit as usize) as u64;
     }
-    capped(value)
+    value.min(MOST_TOLD)
 }
 
 // What the decimal digits between two offsets amount to behind those that amount to `start`, or the most that is told apart.
@@ -214,19 +191,16 @@ fn value_between(s: &[u8], from: usize, to: usize, start: u64) -> u64
     digits_value(start, Notation::Decimal, &s[from..to])
 }
 
-// How many zeros the digits between two offsets end with.
-fn zeros_before(s: &[u8], from: usize, to: usize) -> usize
-    requires { (from ≤ to) × (to ≤ length s.now) }
-    ensures { result ≡ trailing (between s.now from to) }
+// How many zeros digits end with.
+fn zeros_at_end(digits: &[u8]) -> usize
+    ensures value { result ≡ trailing digits.now }
+    ensures within { result ≤ length digits.now }
 {
-    let mut at = to;
-    while from < at {
-        if byte::digit_of(s[at - 1] as usize) != 0 {
-            return to - at;
-        }
-        at -= 1;
-    }
-    to - at
+    digits
+        .iter()
+        .rev()
+        .take_while(|c| byte::digit_of(**c as usize) == 0)
+        .count()
 }
 
 // 2^53: an f64 holds every whole number up to it.
@@ -264,14 +238,16 @@ fn zero(negative: bool) -> f64
 }
 
 // Whether w times one power of ten over another is exact.
+#[tactic(auto, unfolding(crate::specs::steps::Scale::is_exact))]
 fn is_exact(w: u64, raised: usize, reduced: usize) -> bool
     requires { (raised ≤ most_told + decimal_limit) × (reduced ≤ most_told + decimal_limit) }
     ensures { result ≡ is_exact w raised reduced }
 {
-    w <= MOST_EXACT && (raised <= reduced + MOST_EXPONENT && reduced <= raised + MOST_EXPONENT)
+    w <= MOST_EXACT && raised <= reduced + MOST_EXPONENT && reduced <= raised + MOST_EXPONENT
 }
 
 // The value of w times one power of ten over another, where it is exact.
+#[tactic(auto, unfolding(crate::specs::steps::Scale::scaled_by))]
 fn scaled_by(negative: bool, w: u64, raised: usize, reduced: usize) -> Decimal
     requires { (raised ≤ most_told + decimal_limit) × (reduced ≤ most_told + decimal_limit) }
     ensures { result ≡ scaled_by negative w raised reduced }
@@ -298,9 +274,9 @@ fn trailing_zeros(s: &[u8], p: Parts) -> usize
     requires { (p ≡ parts_of s.now) × (length s.now ≤ decimal_limit) }
     ensures { result ≡ trailing (digits_of s.now) }
 {
-    let zeros = zeros_before(s, p.fraction_from, p.fraction_to);
+    let zeros = zeros_at_end(&s[p.fraction_from..p.fraction_to]);
     if zeros == p.fraction_to - p.fraction_from {
-        return zeros + zeros_before(s, p.whole_from, p.whole_to);
+        return zeros + zeros_at_end(&s[p.whole_from..p.whole_to]);
     }
     zeros
 }
@@ -346,7 +322,14 @@ fn numeral(s: &[u8], p: Parts) -> Decimal
 fn is_infinite(word: &[u8]) -> bool
     ensures { result ≡ same_text (map lowered word.now) (ascii "inf") || same_text (map lowered word.now) (ascii "infinity") }
 {
-    is_named(word, b"inf") || is_named(word, b"infinity")
+    word.eq_ignore_ascii_case(b"inf") || word.eq_ignore_ascii_case(b"infinity")
+}
+
+// Whether a word is the name of what is no number.
+fn is_nan(word: &[u8]) -> bool
+    ensures { result ≡ same_text (map lowered word.now) (ascii "nan") }
+{
+    word.eq_ignore_ascii_case(b"nan")
 }
 
 // Infinity, with its sign.
@@ -373,7 +356,7 @@ fn named(s: &[u8]) -> Decimal
     if is_infinite(word) {
         return Decimal::Named(plain(infinite(sign::is_minus(s, 0))));
     }
-    if is_named(word, b"nan") {
+    if is_nan(word) {
         return Decimal::Named(plain(not_a_number()));
     }
     Decimal::NotDecimal

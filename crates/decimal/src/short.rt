@@ -33,12 +33,17 @@ fn digits_from(s: &[u8], from: usize, start: u64) -> Digits
     ensures { (result ≡ digits_from s.now from start) × (result.value < 10 ^ result.end) }
 {
     let mut value = start;
-    let mut end = from;
-    while byte::is_digit(byte::peek(s, end)) {
-        value = value * 10 + byte::digit_of(s[end] as usize) as u64;
-        end += 1;
+    for end in from..s.len() {
+        let c = s[end] as usize;
+        if !byte::is_digit(c) {
+            return Digits { value, end };
+        }
+        value = value * 10 + byte::digit_of(c) as u64;
     }
-    Digits { value, end }
+    Digits {
+        value,
+        end: s.len(),
+    }
 }
 
 // The value of w times one power of ten over another, where it is exact for any zeros that w ends with.
@@ -46,10 +51,7 @@ fn scaled(w: u64, raised: usize, reduced: usize) -> Short
     requires { (w ≤ most_exact) × (raised ≤ most_told) × (reduced ≤ most_told) }
     ensures { result ≡ scaled_short w raised reduced }
 {
-    if reduced + MOST_RAISED < raised {
-        return Short::Untold;
-    }
-    if raised + MOST_EXPONENT < reduced {
+    if reduced + MOST_RAISED < raised || raised + MOST_EXPONENT < reduced {
         return Short::Untold;
     }
     Short::Value(crate::magnitude(w, raised, reduced))

@@ -1,11 +1,12 @@
--- That a byte stands in a text is what its test says: by the list, byte by byte.
-use Prim.Native.Nat.{zero, suc}
-use native.Mathlib.Omega.{arith}
-use mathlib.Core.Bool.{Bool, true, false, ◌||◌, true≢false}
-use mathlib.Core.List.{[], ◌∷◌, ◌++◌}
-use mathlib.Core.Path.{◌≡◌, refl, sym}
+-- That a byte stands in a text is what its test says: by the list, byte by byte. The test is std's, which goes through an append and settles at one place.
+use mathlib.Core.Bool.{true≢false}
+use mathlib.Core.List.{[], ◌∷◌}
+use mathlib.Core.Path.{sym, ◌∙◌}
 use lib.Dec.{eqb}
+use Rattle.std.proofs.lemmas.Bool.{false_from_ne_true}
+use Rattle.std.proofs.lemmas.List.Folds.{list_any-append, list_any_at}
 use Rattle.proving.proofs.Tests.{tests_eq, tests_or}
+use Rattle.scan.specs.Byte.{end}
 use Rattle.scan.specs.Text.{has}
 use Rattle.scan.specs.laws.Text.{HasStands, HasAppend, NoneAt}
 
@@ -16,23 +17,8 @@ tests_has c (y ∷ ys) = tests_or (tests_eq y c) (tests_has c ys)
 
 pub has_append : HasAppend
 unfolding has
-has_append c [] v = refl
-has_append c (x ∷ u) v = go (eqb x c) (has_append c u v)
-  where
-    go : (b : Bool) → has c (u ++ v) ≡ has c u || has c v → b || has c (u ++ v) ≡ (b || has c u) || has c v
-    go true e = refl
-    go false e = e
+has_append c u v = list_any-append (λ x. eqb x c) u v
 
 pub none_at : NoneAt
 unfolding has
-none_at c [] h i l = absurd (omega (arith, l))
-none_at c (x ∷ t) h zero l = go (eqb x c) h
-  where
-    go : (b : Bool) → b || has c t ≡ false → b ≡ false
-    go true e = e
-    go false e = refl
-none_at c (x ∷ t) h (suc i) l = none_at c t (rest (eqb x c) h) i (omega (arith, l))
-  where
-    rest : (b : Bool) → b || has c t ≡ false → has c t ≡ false
-    rest true e = absurd (true≢false e)
-    rest false e = e
+none_at c t h i l = false_from_ne_true _ (λ e. true≢false (sym (list_any_at (λ x. eqb x c) t i end l e) ∙ h))

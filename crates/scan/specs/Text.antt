@@ -1,15 +1,12 @@
 -- Whether two texts are one, and whether a byte stands in a text.
-use Rattle.std.specs.Prelude.{ℕ, ◌⊎◌, ◌≡◌, Bool, true, false, ◌&&◌, ◌||◌, List, [], ◌∷◌, eqb}
+use Rattle.std.specs.Prelude.{ℕ, ◌⊎◌, ◌≡◌, Bool, List, [], ◌∷◌, eqb, bytes_eq}
+use Rattle.std.specs.List.{list_any}
 
 unfoldable pub same_text : List ℕ → List ℕ → Bool
-same_text [] [] = true
-same_text [] (y ∷ ys) = false
-same_text (x ∷ xs) [] = false
-same_text (x ∷ xs) (y ∷ ys) = eqb x y && same_text xs ys
+same_text xs ys = bytes_eq xs ys
 
 unfoldable pub has : ℕ → List ℕ → Bool
-has c [] = false
-has c (x ∷ xs) = eqb x c || has c xs
+has c xs = list_any (λ x. eqb x c) xs
 
 -- the same, as a condition
 abbrev pub Stands : ℕ → List ℕ → Type 0

@@ -46,24 +46,27 @@ pub fn peek(s: &[u8], i: usize) -> usize
 }
 
 // From lo to hi, both included.
+#[tactic(auto, unfolding(crate::specs::Byte::is_within))]
 pub fn is_within(lo: u8, hi: u8, c: usize) -> bool
     ensures { result ≡ is_within lo hi c }
 {
-    lo as usize <= c && c <= hi as usize
+    (lo as usize..=hi as usize).contains(&c)
 }
 
 // White space.
+#[tactic(auto, unfolding(crate::specs::Byte::is_space))]
 pub fn is_space(c: usize) -> bool
     ensures { result ≡ is_space c }
 {
-    c == TAB || (c == LF || (c == FORM_FEED || (c == CR || c == SPACE)))
+    matches!(c, TAB | LF | FORM_FEED | CR | SPACE)
 }
 
 // A letter: an ASCII letter or the underscore.
+#[tactic(auto, unfolding(crate::specs::Byte::is_alpha))]
 pub fn is_alpha(c: usize) -> bool
     ensures { result ≡ is_alpha c }
 {
-    is_within(b'a', b'z', c) || (is_within(b'A', b'Z', c) || c == b'_' as usize)
+    is_within(b'a', b'z', c) || is_within(b'A', b'Z', c) || c == b'_' as usize
 }
 
 // A decimal digit.
@@ -74,13 +77,15 @@ pub fn is_digit(c: usize) -> bool
 }
 
 // A hexadecimal digit, in either case.
+#[tactic(auto, unfolding(crate::specs::Byte::is_hex_digit))]
 pub fn is_hex_digit(c: usize) -> bool
     ensures { result ≡ is_hex_digit c }
 {
-    is_digit(c) || (is_within(b'a', b'f', c) || is_within(b'A', b'F', c))
+    is_digit(c) || is_within(b'a', b'f', c) || is_within(b'A', b'F', c)
 }
 
 // What a hexadecimal digit stands for, in either case, and 0 where c is none.
+#[tactic(auto, unfolding(crate::specs::Byte::digit_of, crate::specs::Byte::is_within))]
 pub fn digit_of(c: usize) -> usize
     ensures { result ≡ digit_of c }
 {
@@ -97,6 +102,7 @@ pub fn digit_of(c: usize) -> usize
 }
 
 // A digit of a radix, in either case.
+#[tactic(auto, unfolding(crate::specs::Byte::is_digit_in))]
 pub fn is_digit_in(radix: usize, c: usize) -> bool
     ensures { result ≡ is_digit_in radix c }
 {
@@ -104,6 +110,7 @@ pub fn is_digit_in(radix: usize, c: usize) -> bool
 }
 
 // An ASCII letter in lower case, and all others as they are.
+#[tactic(auto, unfolding(crate::specs::Byte::lowered, crate::specs::Byte::is_within))]
 pub fn lowered(c: usize) -> usize
     ensures { result ≡ lowered c }
 {
@@ -115,6 +122,7 @@ pub fn lowered(c: usize) -> usize
 }
 
 // A letter or a digit: what a label, and a word in braces, goes on with.
+#[tactic(auto, unfolding(crate::specs::Byte::is_alpha_numeric))]
 pub fn is_alpha_numeric(c: usize) -> bool
     ensures { result ≡ is_alpha_numeric c }
 {
@@ -122,6 +130,7 @@ pub fn is_alpha_numeric(c: usize) -> bool
 }
 
 // What a word outside braces goes on with.
+#[tactic(auto, unfolding(crate::specs::Byte::is_word))]
 pub fn is_word(c: usize) -> bool
     ensures { result ≡ is_word c }
 {
@@ -129,20 +138,23 @@ pub fn is_word(c: usize) -> bool
 }
 
 // A byte of a line, which is what a comment goes on with: any but CR and LF.
+#[tactic(auto, unfolding(crate::specs::Byte::is_line))]
 pub fn is_line(c: usize) -> bool
     ensures { result ≡ is_line c }
 {
-    c != CR && (c != LF && c != END)
+    !matches!(c, CR | LF | END)
 }
 
 // A quote sign, which opens a string.
+#[tactic(auto, unfolding(crate::specs::Byte::is_quote))]
 pub fn is_quote(c: usize) -> bool
     ensures { result ≡ is_quote c }
 {
-    c == DOUBLE_QUOTE || (c == SINGLE_QUOTE || c == BACKQUOTE)
+    matches!(c, DOUBLE_QUOTE | SINGLE_QUOTE | BACKQUOTE)
 }
 
 // Whether a class has the byte.
+#[tactic(auto, unfolding(crate::specs::Byte::is_in))]
 pub fn is_in(k: Class, c: usize) -> bool
     ensures { result ≡ is_in k c }
 {

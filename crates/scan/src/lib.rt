@@ -5,51 +5,46 @@ pub mod byte;
 pub mod separated;
 pub mod sign;
 
-ghost use Rattle.std.specs.Prelude.{◌≡◌};
+ghost use Rattle.std.specs.Prelude.{◌≡◌, ◌≤◌, length};
+ghost use Rattle.std.specs.List.{prefix_len};
 ghost use Rattle.scan.specs.Byte.{is_in};
 ghost use Rattle.scan.specs.Run.{run_end};
 ghost use Rattle.scan.specs.Text.{same_text, has};
 
 use crate::byte::Class;
 
+// How many bytes of the class a text begins with.
+fn leading(k: Class, s: &[u8]) -> usize
+    ensures value { result ≡ prefix_len (is_in k) s.now }
+    ensures within { result ≤ length s.now }
+{
+    s.iter()
+        .take_while(|c| byte::is_in(k, **c as usize))
+        .count()
+}
+
 // Where the run of the class that starts at `from` ends: there, where no byte of the class stands there.
 pub fn run_end(k: Class, s: &[u8], from: usize) -> usize
     ensures { result ≡ run_end (is_in k) s.now from }
 {
-    let mut n = from;
-    while byte::is_in(k, byte::peek(s, n)) {
-        n += 1;
+    match s.get(from..) {
+        Some(rest) => from + leading(k, rest),
+        None => from,
     }
-    n
 }
 
 // Whether two texts are the same.
+#[tactic(auto, unfolding(crate::specs::Text::same_text))]
 pub fn is_text(text: &[u8], word: &[u8]) -> bool
     ensures { result ≡ same_text text.now word.now }
 {
-    if text.len() != word.len() {
-        return false;
-    }
-    let mut i = 0;
-    while i < text.len() {
-        if text[i] != word[i] {
-            return false;
-        }
-        i += 1;
-    }
-    true
+    text == word
 }
 
 // Whether a list has the byte.
+#[tactic(auto, unfolding(crate::specs::Text::has))]
 pub fn contains(s: &[u8], c: u8) -> bool
     ensures { result ≡ has c s.now }
 {
-    let mut i = 0;
-    while i < s.len() {
-        if s[i] == c {
-            return true;
-        }
-        i += 1;
-    }
-    false
+    s.contains(&c)
 }

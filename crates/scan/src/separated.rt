@@ -60,13 +60,11 @@ pub fn is_all_placed(k: Class, separators: Separators, s: &[u8]) -> bool
 {
     let behind = is_open(separators, true);
     let mut allowed = is_open(separators, false);
-    let mut i = 0;
-    while i < s.len() {
+    for i in 0..s.len() {
         if !is_placed_at(k, allowed, s, i) {
             return false;
         }
         allowed = byte::is_in(k, byte::peek(s, i)) && behind;
-        i += 1;
     }
     true
 }

@@ -5,6 +5,7 @@ ghost use Rattle.scan.specs.Sign.{is_sign, past_sign, is_minus};
 use crate::byte;
 
 // A sign.
+#[tactic(auto, unfolding(crate::specs::Sign::is_sign))]
 fn is_sign(c: usize) -> bool
     ensures { result ≡ is_sign c }
 {
@@ -12,6 +13,7 @@ fn is_sign(c: usize) -> bool
 }
 
 // The place past a sign, where one stands.
+#[tactic(auto, using(crate::proofs::sign::Places::sign_inside))]
 pub fn past_sign(s: &[u8], at: usize) -> usize
     ensures { result ≡ past_sign s.now at }
 {

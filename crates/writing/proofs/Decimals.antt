@@ -5,9 +5,9 @@ use native.Mathlib.Nat.{pow-suc}
 use native.Mathlib.Numerals.{add-one}
 use native.Mathlib.Omega.{arith}
 use mathlib.Core.Bool.{Bool, true, false}
-use mathlib.Core.Path.{◌≡◌, refl, sym, ap, ◌∙◌}
-use mathlib.Core.List.{List, [], ◌∷◌, ◌++◌, append_assoc, append-nil}
-use lib.ListN.{length, drop, drop_of_length-le, set, length-set, length-append}
+use mathlib.Core.Path.{◌≡◌, refl, sym, ◌∙◌}
+use mathlib.Core.List.{List, [], ◌∷◌, ◌++◌, append_assoc}
+use lib.ListN.{length, drop, set, length-set, length-append}
 use lib.Seq.{drop-cons, drop-set-lt, get_or-set_same, lt-length-set}
 use lib.Dec.{ltb}
 use borrow.Author.Tests.{lt-ltb, le-ltb, ltb-false}
@@ -78,17 +78,8 @@ pub record Spelled (n : ℕ) (ds : List ℕ) (i rest : ℕ) : Type 0 where
   pub room : rest < 10 ^ (i + 1)
   pub holds : decimal_text n ≡ decimal_text rest ++ drop (i + 1) ds
 
-pub spelled_none : (n : ℕ) (ds : List ℕ) → n < 2 ^ 64 → length ds ≡ most_digits → Spelled n ds (most_digits - 1) n
-spelled_none n ds h e =
-    record {
-      size = e;
-      place = omega arith;
-      room = omega arith;
-      holds = sym (ap (λ (t : List ℕ). decimal_text n ++ t) (drop_of_length-le ds {i = most_digits} (omega arith)) ∙ append-nil (decimal_text n));
-    }
-
 module _ {n : ℕ} {ds : List ℕ} {i rest : ℕ} (p : Spelled n ds i rest) where
-  pub place_left : 10 ≤ rest → 1 ≤ i
+  place_left : 10 ≤ rest → 1 ≤ i
   place_left h = (room_left i rest h p.room).0
 
   pub spelled_more : {a : ℕ} → 10 ≤ rest → a ≡ digit_for (rest % 10) → Spelled n (set ds i a) (i - 1) (rest / 10)

@@ -14,26 +14,21 @@ const DECIMAL_BASE: u64 = 10;
 const MOST_DIGITS: usize = 20;
 
 // Writes a text at `at` where it fits, and answers the offset past it, else `at`.
+#[tactic(auto, unfolding(crate::specs::Put::put_at, crate::specs::Put::past_at))]
 pub fn put_text(out: &mut [u8], at: usize, text: &[u8]) -> usize
     ensures value { result ≡ past_at out.old at text.now }
     ensures out_after { out.new ≡ put_at out.old at text.now }
 {
-    let n = text.len();
-    if out.len() < at {
+    if out.len() < at || out.len() - at < text.len() {
         return at;
     }
-    if out.len() - at < n {
-        return at;
-    }
-    let mut i = 0;
-    while i < n {
-        out[at + i] = text[i];
-        i += 1;
-    }
-    at + n
+    let end = at + text.len();
+    out[at..end].copy_from_slice(text);
+    end
 }
 
 // The digit that stands for a number below ten.
+#[tactic(auto, unfolding(crate::specs::Decimal::digit_for))]
 fn digit_for(d: u64) -> u8
     requires { d < decimal_base }
     ensures { result ≡ digit_for d }
@@ -49,6 +44,7 @@ fn spell(n: u64, digits: &mut [u8]) -> usize
 {
     let mut i = MOST_DIGITS - 1;
     let mut rest = n;
+    // A `while`, since the number says how many places it takes: a `for` over all of them would have an end that is never reached.
     while rest >= DECIMAL_BASE {
         digits[i] = digit_for(rest % DECIMAL_BASE);
         rest /= DECIMAL_BASE;

@@ -17,7 +17,7 @@ use Rattle.decimal.specs.Value.{decimal_limit, plain, decimal_in, decimal_of}
 use Rattle.scan.proofs.sign.Places.{sign_within}
 use Rattle.decimal.proofs.Characters.{by_characters}
 use Rattle.decimal.proofs.named.Goals as goal
-use Rattle.decimal.proofs.named.Goals.{After-is_infinite, After-is_named, Start}
+use Rattle.decimal.proofs.named.Goals.{After-is_infinite, After-is_nan, Start}
 
 module _ (xs : List ℕ) (h : length xs ≤ decimal_limit) where
   infinity : is_infinite xs ≡ true → Named (plain (inf (is_minus xs 0))) ≡ decimal_of xs
@@ -64,23 +64,23 @@ returns-then-is_infinite c =
     ∙ ap (λ (x : Float). Named (plain x)) (c.infinite.ensures ∙ ap inf c.is_minus.ensures)
     ∙ infinity (text d) (start d).requires.0 (sym (told d) ∙ c.if-is_infinite.true)
 
-nan_told : (c : After-is_named) → c.is_named.result ≡ is_nan (text (goal.at.After-is_named c).After-is_infinite)
+nan_told : (c : After-is_nan) → c.is_nan.result ≡ is_nan (text (goal.at.After-is_nan c).After-is_infinite)
 unfolding is_nan
-nan_told c = c.is_named.ensures ∙ ap (λ (w : List ℕ). same_text (map lowered w) (ascii "nan")) (word_is (goal.at.After-is_named c).After-is_infinite)
+nan_told c = c.is_nan.ensures ∙ ap (λ (w : List ℕ). same_text (map lowered w) (ascii "nan")) (word_is (goal.at.After-is_nan c).After-is_infinite)
 
-finite : (c : After-is_named) → is_infinite (text (goal.at.After-is_named c).After-is_infinite) ≡ false
-finite c = sym (told (goal.at.After-is_named c).After-is_infinite) ∙ c.if-is_infinite.false
+finite : (c : After-is_nan) → is_infinite (text (goal.at.After-is_nan c).After-is_infinite) ≡ false
+finite c = sym (told (goal.at.After-is_nan c).After-is_infinite) ∙ c.if-is_infinite.false
 
-pub returns-then-is_named : goal.returns-then-is_named
-returns-then-is_named c =
-    let e = (goal.at.returns-then-is_named c).After-is_named in
-    let d = (goal.at.After-is_named e).After-is_infinite in
-    ap Named c.plain-then-is_named.ensures
+pub returns-then-is_nan : goal.returns-then-is_nan
+returns-then-is_nan c =
+    let e = (goal.at.returns-then-is_nan c).After-is_nan in
+    let d = (goal.at.After-is_nan e).After-is_infinite in
+    ap Named c.plain-then-is_nan.ensures
     ∙ ap (λ (x : Float). Named (plain x)) c.not_a_number.ensures
-    ∙ no_number (text d) (start d).requires.0 (finite e) (sym (nan_told e) ∙ c.if-is_named.true)
+    ∙ no_number (text d) (start d).requires.0 (finite e) (sym (nan_told e) ∙ c.if-is_nan.true)
 
 pub returns : goal.returns
 returns c =
-    let e = (goal.at.returns c).After-is_named in
-    let d = (goal.at.After-is_named e).After-is_infinite in
-    none (text d) (start d).requires.0 (finite e) (sym (nan_told e) ∙ c.if-is_named.false) (start d).requires.1
+    let e = (goal.at.returns c).After-is_nan in
+    let d = (goal.at.After-is_nan e).After-is_infinite in
+    none (text d) (start d).requires.0 (finite e) (sym (nan_told e) ∙ c.if-is_nan.false) (start d).requires.1

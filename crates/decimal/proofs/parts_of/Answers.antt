@@ -4,7 +4,7 @@ use mathlib.Core.Path.{◌≡◌, ap, ◌∙◌}
 use Rattle.scan.specs.declared.byte.Class.TheVariants.{Digit}
 use Rattle.scan.specs.Byte.{is_in}
 use Rattle.scan.specs.Run.{run_end}
-use Rattle.decimal.specs.Grammar.{past_point, past_exponent, whole_to, fraction_from, fraction_to}
+use Rattle.decimal.specs.Grammar.{past_point, whole_to, fraction_from, fraction_to}
 use Rattle.decimal.proofs.Places.{whole_within, fraction_within}
 use Rattle.decimal.proofs.parts_of.Goals as goal
 use Rattle.decimal.proofs.parts_of.Goals.{After-past_point-fraction_from, After-run_end-fraction_to, After-run_end-whole_to}
@@ -23,14 +23,3 @@ fraction_end c = c.run_end-fraction_to.ensures ∙ ap (run_end (is_in Digit) c.a
 
 pub past_exponent-exponent_from-requires : goal.past_exponent-exponent_from-requires
 past_exponent-exponent_from-requires c = omega (arith, fraction_end c, fraction_within c.args.s.now)
-
-pub returns : goal.returns
-returns c =
-    let xs = c.args.s.now in
-    let a = c.past_sign-whole_from.ensures in
-    let b = whole (goal.at.returns c).After-run_end-whole_to in
-    let d = fraction (goal.at.returns c).After-past_point-fraction_from in
-    let e = fraction_end (goal.at.returns c).After-run_end-fraction_to in
-    let f = c.past_exponent-exponent_from.ensures ∙ ap (past_exponent xs) e in
-    let g = c.run_end-exponent_to.ensures ∙ ap (run_end (is_in Digit) xs) f in
-    λ i. record { whole_from = a i; whole_to = b i; fraction_from = d i; fraction_to = e i; exponent_from = f i; exponent_to = g i }

@@ -8,7 +8,3 @@ use Rattle.decimal.proofs.zero.Goals as goal
 pub returns-then-negative : goal.returns-then-negative
 unfolding neg of_bits
 returns-then-negative c = ap (λ (s : Bool). fin s 0 (pos 0)) (sym c.if-negative.true)
-
-pub returns-else-negative : goal.returns-else-negative
-unfolding of_bits
-returns-else-negative c = ap (λ (s : Bool). fin s 0 (pos 0)) (sym c.if-negative.false)

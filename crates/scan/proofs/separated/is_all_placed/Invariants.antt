@@ -1,12 +1,8 @@
-use Prim.Native.Nat.{◌-◌, ◌≤◌}
 use mathlib.Core.Path.{◌≡◌}
-use lib.ListN.{length, drop}
+use lib.ListN.{drop}
 use Rattle.scan.specs.Byte.{is_in}
 use Rattle.scan.specs.Separated.{all_placed_from}
 use Rattle.scan.proofs.separated.is_all_placed.Given as goal
 
 abbrev pub invariant-loop-i : goal.invariant-loop-i
-invariant-loop-i l = (l.i ≤ length l.s) × (all_placed_from (is_in l.k) l.behind l.initial.allowed l.s ≡ all_placed_from (is_in l.k) l.behind l.allowed (drop l.i l.s))
-
-abbrev pub decreases-loop-i : goal.decreases-loop-i
-decreases-loop-i l = length l.s - l.i
+invariant-loop-i l = all_placed_from (is_in l.k) l.behind l.initial.allowed l.s ≡ all_placed_from (is_in l.k) l.behind l.allowed (drop l.i l.s)
