@@ -20,7 +20,7 @@ use Rattle.calls.specs.laws.Calls.{LexCall, room_in, kinds_left, starts_left, le
 room_counted : (room n : ℕ) (x : Result ℕ Refusal) → roomed room x ≡ Ok n → x ≡ Ok n
 room_counted room n (Ok m) h = go (leb m room) h
   where
-    go : (b : Bool) → cond b (Ok m) (Err no_room) ≡ Ok n → Ok m ≡ Ok n
+    go : (b : Bool) → ◌≡◌ {A = Result ℕ Refusal} (cond b (Ok m) (Err no_room)) (Ok n) → ◌≡◌ {A = Result ℕ Refusal} (Ok m) (Ok n)
     go true e = e
     go false e = let z : ◌≡◌ {A = ℕ} 0 1 = cc in absurd (omega arith)
 room_counted room n (Err r) e = let z : ◌≡◌ {A = ℕ} 0 1 = cc in absurd (omega arith)

@@ -1,11 +1,8 @@
 pub mod Duration
-pub mod Lexer
 pub mod Number
 pub mod Packed
 pub mod Reading
-pub mod Reason
 pub mod String
 pub mod Token
 pub mod Utf8
-pub mod Written
 pub mod laws

@@ -1,6 +1,6 @@
 -- A refusal as one number of 64 bits: bit 63, document 01's number from bit 32, the byte offset from bit 16, and the character number.
 -- Each of the three is packed with its low 16 bits.
-use Rattle.std.specs.Prelude.{ℕ, ◌+◌, ◌*◌, ◌%◌, ◌^◌, ◌≤◌}
+use Rattle.std.specs.Prelude.{ℕ, ◌+◌, ◌*◌, ◌%◌, ◌^◌, ◌≤◌, Err, Ok, Result}
 use Rattle.utf8.specs.declared.Refusal.{Refusal}
 use Rattle.utf8.specs.Answers.{text_limit}
 
@@ -17,6 +17,11 @@ packed_as n b c = refused_from + low_of n * 2 ^ 32 + low_of b * 2 ^ 16 + low_of 
 
 abbrev pub packed_of : Refusal → ℕ
 packed_of r = packed_as r.number r.place.byte.0 r.place.character.0
+
+-- how many there are of something, or the refusal
+abbrev pub counted_code : Result ℕ Refusal → ℕ
+counted_code (Ok n) = n
+counted_code (Err r) = packed_of r
 
 -- no number of document 01's is greater
 abbrev pub number_limit : ℕ

@@ -4,26 +4,28 @@ ghost use Rattle.std.specs.Prelude.{◌≡◌, length};
 ghost use Rattle.utf8.specs.Writing.{left_by};
 ghost use Rattle.duration.specs.Duration.{timing_of, exact_timing_of};
 ghost use Rattle.duration.specs.Display.{duration_text, displaying_of};
+ghost use Rattle.exports.specs.Packed.{counted_code};
 ghost use Rattle.exports.specs.Duration.{duration_code, secs_left, nanos_left, duration_of};
-ghost use Rattle.exports.specs.Written.{written_code};
 
 use crate::packing;
 use duration::span::Duration;
-use duration::{Timing, display};
-use utf8::Writing;
+use duration::display;
+use utf8::Refusal;
 
 // 0 for an answer that is a duration, whose seconds and nanoseconds it writes; or the refusal.
-fn told(t: Timing, secs: &mut u64, nanos: &mut u32) -> u64
+fn told(t: Result<Duration, Refusal>, secs: &mut u64, nanos: &mut u32) -> u64
     ensures value { result ≡ duration_code t }
     ensures secs_after { secs.new ≡ secs_left t secs.old }
     ensures nanos_after { nanos.new ≡ nanos_left t nanos.old }
 {
-    let Timing::Lasts(d) = t else {
-        return packing::packed(duration::not_timed(t));
-    };
-    *secs = d.secs;
-    *nanos = d.nanos;
-    0
+    match t {
+        Ok(d) => {
+            *secs = d.secs;
+            *nanos = d.nanos;
+            0
+        }
+        Err(refusal) => packing::packed(refusal),
+    }
 }
 
 // 0 for a duration, whose seconds and nanoseconds it writes; or refusal 1, 2 or 50 to 54.
@@ -53,12 +55,8 @@ pub extern "C" fn simmerpath_parse_duration_exact(
 // How many bytes of a duration's text were written at the front of a lent buffer, or refusal 54 or 3.
 #[unsafe(no_mangle)]
 pub extern "C" fn simmerpath_display_duration(secs: u64, nanos: u32, out: &mut [u8]) -> u64
-    ensures value { result ≡ written_code (displaying_of (length out.old) (duration_of secs nanos)) }
+    ensures value { result ≡ counted_code (displaying_of (length out.old) (duration_of secs nanos)) }
     ensures out_after { out.new ≡ left_by (displaying_of (length out.old) (duration_of secs nanos)) (duration_text (duration_of secs nanos)) out.old }
 {
-    let d = display::display_duration(Duration { secs, nanos }, out);
-    let Writing::Written(n) = d else {
-        return packing::packed(utf8::not_written(d));
-    };
-    n as u64
+    packing::counted(display::display_duration(Duration { secs, nanos }, out))
 }

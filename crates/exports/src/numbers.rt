@@ -7,7 +7,6 @@ ghost use Rattle.exports.specs.Reading.{reading_of};
 
 use crate::{packing, reading};
 use decimal::Notation;
-use number::Parsing;
 
 // A notation as a number.
 fn notation_code(notation: Notation) -> u64
@@ -26,11 +25,11 @@ pub extern "C" fn simmerpath_parse_str_radix(text: &[u8], documented: u32, bits:
     ensures value { result ≡ parse_code (parsing_of (reading_of documented) text.now) }
     ensures bits_after { bits.new ≡ parse_left (parsing_of (reading_of documented) text.now) bits.old }
 {
-    let p = number::parse_str_radix(text, reading::reading_of(documented));
-    let Parsing::Value(n) = p else {
-        return packing::packed(number::not_parsed(p));
-    };
-    *bits = decimal::bits_of(n.value);
-    let notation = n.notation;
-    notation_code(notation)
+    match number::parse_str_radix(text, reading::reading_of(documented)) {
+        Ok(number) => {
+            *bits = decimal::bits_of(number.value);
+            notation_code(number.notation)
+        }
+        Err(refusal) => packing::packed(refusal),
+    }
 }

@@ -2,7 +2,7 @@
 // character number.
 ghost use Rattle.std.specs.Prelude.{◌≡◌};
 ghost use Rattle.utf8.specs.Answers.{at_start};
-ghost use Rattle.exports.specs.Packed.{low_of, packed_of};
+ghost use Rattle.exports.specs.Packed.{low_of, packed_of, counted_code};
 
 use utf8::Refusal;
 
@@ -28,10 +28,10 @@ fn low(x: usize) -> u64
 pub fn packed(r: Refusal) -> u64
     ensures { result ≡ packed_of r }
 {
-    let place = r.place;
-    let byte = place.byte;
-    let character = place.character;
-    REFUSED + low(r.number) * NUMBER_UNIT + low(byte.0) * BYTE_UNIT + low(character.0)
+    REFUSED
+        + low(r.number) * NUMBER_UNIT
+        + low(r.place.byte.0) * BYTE_UNIT
+        + low(r.place.character.0)
 }
 
 // A refusal that names no place of a text, as one number.
@@ -39,4 +39,14 @@ pub fn packed_at_start(number: usize) -> u64
     ensures { result ≡ packed_of (at_start number) }
 {
     packed(utf8::at_start(number))
+}
+
+// How many there are of something, or the refusal, as one number.
+pub(crate) fn counted(answer: Result<usize, Refusal>) -> u64
+    ensures { result ≡ counted_code answer }
+{
+    match answer {
+        Ok(n) => n as u64,
+        Err(refusal) => packed(refusal),
+    }
 }

@@ -3,13 +3,10 @@
 ghost use Rattle.std.specs.Prelude.{◌≡◌, length};
 ghost use Rattle.lex.specs.Lex.{lexed, listed, left_after, kind_of, starts_at, length_of, depth_of, shortest};
 ghost use Rattle.reason.specs.Reason.{reasoned};
-ghost use Rattle.exports.specs.Lexer.{lexer_code};
-ghost use Rattle.exports.specs.Reason.{reason_code};
+ghost use Rattle.exports.specs.Packed.{counted_code};
 ghost use Rattle.exports.specs.Reading.{reading_of};
 
 use crate::{packing, reading};
-use lex::Lexing;
-use reason::Reasoning;
 
 // How many lexemes of a query in a reading, its end included, were written to the front of four lent lists, or refusal 1, 2, 10 to 32 or 3.
 #[unsafe(no_mangle)]
@@ -21,34 +18,20 @@ pub extern "C" fn simmerpath_lexer(
     lengths: &mut [u32],
     depths: &mut [u32],
 ) -> u64
-    ensures value { result ≡ lexer_code (lexed (reading_of documented) (shortest (length kinds.old) (length starts.old) (length lengths.old) (length depths.old)) query.now) }
+    ensures value { result ≡ counted_code (lexed (reading_of documented) (shortest (length kinds.old) (length starts.old) (length lengths.old) (length depths.old)) query.now) }
     ensures kinds_after { kinds.new ≡ left_after (lexed (reading_of documented) (shortest (length kinds.old) (length starts.old) (length lengths.old) (length depths.old)) query.now) (listed (reading_of documented) kind_of query.now kinds.old) kinds.old }
     ensures starts_after { starts.new ≡ left_after (lexed (reading_of documented) (shortest (length kinds.old) (length starts.old) (length lengths.old) (length depths.old)) query.now) (listed (reading_of documented) starts_at query.now starts.old) starts.old }
     ensures lengths_after { lengths.new ≡ left_after (lexed (reading_of documented) (shortest (length kinds.old) (length starts.old) (length lengths.old) (length depths.old)) query.now) (listed (reading_of documented) length_of query.now lengths.old) lengths.old }
     ensures depths_after { depths.new ≡ left_after (lexed (reading_of documented) (shortest (length kinds.old) (length starts.old) (length lengths.old) (length depths.old)) query.now) (listed (reading_of documented) depth_of query.now depths.old) depths.old }
 {
-    let l = lex::lexer(
-        query,
-        reading::reading_of(documented),
-        kinds,
-        starts,
-        lengths,
-        depths,
-    );
-    let Lexing::Count(n) = l else {
-        return packing::packed(lex::not_lexed(l));
-    };
-    n as u64
+    let reading = reading::reading_of(documented);
+    packing::counted(lex::lexer(query, reading, kinds, starts, lengths, depths))
 }
 
 // Why the word that is a query's lexeme of a number, in a reading, has its kind: a reason from 1 to 7; or refusal 1, 2, 10 to 32, 72 or 74.
 #[unsafe(no_mangle)]
 pub extern "C" fn simmerpath_word_reason(query: &[u8], documented: u32, number: usize) -> u64
-    ensures { result ≡ reason_code (reasoned (reading_of documented) number query.now) }
+    ensures { result ≡ counted_code (reasoned (reading_of documented) number query.now) }
 {
-    let w = reason::word_reason(query, reading::reading_of(documented), number);
-    let Reasoning::Reason(n) = w else {
-        return packing::packed(reason::not_reasoned(w));
-    };
-    n as u64
+    packing::counted(reason::word_reason(query, reading::reading_of(documented), number))
 }

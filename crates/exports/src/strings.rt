@@ -5,13 +5,12 @@ ghost use Rattle.utf8.specs.Writing.{left_by};
 ghost use Rattle.string.specs.Escape.{escaped, escaping_of};
 ghost use Rattle.string.specs.declared.Unquoting.TheVariants.{Inner, Written};
 ghost use Rattle.string.specs.Literal.{unquoted, unquoting_of, text_by};
-ghost use Rattle.exports.specs.Written.{written_code};
+ghost use Rattle.exports.specs.Packed.{counted_code};
 ghost use Rattle.exports.specs.Reading.{reading_of};
 ghost use Rattle.exports.specs.String.{inner_from, unquote_code};
 
 use crate::{packing, reading};
-use string::{Unquoting, escape};
-use utf8::Writing;
+use string::{Unquoted, escape};
 
 // Bit 32: a text stands in the literal itself.
 const INNER: u64 = 0x1_0000_0000;
@@ -19,26 +18,10 @@ const INNER: u64 = 0x1_0000_0000;
 // How many bytes of an escaped text were written at the front of a lent buffer, or refusal 1, 2 or 3.
 #[unsafe(no_mangle)]
 pub extern "C" fn simmerpath_escape_string(text: &[u8], out: &mut [u8]) -> u64
-    ensures value { result ≡ written_code (escaping_of (length out.old) text.now) }
+    ensures value { result ≡ counted_code (escaping_of (length out.old) text.now) }
     ensures out_after { out.new ≡ left_by (escaping_of (length out.old) text.now) (escaped text.now) out.old }
 {
-    let e = escape::escape_string(text, out);
-    let Writing::Written(size) = e else {
-        return packing::packed(utf8::not_written(e));
-    };
-    size as u64
-}
-
-// What is told of a text that was not written: how many bytes of it stand in the literal itself, or its refusal.
-fn unwritten_code(u: Unquoting) -> u64
-    requires unwritten { (n : ℕ) → u ≡ Written n → ⊥ }
-    requires inner_fits { (n : ℕ) → u ≡ Inner n → n < inner_from }
-    ensures { result ≡ unquote_code u }
-{
-    let Unquoting::Inner(n) = u else {
-        return packing::packed(string::not_unquoted(u));
-    };
-    INNER + n as u64
+    packing::counted(escape::escape_string(text, out))
 }
 
 // How many bytes the text of a literal has: it was written at the front of a lent buffer, or, with bit 32, it stands behind the
@@ -48,9 +31,9 @@ pub extern "C" fn simmerpath_unquote_string(literal: &[u8], documented: u32, tex
     ensures value { result ≡ unquote_code (unquoting_of (reading_of documented) (length text.old) literal.now) }
     ensures text_after { text.new ≡ text_by (unquoting_of (reading_of documented) (length text.old) literal.now) (unquoted (reading_of documented) literal.now) text.old }
 {
-    let u = string::unquote_string(literal, reading::reading_of(documented), text);
-    let Unquoting::Written(n) = u else {
-        return unwritten_code(u);
-    };
-    n as u64
+    match string::unquote_string(literal, reading::reading_of(documented), text) {
+        Ok(Unquoted::Written(n)) => n as u64,
+        Ok(Unquoted::Inner(n)) => INNER + n as u64,
+        Err(refusal) => packing::packed(refusal),
+    }
 }

@@ -5,12 +5,10 @@ ghost use Rattle.utf8.specs.Writing.{left_by};
 ghost use Rattle.token.specs.Display.{display_of, displayed};
 ghost use Rattle.token.specs.Words.{keyword_of};
 ghost use Rattle.token.specs.Label.{is_label};
+ghost use Rattle.exports.specs.Packed.{counted_code};
 ghost use Rattle.exports.specs.Token.{keyword_code, flag, classes_code};
-ghost use Rattle.exports.specs.Written.{written_code};
 
 use crate::packing;
-use token::Keyword;
-use utf8::Writing;
 
 // No kind has this number: a word that has none of its own is answered with it.
 const NO_KIND: u64 = 0x1_0000;
@@ -31,24 +29,19 @@ const AGGREGATOR_WITH_PARAM: u64 = 16;
 pub extern "C" fn simmerpath_get_keyword_token(word: &[u8]) -> u64
     ensures { result ≡ keyword_code (keyword_of word.now) }
 {
-    let k = token::get_keyword_token(word);
-    let Keyword::Kind(kind) = k else {
-        return NO_KIND;
-    };
-    kind as u64
+    match token::get_keyword_token(word) {
+        Some(kind) => kind as u64,
+        None => NO_KIND,
+    }
 }
 
 // How many bytes of the text that a kind is shown as were written at the front of a lent buffer, or refusal 3.
 #[unsafe(no_mangle)]
 pub extern "C" fn simmerpath_token_display(kind: u16, out: &mut [u8]) -> u64
-    ensures value { result ≡ written_code (displayed (length out.old) kind) }
+    ensures value { result ≡ counted_code (displayed (length out.old) kind) }
     ensures out_after { out.new ≡ left_by (displayed (length out.old) kind) (display_of kind) out.old }
 {
-    let d = token::token_display(kind, out);
-    let Writing::Written(n) = d else {
-        return packing::packed(utf8::not_written(d));
-    };
-    n as u64
+    packing::counted(token::token_display(kind, out))
 }
 
 // A flag as a number that is worth so much.

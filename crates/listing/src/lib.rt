@@ -11,7 +11,6 @@ ghost use Rattle.lex.specs.steps.Pass.{Alike};
 ghost use Rattle.listing.specs.Listing.{most_lexemes, most_numbers, number_then, numbers, refusal, lexeme_text, lexemes_text, zipped, printed_by, printed};
 ghost use Rattle.listing.specs.steps.Puts.{most_room, Puts};
 
-use lex::Lexing;
 use utf8::{Reading, Refusal};
 
 // A longer input is refused.
@@ -57,12 +56,15 @@ fn put_refusal(out: &mut [u8], at: usize, r: Refusal) -> usize
     ensures value { result ≡ past_at out.old at (refusal r) }
     ensures out_after { out.new ≡ put_at out.old at (refusal r) }
 {
-    let place = r.place;
-    let byte = place.byte;
-    let character = place.character;
     let mut line = [0u8; LONGEST_LINE];
     let from = writing::put_text(&mut line, 0, b"refused ");
-    let end = put_numbers(&mut line, from, r.number, byte.0, character.0);
+    let end = put_numbers(
+        &mut line,
+        from,
+        r.number,
+        r.place.byte.0,
+        r.place.character.0,
+    );
     writing::put_text(out, at, &line[..end])
 }
 
@@ -88,10 +90,8 @@ fn put_lexemes(
     ensures { Puts (lexemes_text (zipped kinds.now starts.now lengths.now depths.now)) text.old 0 result text.new }
 {
     let mut at = 0;
-    let mut i = 0;
-    while i < kinds.len() {
-        at = put_lexeme(text, at, kinds[i], starts[i], lengths[i], depths[i]);
-        i += 1;
+    for (i, &kind) in kinds.iter().enumerate() {
+        at = put_lexeme(text, at, kind, starts[i], lengths[i], depths[i]);
     }
     at
 }
@@ -109,11 +109,10 @@ fn lex_to(
     requires most_room_in_bounds { most_room ≤ length text.old }
     ensures { Puts (printed_by query.now (lexed Reading.Crate most_lexemes query.now)) text.old 0 result text.new }
 {
-    let x = lex::lexer(query, Reading::Crate, kinds, starts, lengths, depths);
-    let Lexing::Count(n) = x else {
-        return put_refusal(text, 0, lex::not_lexed(x));
-    };
-    put_lexemes(&kinds[..n], &starts[..n], &lengths[..n], &depths[..n], text)
+    match lex::lexer(query, Reading::Crate, kinds, starts, lengths, depths) {
+        Ok(n) => put_lexemes(&kinds[..n], &starts[..n], &lengths[..n], &depths[..n], text),
+        Err(refusal) => put_refusal(text, 0, refusal),
+    }
 }
 
 // Writes what is printed of an input to a list that has room for it.

@@ -33,7 +33,7 @@ module _ (r : Reading) (q : List ℕ) (number : ℕ) where
       counted (outcome_of r q) 0 ∙ ap (λ (k : ℕ). reason_as r number q (answer_by q k (outcome_of r q))) z ∙ rw e
 
 -- a number at or past the count, and one before it
-module _ (q : List ℕ) (number n : ℕ) (f : Found) where
+module _ (q : List ℕ) (number n : ℕ) (f : Option Found) where
   pub none_there : n ≤ number → answer_of q number (Ended n f) ≡ no_lexeme
   none_there l = rw (le-leb n number l)
 

@@ -5,7 +5,7 @@ use mathlib.Core.List.{List}
 use mathlib.Core.Path.{◌≡◌, refl, ap, subst}
 use lib.Dec.{leb}
 use lib.ListN.{drop}
-use Rattle.std.specs.Prelude.{Err, Ok, Result}
+use Rattle.std.specs.Prelude.{Err, Ok, Result, None, Option, Some}
 use Rattle.proving.proofs.Choice.{either}
 use Rattle.utf8.specs.declared.Reading.{Reading}
 use Rattle.utf8.specs.declared.Refusal.{Refusal}
@@ -14,15 +14,11 @@ use Rattle.munch.specs.declared.word.Rule.TheVariants.{Or, InBraces, Table, Fill
 use Rattle.lex.specs.Lex.{measured, roomed, lexed}
 use Rattle.lex.specs.laws.Bounds.{LexingWithin}
 use Rattle.lex.proofs.Bounds.{lexing_bounded}
-use Rattle.reason.specs.declared.Wording.{Wording}
-use Rattle.reason.specs.declared.Wording.TheVariants.{Word, Other}
 use Rattle.reason.specs.declared.Found.{Found}
-use Rattle.reason.specs.declared.Found.TheVariants.{There, Nowhere}
-use Rattle.reason.specs.declared.Reasoning.TheVariants.{Refused}
 use Rattle.reason.specs.Reason.{wording_of, lexeme_at, reason_of, reason_at, reason_as, reasoned}
 use Rattle.reason.specs.laws.Reasons.{ReasoningWithin, ReasonBounded}
 
-of_rule : (x : Rule) → ReasoningWithin (reason_of (Word x))
+of_rule : (x : Rule) → ReasoningWithin (reason_of (Some x))
 of_rule Or = (omega arith, omega arith)
 of_rule InBraces = (omega arith, omega arith)
 of_rule (Table k) = (omega arith, omega arith)
@@ -31,16 +27,16 @@ of_rule FillAlone = (omega arith, omega arith)
 of_rule WithColon = (omega arith, omega arith)
 of_rule Plain = (omega arith, omega arith)
 
-of_wording : (w : Wording) → ReasoningWithin (reason_of w)
-of_wording (Word x) = of_rule x
-of_wording Other = (omega arith, omega arith, omega arith)
+of_wording : (w : Option Rule) → ReasoningWithin (reason_of w)
+of_wording (Some x) = of_rule x
+of_wording None = (omega arith, omega arith, omega arith)
 
-of_found : (q : List ℕ) (f : Found) → ReasoningWithin (reason_at q f)
-of_found q (There at m) = of_wording (wording_of m.inside (drop at q))
-of_found q Nowhere = (omega arith, omega arith, omega arith)
+of_found : (q : List ℕ) (f : Option Found) → ReasoningWithin (reason_at q f)
+of_found q (Some f') = of_wording (wording_of f'.mode.inside (drop f'.at q))
+of_found q None = (omega arith, omega arith, omega arith)
 
 -- a refused query is refused so without room
-of_refused : (r : Reading) (q : List ℕ) (refusal : Refusal) → measured r q ≡ Err refusal → ReasoningWithin (Refused refusal)
+of_refused : (r : Reading) (q : List ℕ) (refusal : Refusal) → measured r q ≡ Err refusal → ReasoningWithin (Err refusal)
 unfolding lexed
 of_refused r q refusal e = let b = subst LexingWithin (ap (roomed 0) e) (lexing_bounded r 0 q) in (omega (arith, b.0), b.1, b.2)
 

@@ -41,9 +41,6 @@ use Rattle.lex.proofs.Given.{measured_given}
 use Rattle.calls.specs.laws.Calls.{kinds_left}
 use Rattle.calls.proofs.Calls.{counted, writes}
 use Rattle.depths.proofs.Modes.{mode_tells}
-use Rattle.reason.specs.declared.Reasoning.{Reasoning}
-use Rattle.reason.specs.declared.Reasoning.TheVariants.{Reason, Refused}
-use Rattle.reason.specs.declared.Wording.TheVariants.{Word}
 use Rattle.reason.specs.declared.Found.{Found}
 use Rattle.reason.specs.Reason.{reason_by, word_outside, word_in_braces, wording_of, no_lexeme, no_word, reason_of, reason_at, reasoned}
 use Rattle.reason.specs.Conditions.{text_of, first_of, end_of, BracesOpen, NothingOpen, WordInBraces, WordOutside, IsWord, IsOr, Called, Applies, or_in_braces, word_of_braces, table_word, fill_called, fill_alone, with_colon, plain, Gives, or_is_or, name_in_braces, its_own, called_its_own, fill_is_a_name, metric_name, name}
@@ -149,11 +146,11 @@ words_reasoned q es e = (reason, λ a. word a.1)
     word (plain w t c) = inr w
 
 -- what is answered, and why
-data Verdict (q : List ℕ) (es : List Entry) (e : Entry) : Reasoning → Type 0 where
-  given : (n : ℕ) → Applies q es e n → Gives (text_of q e) n e.kind → Verdict q es e (Reason n)
+data Verdict (q : List ℕ) (es : List Entry) (e : Entry) : Result ℕ Refusal → Type 0 where
+  given : (n : ℕ) → Applies q es e n → Gives (text_of q e) n e.kind → Verdict q es e (Ok n)
   none : (¬ (IsWord q es e)) → Verdict q es e no_word
 
-by_rule : {q : List ℕ} {es : List Entry} {e : Entry} (rule : Rule) → Judged q es e rule → e.kind ≡ kind_by rule → Verdict q es e (reason_of (Word rule))
+by_rule : {q : List ℕ} {es : List Entry} {e : Entry} (rule : Rule) → Judged q es e rule → e.kind ≡ kind_by rule → Verdict q es e (reason_of (Some rule))
 by_rule {q} {es} {e} rule j k = given (reason_by rule) j.0 (subst (Gives (text_of q e) (reason_by rule)) (sym k) j.1)
 
 -- where a word begins, the step is the word's
@@ -229,7 +226,7 @@ module _ (r : Reading) (q : List ℕ) (short : length q ≤ text_limit) (at k n 
       go (Brackets seen fresh) o = none (none_there q es e (λ b. absurd (omega (arith, open_is o b))) (λ b. absurd (omega (arith, not_open o b))))
 
 -- of what the search finds
-verdict_found : (r : Reading) (q : List ℕ) → length q ≤ text_limit → {x : Found} {e : Entry} → Finds r q x e → Verdict q (entries_of r q) e (reason_at q x)
+verdict_found : (r : Reading) (q : List ℕ) → length q ≤ text_limit → {x : Option Found} {e : Entry} → Finds r q x e → Verdict q (entries_of r q) e (reason_at q x)
 verdict_found r q l (there at k n m m' h f) = verdict_there r q l at k n m m' h f
 verdict_found r q l (nowhere at z) = none (none_there q (entries_of r q) (eof at) (λ b. rw z end_no_letter) (λ b. rw z end_no_start))
 
@@ -241,33 +238,33 @@ verdict r q number n e l =
     rw (e, lt-leb n number l) (verdict_found r q (omega (arith, g.0.0)) (finds r q number (omega (arith, g.2, l))))
 
 -- the number of a reason, and that of a refusal
-abbrev reason_in : Reasoning → ℕ
-reason_in (Reason n) = suc n
-reason_in (Refused refusal) = 0
+abbrev reason_in : Result ℕ Refusal → ℕ
+reason_in (Ok n) = suc n
+reason_in (Err refusal) = 0
 
-abbrev refused_in : Reasoning → ℕ
-refused_in (Reason n) = 0
-refused_in (Refused refusal) = refusal.number
+abbrev refused_in : Result ℕ Refusal → ℕ
+refused_in (Ok n) = 0
+refused_in (Err refusal) = refusal.number
 
 -- what an answer says, and what gives it
 module _ (q : List ℕ) (es : List Entry) (e : Entry) where
-  reason_is : {x : Reasoning} (n : ℕ) → Verdict q es e x → x ≡ Reason n → Applies q es e n × Gives (text_of q e) n e.kind
+  reason_is : {x : Result ℕ Refusal} (n : ℕ) → Verdict q es e x → x ≡ Ok n → Applies q es e n × Gives (text_of q e) n e.kind
   reason_is n (given i a g) z = let y : i ≡ n = omega (arith, ap reason_in z) in (rw y at a, rw y at g)
   reason_is n (none a) z = absurd (omega (arith, ap reason_in z))
 
-  is_reason : {x : Reasoning} (n : ℕ) → Verdict q es e x → Applies q es e n → x ≡ Reason n
-  is_reason n (given i a g) b = ap Reason (one_reason q es e i n a b)
+  is_reason : {x : Result ℕ Refusal} (n : ℕ) → Verdict q es e x → Applies q es e n → x ≡ Ok n
+  is_reason n (given i a g) b = ap Ok (one_reason q es e i n a b)
   is_reason n (none a) b = absurd (a ((words_reasoned q es e).1 (n, b)))
 
-  none_is : {x : Reasoning} → Verdict q es e x → x ≡ no_word → ¬ (IsWord q es e)
+  none_is : {x : Result ℕ Refusal} → Verdict q es e x → x ≡ no_word → ¬ (IsWord q es e)
   none_is (given i a g) z = absurd (omega (arith, ap reason_in z))
   none_is (none a) z = a
 
-  is_none : {x : Reasoning} → Verdict q es e x → (¬ (IsWord q es e)) → x ≡ no_word
+  is_none : {x : Result ℕ Refusal} → Verdict q es e x → (¬ (IsWord q es e)) → x ≡ no_word
   is_none (given i a g) n = absurd (n ((words_reasoned q es e).1 (i, a)))
   is_none (none a) n = refl
 
-  never_72 : {x : Reasoning} → Verdict q es e x → ¬ (x ≡ no_lexeme)
+  never_72 : {x : Result ℕ Refusal} → Verdict q es e x → ¬ (x ≡ no_lexeme)
   never_72 (given i a g) z = omega (arith, ap refused_in z)
   never_72 (none a) z = omega (arith, ap refused_in z)
 
@@ -296,7 +293,7 @@ unfolding reasoned
 lexing_refused r q number refusal e = rw e
 
 -- a reason is given of a lexeme that there is, in an accepted query
-reason_counted : (r : Reading) (q : List ℕ) (number n : ℕ) → reasoned r number q ≡ Reason n → (count : ℕ) × (measured r q ≡ Ok count) × (number < count)
+reason_counted : (r : Reading) (q : List ℕ) (number n : ℕ) → reasoned r number q ≡ Ok n → (count : ℕ) × (measured r q ≡ Ok count) × (number < count)
 reason_counted r q number n z = go (measured r q) refl
   where
     go : (x : Result ℕ Refusal) → measured r q ≡ x → (count : ℕ) × (measured r q ≡ Ok count) × (number < count)

@@ -14,37 +14,36 @@ use Rattle.munch.specs.Munch.{outside, munched}
 use Rattle.lex.specs.Outcome.{steps_past, read_from, outcome_of}
 use Rattle.lex.proofs.Steps.{steps_at, goes_at}
 use Rattle.reason.specs.declared.Found.{Found}
-use Rattle.reason.specs.declared.Found.TheVariants.{There, Nowhere}
 use Rattle.reason.specs.declared.Sought.TheVariants as sought
 use Rattle.reason.specs.Reason.{found_in, lexeme_at}
 use Rattle.reason.specs.steps.Search.{search_by, searched, or_else, FoundWithin}
 
 -- where the search stands: at an offset in a mode, with so many lexemes before it, and what was found
-pub record Looks (r : Reading) (q : List ℕ) (wanted at i : ℕ) (m : Mode) (f : Found) : Type 0 where
+pub record Looks (r : Reading) (q : List ℕ) (wanted at i : ℕ) (m : Mode) (f : Option Found) : Type 0 where
   pub inside : at ≤ length q
   pub few : i ≤ at
-  pub late : i ≤ wanted → f ≡ Nowhere
+  pub late : i ≤ wanted → f ≡ None
   pub within : FoundWithin q f
   pub found : lexeme_at r q wanted ≡ or_else f (found_in wanted i at m (steps_past r 0 m (drop at q)))
-  pub count : (g : Found) → search_by g 0 (outcome_of r q) ≡ search_by g i (read_from at (steps_past r 0 m (drop at q)))
+  pub count : (g : Option Found) → search_by g 0 (outcome_of r q) ≡ search_by g i (read_from at (steps_past r 0 m (drop at q)))
 
-pub looks_start : (r : Reading) (q : List ℕ) (wanted : ℕ) → Looks r q wanted 0 0 outside Nowhere
+pub looks_start : (r : Reading) (q : List ℕ) (wanted : ℕ) → Looks r q wanted 0 0 outside None
 looks_start r q wanted = record { inside = omega arith; few = omega arith; late = λ l. refl; within = tt; found = refl; count = λ g. refl }
 
-or_nowhere : (f : Found) → or_else f Nowhere ≡ f
-or_nowhere (There at m) = refl
-or_nowhere Nowhere = refl
+or_nowhere : (f : Option Found) → or_else f None ≡ f
+or_nowhere (Some f') = refl
+or_nowhere None = refl
 
-module _ {r : Reading} {q : List ℕ} {wanted at i : ℕ} {m : Mode} {f : Found} (l : Looks r q wanted at i m f) where
+module _ {r : Reading} {q : List ℕ} {wanted at i : ℕ} {m : Mode} {f : Option Found} (l : Looks r q wanted at i m f) where
   -- a lexeme is the one, or is passed; g is what is found behind it
-  lexeme_found : {k n : ℕ} {next : Mode} → munched r m (drop at q) ≡ Lexeme k n next → (g : Found)
-      → ((i ≡ wanted) × (g ≡ There at m)) ⊎ ((¬ (i ≡ wanted)) × (g ≡ f)) → lexeme_at r q wanted ≡ or_else g (found_in wanted (i + 1) (at + n) next (steps_past r 0 next (drop (at + n) q)))
+  lexeme_found : {k n : ℕ} {next : Mode} → munched r m (drop at q) ≡ Lexeme k n next → (g : Option Found)
+      → ((i ≡ wanted) × (g ≡ there at m)) ⊎ ((¬ (i ≡ wanted)) × (g ≡ f)) → lexeme_at r q wanted ≡ or_else g (found_in wanted (i + 1) (at + n) next (steps_past r 0 next (drop (at + n) q)))
   unfolding found_in
   lexeme_found e g (inl (z, h)) = rw h (l.found ∙ rw (l.late (omega (arith, z)), steps_at r q at m _ e, eq-eqb i wanted z))
   lexeme_found e g (inr (z, h)) = rw h (l.found ∙ rw (steps_at r q at m _ e, ne_eqb i wanted z))
 
-  pub looks_lexeme : {k n : ℕ} {next : Mode} → munched r m (drop at q) ≡ Lexeme k n next → (g : Found)
-      → ((i ≡ wanted) × (g ≡ There at m)) ⊎ ((¬ (i ≡ wanted)) × (g ≡ f)) → Looks r q wanted (at + n) (i + 1) next g
+  pub looks_lexeme : {k n : ℕ} {next : Mode} → munched r m (drop at q) ≡ Lexeme k n next → (g : Option Found)
+      → ((i ≡ wanted) × (g ≡ there at m)) ⊎ ((¬ (i ≡ wanted)) × (g ≡ f)) → Looks r q wanted (at + n) (i + 1) next g
   unfolding read_from search_by
   looks_lexeme {k} {n} {next} e g w =
       let p = goes_at r q at m _ e in
@@ -57,11 +56,11 @@ module _ {r : Reading} {q : List ℕ} {wanted at i : ℕ} {m : Mode} {f : Found}
         count = λ h. l.count h ∙ rw (steps_at r q at m _ e);
       }
     where
-      later : ((i ≡ wanted) × (g ≡ There at m)) ⊎ ((¬ (i ≡ wanted)) × (g ≡ f)) → i + 1 ≤ wanted → g ≡ Nowhere
+      later : ((i ≡ wanted) × (g ≡ there at m)) ⊎ ((¬ (i ≡ wanted)) × (g ≡ f)) → i + 1 ≤ wanted → g ≡ None
       later (inl (z, h)) u = absurd (omega (arith, z, u))
       later (inr (z, h)) u = h ∙ l.late (omega (arith, u))
 
-      inner : ((i ≡ wanted) × (g ≡ There at m)) ⊎ ((¬ (i ≡ wanted)) × (g ≡ f)) → FoundWithin q g
+      inner : ((i ≡ wanted) × (g ≡ there at m)) ⊎ ((¬ (i ≡ wanted)) × (g ≡ f)) → FoundWithin q g
       inner (inl (z, h)) = rw h l.inside
       inner (inr (z, h)) = rw h l.within
 

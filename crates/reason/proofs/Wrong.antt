@@ -3,6 +3,7 @@
 use Prim.Native.Nat.{ℕ}
 use mathlib.Core.List.{List, [], ◌∷◌}
 use mathlib.Core.Path.{◌≡◌}
+use Rattle.std.specs.Prelude.{Err, Ok, Result}
 use Rattle.scan.specs.Ascii.{ascii}
 use Rattle.scan.specs.Byte.{is_within, is_in, is_space, is_alpha, is_alpha_numeric, is_word, is_line, is_quote, lowered}
 use Rattle.scan.specs.Run.{run_length}
@@ -23,8 +24,6 @@ use Rattle.utf8.specs.declared.Refusal.{Refusal}
 use Rattle.proving.proofs.One.{Answers}
 use Rattle.lex.specs.Outcome.{steps_past, read_from}
 use Rattle.lex.specs.Lex.{answer_by, measured}
-use Rattle.reason.specs.declared.Reasoning.{Reasoning}
-use Rattle.reason.specs.declared.Reasoning.TheVariants.{Reason, Refused}
 use Rattle.reason.specs.Reason.{word_outside, word_in_braces, wording_of, found_in, reasoned, not_reasoned}
 use Rattle.reason.proofs.word_reason.Kinds as word_reason
 use Rattle.reason.proofs.word_reason.Reads as word_reason_reads
@@ -37,84 +36,84 @@ unfolding reasoned found_in wording_of word_outside word_in_braces brace_rule is
 reasoning = tt
 
 -- a refusal by its number, at a byte and a character
-abbrev refused : ℕ → ℕ → ℕ → Reasoning
-refused r b c = Refused (record { number = r; place = place b c })
+abbrev refused : ℕ → ℕ → ℕ → Result ℕ Refusal
+refused r b c = Err (record { number = r; place = place b c })
 
-abbrev word_reason_gives : Reading → List ℕ → ℕ → Reasoning → Type 0
+abbrev word_reason_gives : Reading → List ℕ → ℕ → Result ℕ Refusal → Type 0
 word_reason_gives r q n v = Answers word_reason.ps word_reason.r word_reason_reads.Post (λ κs a. (a.0.now ≡ q) × (a.1.0 ≡ r) × (a.1.1.0 ≡ n)) (λ κs. v)
 
 word_reason_at : (r : Reading) (q : List ℕ) (n : ℕ) → word_reason_gives r q n (reasoned r n q)
 word_reason_at r q n κs a x e p h = cc (p, h.0, h.1, h.2)
 
-pub or_before_a_space_in_braces_is_or : word_reason_gives Crate (ascii "{or }") 1 (Reason 1)
+pub or_before_a_space_in_braces_is_or : word_reason_gives Crate (ascii "{or }") 1 (Ok 1)
 unfolding reasoning
 or_before_a_space_in_braces_is_or = word_reason_at _ _ _
 
-pub or_in_upper_case_is_too : word_reason_gives Documented (ascii "{OR }") 1 (Reason 1)
+pub or_in_upper_case_is_too : word_reason_gives Documented (ascii "{OR }") 1 (Ok 1)
 unfolding reasoning
 or_in_upper_case_is_too = word_reason_at _ _ _
 
-pub or_before_a_tab_is_a_name : word_reason_gives Crate (ascii "{or\t}") 1 (Reason 2)
+pub or_before_a_tab_is_a_name : word_reason_gives Crate (ascii "{or\t}") 1 (Ok 2)
 unfolding reasoning
 or_before_a_tab_is_a_name = word_reason_at _ _ _
 
-pub or_before_a_brace_is_a_name : word_reason_gives Crate (ascii "{or}") 1 (Reason 2)
+pub or_before_a_brace_is_a_name : word_reason_gives Crate (ascii "{or}") 1 (Ok 2)
 unfolding reasoning
 or_before_a_brace_is_a_name = word_reason_at _ _ _
 
-pub longer_word_than_or_is_a_name : word_reason_gives Crate (ascii "{order }") 1 (Reason 2)
+pub longer_word_than_or_is_a_name : word_reason_gives Crate (ascii "{order }") 1 (Ok 2)
 unfolding reasoning
 longer_word_than_or_is_a_name = word_reason_at _ _ _
 
-pub word_of_the_table_in_braces_is_a_name : word_reason_gives Crate (ascii "{sum}") 1 (Reason 2)
+pub word_of_the_table_in_braces_is_a_name : word_reason_gives Crate (ascii "{sum}") 1 (Ok 2)
 unfolding reasoning
 word_of_the_table_in_braces_is_a_name = word_reason_at _ _ _
 
-pub fill_word_in_braces_is_a_name : word_reason_gives Crate (ascii "{fill}") 1 (Reason 2)
+pub fill_word_in_braces_is_a_name : word_reason_gives Crate (ascii "{fill}") 1 (Ok 2)
 unfolding reasoning
 fill_word_in_braces_is_a_name = word_reason_at _ _ _
 
-pub word_of_the_table_has_its_kind_by_it : word_reason_gives Crate (ascii "sum") 0 (Reason 3)
+pub word_of_the_table_has_its_kind_by_it : word_reason_gives Crate (ascii "sum") 0 (Ok 3)
 unfolding reasoning
 word_of_the_table_has_its_kind_by_it = word_reason_at _ _ _
 
-pub word_behind_braces_is_outside : word_reason_gives Crate (ascii "{a}or") 3 (Reason 3)
+pub word_behind_braces_is_outside : word_reason_gives Crate (ascii "{a}or") 3 (Ok 3)
 unfolding reasoning
 word_behind_braces_is_outside = word_reason_at _ _ _
 
-pub number_that_is_a_word_is_of_the_table : word_reason_gives Documented (ascii "1-inf") 2 (Reason 3)
+pub number_that_is_a_word_is_of_the_table : word_reason_gives Documented (ascii "1-inf") 2 (Ok 3)
 unfolding reasoning
 number_that_is_a_word_is_of_the_table = word_reason_at _ _ _
 
-pub fill_word_before_a_parenthesis_has_its_kind : word_reason_gives Crate (ascii "fill (1)") 0 (Reason 4)
+pub fill_word_before_a_parenthesis_has_its_kind : word_reason_gives Crate (ascii "fill (1)") 0 (Ok 4)
 unfolding reasoning
 fill_word_before_a_parenthesis_has_its_kind = word_reason_at _ _ _
 
-pub so_has_each_fill_word_in_any_case : word_reason_gives Documented (ascii "FILL_LEFT\n(1)") 0 (Reason 4)
+pub so_has_each_fill_word_in_any_case : word_reason_gives Documented (ascii "FILL_LEFT\n(1)") 0 (Ok 4)
 unfolding reasoning
 so_has_each_fill_word_in_any_case = word_reason_at _ _ _
 
-pub fill_word_alone_is_a_name : word_reason_gives Crate (ascii "fill") 0 (Reason 5)
+pub fill_word_alone_is_a_name : word_reason_gives Crate (ascii "fill") 0 (Ok 5)
 unfolding reasoning
 fill_word_alone_is_a_name = word_reason_at _ _ _
 
-pub comment_is_no_white_space_before_a_parenthesis : word_reason_gives Crate (ascii "fill#\n(1)") 0 (Reason 5)
+pub comment_is_no_white_space_before_a_parenthesis : word_reason_gives Crate (ascii "fill#\n(1)") 0 (Ok 5)
 unfolding reasoning
 comment_is_no_white_space_before_a_parenthesis = word_reason_at _ _ _
 
-pub word_with_a_colon_is_no_plain_word : word_reason_gives Crate (ascii "a:b") 0 (Reason 6)
+pub word_with_a_colon_is_no_plain_word : word_reason_gives Crate (ascii "a:b") 0 (Ok 6)
 unfolding reasoning
 word_with_a_colon_is_no_plain_word = word_reason_at _ _ _
 
-pub colon_alone_is_a_word : word_reason_gives Documented (ascii ":") 0 (Reason 6)
+pub colon_alone_is_a_word : word_reason_gives Documented (ascii ":") 0 (Ok 6)
 unfolding reasoning
 colon_alone_is_a_word = word_reason_at _ _ _
 
-pub plain_word_is_not_of_the_table : word_reason_gives Crate (ascii "a") 0 (Reason 7)
+pub plain_word_is_not_of_the_table : word_reason_gives Crate (ascii "a") 0 (Ok 7)
 unfolding reasoning
 plain_word_is_not_of_the_table = word_reason_at _ _ _
 
-pub separator_is_taken_in_the_documented_reading : word_reason_gives Documented (ascii "1_0 a") 1 (Reason 7)
+pub separator_is_taken_in_the_documented_reading : word_reason_gives Documented (ascii "1_0 a") 1 (Ok 7)
 unfolding reasoning
 separator_is_taken_in_the_documented_reading = word_reason_at _ _ _
 
@@ -162,14 +161,14 @@ pub text_that_is_not_utf8_is_refused : word_reason_gives Crate (0xff ∷ []) 0 (
 unfolding reasoning
 text_that_is_not_utf8_is_refused = word_reason_at _ _ _
 
-abbrev not_reasoned_gives : Reasoning → Refusal → Type 0
+abbrev not_reasoned_gives : Result ℕ Refusal → Refusal → Type 0
 not_reasoned_gives v r = Answers not_reasoned_kinds.ps not_reasoned_kinds.r not_reasoned_reads.Post (λ κs a. a.0 ≡ v) (λ κs. r)
 
-not_reasoned_at : (v : Reasoning) → not_reasoned_gives v (not_reasoned v)
+not_reasoned_at : (v : Result ℕ Refusal) → not_reasoned_gives v (not_reasoned v)
 not_reasoned_at v κs a x e p h = cc (p, h)
 
 pub refusal_of_a_reason_is_told : not_reasoned_gives (refused 74 0 0) (at_start 74)
 refusal_of_a_reason_is_told = not_reasoned_at _
 
-pub reason_has_no_refusal : not_reasoned_gives (Reason 3) (at_start 0)
+pub reason_has_no_refusal : not_reasoned_gives (Ok 3) (at_start 0)
 reason_has_no_refusal = not_reasoned_at _

@@ -12,9 +12,8 @@ use Rattle.duration.proofs.Bounds.{timing_bound}
 use Rattle.duration.specs.Display.{displaying_of}
 use Rattle.duration.specs.laws.Display.{DisplayTells}
 use Rattle.duration.proofs.display.Answers.{display_answers}
-use Rattle.exports.specs.Packed.{refused_from, Packable}
+use Rattle.exports.specs.Packed.{refused_from, Packable, counted_code}
 use Rattle.exports.specs.Duration.{duration_code}
-use Rattle.exports.specs.Written.{written_code}
 use Rattle.exports.specs.laws.Codes.{looks_refused, is_no_duration, DurationTold, DurationKept, is_not_written, DurationDisplayTold, DurationDisplayKept}
 use Rattle.exports.proofs.packing.Laws.{packed_told, placed_kept}
 
@@ -31,7 +30,7 @@ duration_kept o xs r e = let b = timing_bound o xs r e in omega (arith, b)
 pub duration_display_told : DurationDisplayTold
 duration_display_told room d h = go (displaying_of room d) (display_answers room d)
   where
-    go : (e : Result ℕ Refusal) → DisplayTells room d e → looks_refused (written_code e) ≡ is_not_written e
+    go : (e : Result ℕ Refusal) → DisplayTells room d e → looks_refused (counted_code e) ≡ is_not_written e
     go (Ok n) t = lt-leb refused_from n (omega (arith, t.1))
     go (Err r) t = packed_told r
 

@@ -24,9 +24,8 @@ use Rattle.duration.specs.Units.{is_part, behind, sum_by, counted, has_oversized
 use Rattle.duration.specs.Duration.{duration_read, timing_by, timing_of, exact_timing_of}
 use Rattle.writing.specs.Decimal.{digit_for, digits_within, decimal_text}
 use Rattle.duration.specs.Display.{count_text, part_text, rest_of, duration_text, displaying_of}
-use Rattle.exports.specs.Packed.{packed_as}
+use Rattle.exports.specs.Packed.{packed_as, counted_code}
 use Rattle.exports.specs.Duration.{duration_code, secs_left, nanos_left, duration_of}
-use Rattle.exports.specs.Written.{written_code}
 use Rattle.exports.proofs.durations.simmerpath_parse_duration.Kinds as simmerpath_parse_duration
 use Rattle.exports.proofs.durations.simmerpath_parse_duration.Reads as simmerpath_parse_duration_reads
 use Rattle.exports.proofs.durations.simmerpath_parse_duration_exact.Kinds as simmerpath_parse_duration_exact
@@ -141,7 +140,7 @@ abbrev simmerpath_display_duration_gives : ℕ → ℕ → List ℕ → ℕ → 
 simmerpath_display_duration_gives secs nanos out v =
     Answers simmerpath_display_duration.ps simmerpath_display_duration.r simmerpath_display_duration_reads.Post (Given secs nanos out) (λ κs. v)
 
-simmerpath_display_duration_at : (secs nanos : ℕ) (out : List ℕ) → simmerpath_display_duration_gives secs nanos out (written_code (displaying_of (length out) (duration_of secs nanos)))
+simmerpath_display_duration_at : (secs nanos : ℕ) (out : List ℕ) → simmerpath_display_duration_gives secs nanos out (counted_code (displaying_of (length out) (duration_of secs nanos)))
 simmerpath_display_duration_at secs nanos out κs a x e p h = cc (p.0, h.0, h.1, h.2)
 
 pub duration_fits_just_its_length : simmerpath_display_duration_gives 2 0 (ascii "..") 2

@@ -2,25 +2,22 @@
 -- number is at most 74 and its place within the query, by the bounds of `lex`'s and `reason`'s answers.
 use native.Mathlib.Omega.{arith}
 use mathlib.Core.Path.{◌≡◌, subst}
+use Rattle.exports.specs.Packed.{counted_code}
 use Rattle.utf8.specs.declared.Refusal.{Refusal}
 use Rattle.std.specs.Prelude.{Err, Ok, Result, ℕ}
 use Rattle.lex.specs.Lex.{lexed}
 use Rattle.lex.specs.laws.Bounds.{LexingWithin}
 use Rattle.lex.proofs.Bounds.{lexing_bounded}
-use Rattle.reason.specs.declared.Reasoning.{Reasoning}
-use Rattle.reason.specs.declared.Reasoning.TheVariants as reasoning
 use Rattle.reason.specs.Reason.{reasoned}
 use Rattle.reason.specs.laws.Reasons.{ReasoningWithin}
 use Rattle.reason.proofs.Bounds.{reason_bounded}
-use Rattle.exports.specs.Lexer.{lexer_code}
-use Rattle.exports.specs.Reason.{reason_code}
 use Rattle.exports.specs.laws.Codes.{looks_refused, is_not_lexed, LexerTold, LexerKept, is_not_reasoned, ReasonTold, ReasonKept}
 use Rattle.exports.proofs.packing.Laws.{small, packed_told}
 
 pub lexer_told : LexerTold
 lexer_told r room q = go (lexed r room q) (lexing_bounded r room q)
   where
-    go : (x : Result ℕ Refusal) → LexingWithin x → looks_refused (lexer_code x) ≡ is_not_lexed x
+    go : (x : Result ℕ Refusal) → LexingWithin x → looks_refused (counted_code x) ≡ is_not_lexed x
     go (Ok n) h = small n (omega arith)
     go (Err refusal) h = packed_told refusal
 
@@ -30,9 +27,9 @@ lexer_kept r room q refusal e = let b = subst LexingWithin e (lexing_bounded r r
 pub reason_told : ReasonTold
 reason_told r number q = go (reasoned r number q) (reason_bounded r number q)
   where
-    go : (x : Reasoning) → ReasoningWithin x → looks_refused (reason_code x) ≡ is_not_reasoned x
-    go (reasoning.Reason n) h = small n (omega (arith, h.1))
-    go (reasoning.Refused refusal) h = packed_told refusal
+    go : (x : Result ℕ Refusal) → ReasoningWithin x → looks_refused (counted_code x) ≡ is_not_reasoned x
+    go (Ok n) h = small n (omega (arith, h.1))
+    go (Err refusal) h = packed_told refusal
 
 pub reason_kept : ReasonKept
 reason_kept r number q refusal e = let b = subst ReasoningWithin e (reason_bounded r number q) in omega (arith, b.0, b.1, b.2)

@@ -23,11 +23,9 @@ use Rattle.munch.specs.Word.{is_word_start, rule_by, kind_by}
 use Rattle.munch.specs.Munch.{number_step, word_step, right_paren_step, deeper, end_step, outside_table, bracket_table, step_in, munched}
 use Rattle.lex.specs.Outcome.{steps_past, read_from}
 use Rattle.lex.specs.Lex.{answer_by, measured, lexed, listed, left_after, kind_of, starts_at, length_of, depth_of, shortest}
-use Rattle.exports.specs.Packed.{packed_as}
-use Rattle.exports.specs.Lexer.{lexer_code}
+use Rattle.exports.specs.Packed.{packed_as, counted_code}
 use Rattle.exports.specs.Reading.{reading_of}
 use Rattle.reason.specs.Reason.{word_outside, wording_of, found_in, reasoned}
-use Rattle.exports.specs.Reason.{reason_code}
 use Rattle.exports.proofs.queries.simmerpath_word_reason.Kinds as simmerpath_word_reason
 use Rattle.exports.proofs.queries.simmerpath_word_reason.Reads as simmerpath_word_reason_reads
 use Rattle.exports.proofs.queries.simmerpath_lexer.Kinds as simmerpath_lexer
@@ -49,7 +47,7 @@ nines = 9 ∷ 9 ∷ 9 ∷ []
 abbrev simmerpath_lexer_gives : List ℕ → ℕ → List ℕ → List ℕ → List ℕ → List ℕ → ℕ → Type 0
 simmerpath_lexer_gives q documented ks ss ls ds v = Answers simmerpath_lexer.ps simmerpath_lexer.r simmerpath_lexer_reads.Post (Given q documented ks ss ls ds) (λ κs. v)
 
-simmerpath_lexer_at : (q : List ℕ) (documented : ℕ) (ks ss ls ds : List ℕ) → simmerpath_lexer_gives q documented ks ss ls ds (lexer_code (lexed (reading_of documented) (shortest (length ks) (length ss) (length ls) (length ds)) q))
+simmerpath_lexer_at : (q : List ℕ) (documented : ℕ) (ks ss ls ds : List ℕ) → simmerpath_lexer_gives q documented ks ss ls ds (counted_code (lexed (reading_of documented) (shortest (length ks) (length ss) (length ls) (length ds)) q))
 simmerpath_lexer_at q documented ks ss ls ds κs a x e p h = cc (p.0, h.0, h.1, h.2, h.3, h.4, h.5)
 
 pub end_is_counted : simmerpath_lexer_gives (ascii "ab") 0 nines nines nines nines 2
@@ -164,7 +162,7 @@ abbrev simmerpath_word_reason_gives : List ℕ → ℕ → ℕ → ℕ → Type 
 simmerpath_word_reason_gives q documented n v =
     Answers simmerpath_word_reason.ps simmerpath_word_reason.r simmerpath_word_reason_reads.Post (λ κs a. (a.0.now ≡ q) × (a.1.0 ≡ documented) × (a.1.1.0 ≡ n)) (λ κs. v)
 
-simmerpath_word_reason_at : (q : List ℕ) (documented n : ℕ) → simmerpath_word_reason_gives q documented n (reason_code (reasoned (reading_of documented) n q))
+simmerpath_word_reason_at : (q : List ℕ) (documented n : ℕ) → simmerpath_word_reason_gives q documented n (counted_code (reasoned (reading_of documented) n q))
 simmerpath_word_reason_at q documented n κs a x e p h = cc (p, h.0, h.1, h.2)
 
 pub word_has_a_reason : simmerpath_word_reason_gives (ascii "ab") 0 0 7

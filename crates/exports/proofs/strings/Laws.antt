@@ -21,9 +21,8 @@ use Rattle.string.specs.laws.ReadBack.{is_read}
 use Rattle.string.specs.Literal.{unquoting_of}
 use Rattle.string.specs.laws.Refusals.{LiteralTells}
 use Rattle.string.proofs.Answers.{literal_answers}
-use Rattle.exports.specs.Packed.{refused_from, Packable}
+use Rattle.exports.specs.Packed.{refused_from, Packable, counted_code}
 use Rattle.exports.specs.String.{inner_from, unquote_code}
-use Rattle.exports.specs.Written.{written_code}
 use Rattle.exports.specs.laws.Codes.{looks_refused, is_not_written, EscapeTold, EscapeKept, is_inner, UnquoteTold, UnquoteKept}
 use Rattle.exports.proofs.packing.Laws.{small, packed_told}
 use Rattle.exports.proofs.text.Laws.{validate_kept}
@@ -31,7 +30,7 @@ use Rattle.exports.proofs.text.Laws.{validate_kept}
 pub escape_told : EscapeTold
 escape_told room xs = go (escaping_of room xs) (escape_answers room xs)
   where
-    go : (e : Result ℕ Refusal) → EscapeTells xs e → looks_refused (written_code e) ≡ is_not_written e
+    go : (e : Result ℕ Refusal) → EscapeTells xs e → looks_refused (counted_code e) ≡ is_not_written e
     go (Ok n) t = small n (omega (arith, t.0.0, t.2))
     go (Err r) t = packed_told r
 

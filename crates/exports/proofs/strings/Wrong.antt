@@ -25,8 +25,7 @@ use Rattle.string.proofs.escape.Given.{escaping_given}
 use Rattle.string.specs.Tile.{amount_from, is_allowed, numbered, escape_of, begins_escape, tile_of}
 use Rattle.string.specs.Tiles.{tiles_past, has_bad, piece_bytes, bytes_of}
 use Rattle.string.specs.Literal.{has_newline, has_escape, unquoted, fault_of, extent_of, unquoting_of, text_by}
-use Rattle.exports.specs.Packed.{packed_as}
-use Rattle.exports.specs.Written.{written_code}
+use Rattle.exports.specs.Packed.{packed_as, counted_code}
 use Rattle.exports.specs.Reading.{reading_of}
 use Rattle.exports.specs.String.{inner_from, unquote_code}
 use Rattle.exports.proofs.strings.simmerpath_escape_string.Kinds as simmerpath_escape_string
@@ -47,7 +46,7 @@ abbrev simmerpath_escape_string_gives : List ℕ → ℕ → ℕ → Type 0
 simmerpath_escape_string_gives xs room v =
     Answers simmerpath_escape_string.ps simmerpath_escape_string.r simmerpath_escape_string_reads.Post (λ κs a. (a.0.now ≡ xs) × (length a.1.0.now ≡ room)) (λ κs. v)
 
-simmerpath_escape_string_at : (xs : List ℕ) (room : ℕ) → simmerpath_escape_string_gives xs room (written_code (escaping_of room xs))
+simmerpath_escape_string_at : (xs : List ℕ) (room : ℕ) → simmerpath_escape_string_gives xs room (counted_code (escaping_of room xs))
 simmerpath_escape_string_at xs room κs a x e p h = cc (p.0, h.0, h.1)
 
 pub quote_is_escaped_to_two_bytes : simmerpath_escape_string_gives (ascii "\"") 2 2
@@ -76,7 +75,7 @@ quotes_written n h =
 -- 32,768 double quotes are escaped to 65,536 bytes, more than 16 bits tell
 pub length_of_seventeen_bits_is_told : simmerpath_escape_string_gives (quotes 0x8000) 0x10000 0x10000
 length_of_seventeen_bits_is_told κs a x e p h =
-    simmerpath_escape_string_at _ _ κs a x e p h ∙ ap written_code (quotes_written 0x8000 (omega arith))
+    simmerpath_escape_string_at _ _ κs a x e p h ∙ ap counted_code (quotes_written 0x8000 (omega arith))
 
 abbrev simmerpath_escape_string_leaves_out : List ℕ → List ℕ → List ℕ → Type 0
 simmerpath_escape_string_leaves_out xs out v =

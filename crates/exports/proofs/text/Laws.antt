@@ -17,9 +17,8 @@ use Rattle.utf8.specs.Encode.{encoding_of}
 use Rattle.utf8.specs.laws.Bounds.{Bounded}
 use Rattle.utf8.proofs.Bounds.{admitted_bound, character_within, number_bound}
 use Rattle.utf8.proofs.encode.Bounds.{encoding_bound}
-use Rattle.exports.specs.Packed.{packed_of}
+use Rattle.exports.specs.Packed.{packed_of, counted_code}
 use Rattle.exports.specs.Utf8.{validate_code, character_code, char_at_code}
-use Rattle.exports.specs.Written.{written_code}
 use Rattle.exports.specs.laws.Codes.{looks_refused, is_not_admitted, ValidateTold, ValidateKept, is_ill_formed, CharAtTold, CharAtKept, is_not_written, EncodeTold, EncodeKept}
 use Rattle.exports.proofs.packing.Laws.{small, packed_told, placed_kept}
 
@@ -54,7 +53,7 @@ char_at_kept = (
 pub encode_told : EncodeTold
 encode_told c room at = go (encoding_of c room at) refl
   where
-    go : (k : Result ℕ Refusal) → encoding_of c room at ≡ k → looks_refused (written_code k) ≡ is_not_written k
+    go : (k : Result ℕ Refusal) → encoding_of c room at ≡ k → looks_refused (counted_code k) ≡ is_not_written k
     go (Ok n) e = small n (omega (arith, encoding_bound c room at n e))
     go (Err r) e = packed_told r
 

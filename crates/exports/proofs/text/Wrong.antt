@@ -17,9 +17,8 @@ use Rattle.utf8.specs.Answers.{text_limit, validity_of, admitted, character_at}
 use Rattle.utf8.proofs.Given.{given_exactly}
 use Rattle.utf8.specs.Encode.{encoding_of}
 use Rattle.utf8.specs.Writing.{left_at}
-use Rattle.exports.specs.Packed.{packed_as}
+use Rattle.exports.specs.Packed.{packed_as, counted_code}
 use Rattle.exports.specs.Utf8.{validate_code, char_at_code, char_at_left}
-use Rattle.exports.specs.Written.{written_code}
 use Rattle.exports.proofs.text.simmerpath_utf8_validate.Kinds as simmerpath_utf8_validate
 use Rattle.exports.proofs.text.simmerpath_utf8_validate.Reads as simmerpath_utf8_validate_reads
 use Rattle.exports.proofs.text.simmerpath_utf8_char_number.Kinds as simmerpath_utf8_char_number
@@ -116,7 +115,7 @@ abbrev simmerpath_utf8_encode_gives : ℕ → ℕ → ℕ → ℕ → Type 0
 simmerpath_utf8_encode_gives c room at v =
     Answers simmerpath_utf8_encode.ps simmerpath_utf8_encode.r simmerpath_utf8_encode_reads.Post (λ κs a. (a.0 ≡ c) × (length a.1.0.now ≡ room) × (a.1.1.0 ≡ at)) (λ κs. v)
 
-simmerpath_utf8_encode_at : (c room at : ℕ) → simmerpath_utf8_encode_gives c room at (written_code (encoding_of c room at))
+simmerpath_utf8_encode_at : (c room at : ℕ) → simmerpath_utf8_encode_gives c room at (counted_code (encoding_of c room at))
 simmerpath_utf8_encode_at c room at κs a x e p h = cc (p.0, h.0, h.1, h.2)
 
 pub code_point_fits_just_its_bytes : simmerpath_utf8_encode_gives 0xe9 3 1 2

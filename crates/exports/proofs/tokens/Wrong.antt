@@ -16,9 +16,8 @@ use Rattle.token.specs.Kinds.{left_paren, eqlc, lor, topk, fill}
 use Rattle.token.specs.Words.{words, kind_in, keyword_of}
 use Rattle.token.specs.Display.{wordless, own_kinds, displays, text_in, display_of, displayed}
 use Rattle.token.specs.Label.{is_label}
-use Rattle.exports.specs.Packed.{packed_as}
+use Rattle.exports.specs.Packed.{packed_as, counted_code}
 use Rattle.exports.specs.Token.{keyword_code, flag, classes_code}
-use Rattle.exports.specs.Written.{written_code}
 use Rattle.exports.proofs.tokens.simmerpath_get_keyword_token.Kinds as simmerpath_get_keyword_token
 use Rattle.exports.proofs.tokens.simmerpath_get_keyword_token.Reads as simmerpath_get_keyword_token_reads
 use Rattle.exports.proofs.tokens.simmerpath_token_display.Kinds as simmerpath_token_display
@@ -47,7 +46,7 @@ abbrev simmerpath_token_display_gives : ℕ → ℕ → ℕ → Type 0
 simmerpath_token_display_gives kind room v =
     Answers simmerpath_token_display.ps simmerpath_token_display.r simmerpath_token_display_reads.Post (λ κs a. (a.0 ≡ kind) × (length a.1.0.now ≡ room)) (λ κs. v)
 
-simmerpath_token_display_at : (kind room : ℕ) → simmerpath_token_display_gives kind room (written_code (displayed room kind))
+simmerpath_token_display_at : (kind room : ℕ) → simmerpath_token_display_gives kind room (counted_code (displayed room kind))
 simmerpath_token_display_at kind room κs a x e p h = cc (p.0, h.0, h.1)
 
 pub kind_fits_just_its_length : simmerpath_token_display_gives left_paren 1 1

@@ -21,17 +21,12 @@ use Rattle.duration.specs.declared.Oversized.{Oversized}
 use Rattle.duration.specs.Duration.{timing_by}
 use Rattle.duration.specs.Display.{displaying_of}
 use Rattle.lex.specs.Lex.{lexed}
-use Rattle.reason.specs.declared.Reasoning.{Reasoning}
-use Rattle.reason.specs.declared.Reasoning.TheVariants as reasoning
 use Rattle.reason.specs.Reason.{reasoned}
-use Rattle.exports.specs.Packed.{refused_from, packed_of, Packable}
+use Rattle.exports.specs.Packed.{refused_from, packed_of, Packable, counted_code}
 use Rattle.exports.specs.Utf8.{validate_code, char_at_code}
 use Rattle.exports.specs.String.{inner_from, unquote_code}
 use Rattle.exports.specs.Number.{parse_code}
 use Rattle.exports.specs.Duration.{duration_code}
-use Rattle.exports.specs.Lexer.{lexer_code}
-use Rattle.exports.specs.Reason.{reason_code}
-use Rattle.exports.specs.Written.{written_code}
 
 -- packing loses nothing: refusals that fit their bits and are packed alike are one
 abbrev pub NothingLost : Type 0
@@ -77,21 +72,21 @@ is_not_written (Err r) = true
 
 -- of `simmerpath_utf8_encode`
 abbrev pub EncodeTold : Type 0
-EncodeTold = (c room at : ℕ) → let e = encoding_of c room at in looks_refused (written_code e) ≡ is_not_written e
+EncodeTold = (c room at : ℕ) → let e = encoding_of c room at in looks_refused (counted_code e) ≡ is_not_written e
 
 abbrev pub EncodeKept : Type 0
 EncodeKept = Packable not_scalar × Packable no_room
 
 -- of `simmerpath_token_display`
 abbrev pub TokenDisplayTold : Type 0
-TokenDisplayTold = (room k : ℕ) → let d = displayed room k in looks_refused (written_code d) ≡ is_not_written d
+TokenDisplayTold = (room k : ℕ) → let d = displayed room k in looks_refused (counted_code d) ≡ is_not_written d
 
 abbrev pub TokenDisplayKept : Type 0
 TokenDisplayKept = Packable no_room
 
 -- of `simmerpath_escape_string`
 abbrev pub EscapeTold : Type 0
-EscapeTold = (room : ℕ) (xs : List ℕ) → let e = escaping_of room xs in looks_refused (written_code e) ≡ is_not_written e
+EscapeTold = (room : ℕ) (xs : List ℕ) → let e = escaping_of room xs in looks_refused (counted_code e) ≡ is_not_written e
 
 abbrev pub EscapeKept : Type 0
 EscapeKept = (room : ℕ) (xs : List ℕ) (r : Refusal) → escaping_of room xs ≡ Err r → Packable r
@@ -138,7 +133,7 @@ DurationKept = (o : Oversized) (xs : List ℕ) (r : Refusal) → timing_by o xs 
 abbrev pub DurationDisplayTold : Type 0
 DurationDisplayTold =
     (room : ℕ) (d : Duration) → room < refused_from →
-    let e = displaying_of room d in looks_refused (written_code e) ≡ is_not_written e
+    let e = displaying_of room d in looks_refused (counted_code e) ≡ is_not_written e
 
 abbrev pub DurationDisplayKept : Type 0
 DurationDisplayKept = (room : ℕ) (d : Duration) (r : Refusal) → displaying_of room d ≡ Err r → Packable r
@@ -149,18 +144,18 @@ is_not_lexed (Ok n) = false
 is_not_lexed (Err r) = true
 
 abbrev pub LexerTold : Type 0
-LexerTold = (r : Reading) (room : ℕ) (q : List ℕ) → let x = lexed r room q in looks_refused (lexer_code x) ≡ is_not_lexed x
+LexerTold = (r : Reading) (room : ℕ) (q : List ℕ) → let x = lexed r room q in looks_refused (counted_code x) ≡ is_not_lexed x
 
 abbrev pub LexerKept : Type 0
 LexerKept = (r : Reading) (room : ℕ) (q : List ℕ) (refusal : Refusal) → lexed r room q ≡ Err refusal → Packable refusal
 
 -- of `simmerpath_word_reason`
-abbrev pub is_not_reasoned : Reasoning → Bool
-is_not_reasoned (reasoning.Reason n) = false
-is_not_reasoned (reasoning.Refused r) = true
+abbrev pub is_not_reasoned : Result ℕ Refusal → Bool
+is_not_reasoned (Ok n) = false
+is_not_reasoned (Err r) = true
 
 abbrev pub ReasonTold : Type 0
-ReasonTold = (r : Reading) (number : ℕ) (q : List ℕ) → let x = reasoned r number q in looks_refused (reason_code x) ≡ is_not_reasoned x
+ReasonTold = (r : Reading) (number : ℕ) (q : List ℕ) → let x = reasoned r number q in looks_refused (counted_code x) ≡ is_not_reasoned x
 
 abbrev pub ReasonKept : Type 0
-ReasonKept = (r : Reading) (number : ℕ) (q : List ℕ) (refusal : Refusal) → reasoned r number q ≡ reasoning.Refused refusal → Packable refusal
+ReasonKept = (r : Reading) (number : ℕ) (q : List ℕ) (refusal : Refusal) → reasoned r number q ≡ Err refusal → Packable refusal

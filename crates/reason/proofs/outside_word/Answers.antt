@@ -2,11 +2,11 @@
 use native.Mathlib.Omega.{arith}
 use mathlib.Core.Path.{sym, ap, ◌∙◌}
 use lib.Seq.{length-take-le}
+use Rattle.std.specs.Prelude.{Some}
 use Rattle.scan.specs.declared.byte.Class.TheVariants as class
 use Rattle.scan.specs.Byte.{is_in}
 use Rattle.scan.proofs.Runs.{run_within}
 use Rattle.token.proofs.Lookup.{table_finds}
-use Rattle.reason.specs.declared.Wording.TheVariants.{Word}
 use Rattle.reason.specs.Reason.{word_outside}
 use Rattle.reason.proofs.Starts.{start_inside}
 use Rattle.reason.proofs.outside_word.Goals as goal
@@ -16,7 +16,7 @@ slice_bounds-keyword_in-end c = sym (length-take-le _ _ (omega (arith, c.run_end
 
 pub returns-then-is_word_start : goal.returns-then-is_word_start
 unfolding word_outside
-returns-then-is_word_start c = ap Word c.rule_by.ensures ∙ rw (← c.peek.ensures, ← c.is_word_start.ensures, c.if-is_word_start.true, c.keyword_in-own.ensures, c.requires, table_finds, c.run_end-n.ensures)
+returns-then-is_word_start c = ap Some c.rule_by.ensures ∙ rw (← c.peek.ensures, ← c.is_word_start.ensures, c.if-is_word_start.true, c.keyword_in-own.ensures, c.requires, table_finds, c.run_end-n.ensures)
 
 pub returns : goal.returns
 unfolding word_outside

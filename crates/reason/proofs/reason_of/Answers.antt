@@ -1,6 +1,6 @@
 -- The arms are those of the definition.
 use mathlib.Core.Path.{sym, ap, ◌∙◌}
-use Rattle.reason.specs.declared.Reasoning.TheVariants.{Reason}
+use Rattle.std.specs.Prelude.{Ok}
 use Rattle.reason.specs.Reason.{reason_of}
 use Rattle.reason.proofs.reason_of.Goals as goal
 
@@ -8,4 +8,4 @@ pub returns-in_default : goal.returns-in_default
 returns-in_default c = c.no_word.ensures ∙ ap reason_of (sym c.in_default.is ∙ c.word_at-w.ensures)
 
 pub returns : goal.returns
-returns c = ap Reason c.reason_by.ensures ∙ ap reason_of (sym c.in-Word.is ∙ c.word_at-w.ensures)
+returns c = ap Ok c.reason_by.ensures ∙ ap reason_of (sym c.in-Word.is ∙ c.word_at-w.ensures)

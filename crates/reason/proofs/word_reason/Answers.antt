@@ -2,12 +2,12 @@
 use native.Mathlib.Omega.{arith}
 use mathlib.Core.Path.{◌≡◌, sym, ap, ◌∙◌}
 use mathlib.Core.List.{List}
+use Rattle.std.specs.Prelude.{Err}
 use Rattle.proving.proofs.Lists.{rest_of}
 use Prim.Native.Nat.{ℕ}
 use Rattle.utf8.specs.Answers.{text_limit, not_admitted}
 use Rattle.utf8.proofs.Given.{admitted_text}
 use Rattle.lex.specs.Lex.{measured}
-use Rattle.reason.specs.declared.Reasoning.TheVariants.{Refused}
 use Rattle.reason.specs.declared.Sought.{Sought}
 use Rattle.reason.specs.Reason.{wording_of, reason_of, reason_at, reasoned}
 use Rattle.reason.specs.steps.Search.{refused_in, answer_of}
@@ -19,7 +19,7 @@ pub returns-in_default : goal.returns-in_default
 unfolding reasoned measured
 returns-in_default c =
     let e = c.in_default.is in
-    rw (← c.admit-a.ensures, e) (ap Refused (c.not_admitted.ensures ∙ ap not_admitted e))
+    rw (← c.admit-a.ensures, e) (ap Err (c.not_admitted.ensures ∙ ap not_admitted e))
 
 pub search-r-requires : goal.search-r-requires
 search-r-requires c =
@@ -36,10 +36,10 @@ said c v e =
     ap (answer_of a.query.now a.number) (sym e ∙ c.search-r.ensures.value) ∙ search_answers a.reading a.query.now a.number _ (sym c.admit-a.ensures ∙ c.in-Admitted.is)
 
 pub returns-in_default-r : goal.returns-in_default-r
-returns-in_default-r c = let e = c.in_default-r.is in ap Refused (c.refused_in.ensures ∙ ap (refused_in c.args.query.now) e) ∙ said (goal.at.returns-in_default-r c).After-search-r _ e
+returns-in_default-r c = let e = c.in_default-r.is in ap Err (c.refused_in.ensures ∙ ap (refused_in c.args.query.now) e) ∙ said (goal.at.returns-in_default-r c).After-search-r _ e
 
 pub returns-then-count-number : goal.returns-then-count-number
-returns-then-count-number c = let g = c.in-Ended in let a = c.args in ap Refused c.at_start.ensures ∙ sym (none_there a.query.now a.number g.count g.found c.if-count-number.true) ∙ said (goal.at.returns-then-count-number c).After-search-r _ g.is
+returns-then-count-number c = let g = c.in-Ended in let a = c.args in ap Err c.at_start.ensures ∙ sym (none_there a.query.now a.number g.count g.found c.if-count-number.true) ∙ said (goal.at.returns-then-count-number c).After-search-r _ g.is
 
 pub returns-in_default-found : goal.returns-in_default-found
 returns-in_default-found c =

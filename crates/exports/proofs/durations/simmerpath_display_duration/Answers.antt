@@ -9,9 +9,8 @@ use Rattle.std.specs.Prelude.{Result}
 use Rattle.duration.specs.declared.span.Duration.{Duration}
 use Rattle.utf8.specs.Writing.{left_by, not_written}
 use Rattle.duration.specs.Display.{duration_text, displaying_of}
-use Rattle.exports.specs.Packed.{packed_of}
+use Rattle.exports.specs.Packed.{packed_of, counted_code}
 use Rattle.exports.specs.Duration.{duration_of}
-use Rattle.exports.specs.Written.{written_code}
 use Rattle.exports.proofs.durations.simmerpath_display_duration.Goals as goal
 use Rattle.exports.proofs.durations.simmerpath_display_duration.Goals.{After-display_duration-d}
 
@@ -26,8 +25,8 @@ module _ (c : After-display_duration-d) where
   answer = displaying_of (length lent) shown
 
   -- the code of the answer in whose arm we are
-  code_is : (d : Result ℕ Refusal) → c.display_duration-d.result ≡ d → written_code d ≡ written_code answer
-  code_is d t = ap written_code (sym t ∙ c.display_duration-d.ensures.value)
+  code_is : (d : Result ℕ Refusal) → c.display_duration-d.result ≡ d → counted_code d ≡ counted_code answer
+  code_is d t = ap counted_code (sym t ∙ c.display_duration-d.ensures.value)
 
   left_is : c.display_duration-d.new.out ≡ left_by answer (duration_text shown) lent
   left_is = c.display_duration-d.ensures.out_after ∙ ap (λ (d : Result ℕ Refusal). left_by d (duration_text shown) lent) c.display_duration-d.ensures.value

@@ -9,8 +9,7 @@ use Rattle.std.specs.Prelude.{Result}
 use Rattle.utf8.specs.declared.Reading.{Reading}
 use Rattle.lex.specs.Outcome.{Entry}
 use Rattle.lex.specs.Lex.{lexed, listed, left_after, kind_of, starts_at, length_of, depth_of, shortest, not_lexed}
-use Rattle.exports.specs.Packed.{packed_of}
-use Rattle.exports.specs.Lexer.{lexer_code}
+use Rattle.exports.specs.Packed.{packed_of, counted_code}
 use Rattle.exports.specs.Reading.{reading_of}
 use Rattle.exports.proofs.queries.simmerpath_lexer.Goals as goal
 use Rattle.exports.proofs.queries.simmerpath_lexer.Goals.{After-lexer-l, Start}
@@ -57,8 +56,8 @@ module _ (c : After-lexer-l) where
   )
 
   -- the code of the answer in whose arm we are
-  code_is : (x : Result ℕ Refusal) → c.lexer-l.result ≡ x → lexer_code x ≡ lexer_code (lexed reads room q)
-  code_is x t = ap lexer_code (sym t ∙ c.lexer-l.ensures.value ∙ ap (λ (r : Reading). lexed r room q) c.reading_of.ensures)
+  code_is : (x : Result ℕ Refusal) → c.lexer-l.result ≡ x → counted_code x ≡ counted_code (lexed reads room q)
+  code_is x t = ap counted_code (sym t ∙ c.lexer-l.ensures.value ∙ ap (λ (r : Reading). lexed r room q) c.reading_of.ensures)
 
 pub returns-in_default : goal.returns-in_default
 returns-in_default c =

@@ -6,8 +6,7 @@ use Rattle.utf8.specs.declared.Refusal.{Refusal}
 use Rattle.std.specs.Prelude.{Result, ℕ}
 use Rattle.utf8.specs.Writing.{left_by, not_written}
 use Rattle.string.specs.Escape.{escaped, escaping_of}
-use Rattle.exports.specs.Packed.{packed_of}
-use Rattle.exports.specs.Written.{written_code}
+use Rattle.exports.specs.Packed.{packed_of, counted_code}
 use Rattle.exports.proofs.strings.simmerpath_escape_string.Goals as goal
 use Rattle.exports.proofs.strings.simmerpath_escape_string.Goals.{After-escape_string-e}
 
@@ -16,8 +15,8 @@ module _ (c : After-escape_string-e) where
   answer = let a = c.args in escaping_of (length a.out.now) a.text.now
 
   -- the code of the answer in whose arm we are
-  code_is : (e : Result ℕ Refusal) → c.escape_string-e.result ≡ e → written_code e ≡ written_code answer
-  code_is e t = ap written_code (sym t ∙ c.escape_string-e.ensures.value)
+  code_is : (e : Result ℕ Refusal) → c.escape_string-e.result ≡ e → counted_code e ≡ counted_code answer
+  code_is e t = ap counted_code (sym t ∙ c.escape_string-e.ensures.value)
 
   left_is : let a = c.args in c.escape_string-e.new.out ≡ left_by answer (escaped a.text.now) a.out.now
   left_is =

@@ -10,7 +10,7 @@ use Rattle.string.specs.declared.Unquoting.{Unquoting}
 use Rattle.string.specs.declared.Unquoting.TheVariants.{Inner, Written, Refused}
 use Rattle.string.specs.Literal.{not_unquoted}
 use Rattle.string.specs.contracts.Unquoting as unquoting
-use Rattle.exports.specs.Packed.{packed_of}
+use Rattle.exports.specs.Packed.{packed_of, counted_code}
 use Rattle.exports.specs.String.{unquote_code}
 use Rattle.exports.proofs.strings.unwritten_code.Goals as goal
 

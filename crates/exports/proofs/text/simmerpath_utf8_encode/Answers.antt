@@ -6,8 +6,7 @@ use Rattle.std.specs.Prelude.{Result, ℕ}
 use Rattle.utf8.specs.Code.{encoded}
 use Rattle.utf8.specs.Writing.{left_at, not_written}
 use Rattle.utf8.specs.Encode.{encoding_of}
-use Rattle.exports.specs.Packed.{packed_of}
-use Rattle.exports.specs.Written.{written_code}
+use Rattle.exports.specs.Packed.{packed_of, counted_code}
 use Rattle.exports.proofs.text.simmerpath_utf8_encode.Goals as goal
 use Rattle.exports.proofs.text.simmerpath_utf8_encode.Goals.{After-encode-e}
 
@@ -16,8 +15,8 @@ module _ (c : After-encode-e) where
   answer = let a = c.args in encoding_of a.code (length a.out.now) a.at
 
   -- the code of the answer in whose arm we are
-  code_is : (k : Result ℕ Refusal) → c.encode-e.result ≡ k → written_code k ≡ written_code answer
-  code_is k e = ap written_code (sym e ∙ c.encode-e.ensures.value)
+  code_is : (k : Result ℕ Refusal) → c.encode-e.result ≡ k → counted_code k ≡ counted_code answer
+  code_is k e = ap counted_code (sym e ∙ c.encode-e.ensures.value)
 
   left_is : let a = c.args in c.encode-e.new.out ≡ left_at a.at answer (encoded a.code) a.out.now
   left_is =

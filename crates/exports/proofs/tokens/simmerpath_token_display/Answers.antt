@@ -5,8 +5,7 @@ use Rattle.utf8.specs.declared.Refusal.{Refusal}
 use Rattle.std.specs.Prelude.{Result, ℕ}
 use Rattle.utf8.specs.Writing.{left_by, not_written}
 use Rattle.token.specs.Display.{display_of, displayed}
-use Rattle.exports.specs.Packed.{packed_of}
-use Rattle.exports.specs.Written.{written_code}
+use Rattle.exports.specs.Packed.{packed_of, counted_code}
 use Rattle.exports.proofs.tokens.simmerpath_token_display.Goals as goal
 use Rattle.exports.proofs.tokens.simmerpath_token_display.Goals.{After-token_display-d}
 
@@ -15,8 +14,8 @@ module _ (c : After-token_display-d) where
   answer = let a = c.args in displayed (length a.out.now) a.kind
 
   -- the code of the answer in whose arm we are
-  code_is : (d : Result ℕ Refusal) → c.token_display-d.result ≡ d → written_code d ≡ written_code answer
-  code_is d e = ap written_code (sym e ∙ c.token_display-d.ensures.value)
+  code_is : (d : Result ℕ Refusal) → c.token_display-d.result ≡ d → counted_code d ≡ counted_code answer
+  code_is d e = ap counted_code (sym e ∙ c.token_display-d.ensures.value)
 
   left_is : let a = c.args in c.token_display-d.new.out ≡ left_by answer (display_of a.kind) a.out.now
   left_is =
