@@ -269,6 +269,7 @@ struct Split<'a> {
 }
 
 impl<'a> Split<'a> {
+    // Finds the parts of a text.
     fn new(text: &'a [u8]) -> Self
         ensures { result.text.now ≡ text.now }
     {
