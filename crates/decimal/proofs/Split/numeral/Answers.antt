@@ -17,18 +17,18 @@ use Rattle.decimal.proofs.Places.{Ordered, ordered, fraction_in, behind_in, frac
 use Rattle.decimal.proofs.Zeros.{trailing_few}
 use Rattle.decimal.proofs.Caps.{raised_capped, reduced_capped}
 use Rattle.decimal.proofs.Scales.{scale_read_holds}
-use Rattle.decimal.proofs.numeral.Goals as goal
-use Rattle.decimal.proofs.numeral.Goals.{After-is_negative_exponent, Start}
+use Rattle.decimal.proofs.Split.numeral.Goals as goal
+use Rattle.decimal.proofs.Split.numeral.Goals.{After-is_negative_exponent, Start}
 
 module _ (c : Start) where
   abbrev xs : List ℕ
-  xs = c.args.s.now
+  xs = c.args.self.text.now
 
   abbrev p : Parts
-  p = c.args.p
+  p = c.args.self.parts
 
   in_order : Ordered xs p
-  in_order = ordered xs p c.requires.0
+  in_order = ordered xs p c.args.self.lies
 
 -- the value by the parts where they lie
 module _ (xs : List ℕ) where
@@ -48,20 +48,8 @@ module _ (xs : List ℕ) where
       let m : is_negative_exponent xs ≡ false = rw e at l in
       ap (scaled_by (is_minus xs 0) (significand xs) (trailing (digits_of xs) + power)) (behind_is p e) ∙ rw (m, add-zero)
 
-pub trailing_zeros-zeros-requires : goal.trailing_zeros-zeros-requires
-trailing_zeros-zeros-requires c = (c.requires.0, c.requires.1)
-
-pub significand-w-requires : goal.significand-w-requires
-significand-w-requires c = (c.requires.0, c.trailing_zeros-zeros.ensures)
-
-pub exponent-e-requires : goal.exponent-e-requires
-exponent-e-requires c = c.requires.0
-
-pub overflow_sub-behind : goal.overflow_sub-behind
-overflow_sub-behind c = (in_order (goal.at.overflow_sub-behind c).Start).fraction
-
 pub is_negative_exponent-requires : goal.is_negative_exponent-requires
-is_negative_exponent-requires c = let a = (goal.at.is_negative_exponent-requires c).Start in omega (arith, (in_order a).fraction_in_holds, a.requires.1)
+is_negative_exponent-requires c = let a = (goal.at.is_negative_exponent-requires c).Start in omega (arith, (in_order a).fraction_in_holds, a.requires)
 
 -- what was read
 module _ (c : After-is_negative_exponent) where
@@ -78,10 +66,10 @@ module _ (c : After-is_negative_exponent) where
   e = c.exponent-e.result
 
   zeros_few : trailing (digits_of (xs a)) ≤ decimal_limit
-  zeros_few = omega (arith, digits_few (xs a) (p a) a.requires.0, trailing_few (digits_of (xs a)), a.requires.1)
+  zeros_few = omega (arith, digits_few (xs a) (p a) a.args.self.lies, trailing_few (digits_of (xs a)), a.requires)
 
   behind_few : behind_in (xs a) (p a) ≤ decimal_limit
-  behind_few = omega (arith, (in_order a).fraction_in_holds, a.requires.1)
+  behind_few = omega (arith, (in_order a).fraction_in_holds, a.requires)
 
   counted : zeros ≤ decimal_limit
   counted = omega (arith, zeros_few, c.trailing_zeros-zeros.ensures)
@@ -97,9 +85,6 @@ module _ (c : After-is_negative_exponent) where
       ∙ ap (λ (n : ℕ). f (is_minus (xs a) 0) (min most_told (significand (xs a))) n e) c.trailing_zeros-zeros.ensures
       ∙ ap (λ (n : ℕ). f (is_minus (xs a) 0) (min most_told (significand (xs a))) (trailing (digits_of (xs a))) n) c.exponent-e.ensures
 
-pub overflow_add-behind : goal.overflow_add-behind
-overflow_add-behind c = let d = (goal.at.overflow_add-behind c).After-is_negative_exponent in omega (arith, behind_few d, capped d)
-
 pub scaled_by-requires : goal.scaled_by-requires
 scaled_by-requires c = let d = (goal.at.scaled_by-requires c).After-is_negative_exponent in (omega (arith, counted d), omega (arith, behind_few d, capped d))
 
@@ -111,7 +96,7 @@ returns-then-is_negative_exponent c =
     c.scaled_by.ensures
     ∙ stands d (λ s v z n. scaled_by s v z (behind_in x (p (a d)) + n))
     ∙ reduced_capped (is_minus x 0) (significand x) t (behind_in x (p (a d))) (power x) (zeros_few d) (behind_few d)
-    ∙ read_lowered x (p (a d)) (a d).requires.0 (sym d.is_negative_exponent.ensures ∙ c.if-is_negative_exponent.true)
+    ∙ read_lowered x (p (a d)) (a d).args.self.lies (sym d.is_negative_exponent.ensures ∙ c.if-is_negative_exponent.true)
     ∙ scale_read_holds x
 
 pub overflow_add-zeros : goal.overflow_add-zeros
@@ -128,5 +113,5 @@ returns c =
     c.scaled_by-2.ensures
     ∙ stands d (λ s v z n. scaled_by s v (z + n) (behind_in x (p (a d))))
     ∙ raised_capped (is_minus x 0) (significand x) t (behind_in x (p (a d))) (power x) (zeros_few d) (behind_few d)
-    ∙ read_raised x (p (a d)) (a d).requires.0 (sym d.is_negative_exponent.ensures ∙ c.if-is_negative_exponent.false)
+    ∙ read_raised x (p (a d)) (a d).args.self.lies (sym d.is_negative_exponent.ensures ∙ c.if-is_negative_exponent.false)
     ∙ scale_read_holds x

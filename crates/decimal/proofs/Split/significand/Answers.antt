@@ -13,21 +13,21 @@ use Rattle.decimal.specs.steps.Scale.{is_zeros, trailing, trimmed}
 use Rattle.decimal.proofs.Runs.{capped_on, value_join}
 use Rattle.decimal.proofs.Places.{Ordered, ordered, whole_in, fraction_in, behind_in, whole_long, fraction_long, digits_are}
 use Rattle.decimal.proofs.Zeros.{trailing_few, not_all, trailing_first, trailing_last, trimmed_first, trimmed_both, trimmed_between}
-use Rattle.decimal.proofs.significand.Goals as goal
-use Rattle.decimal.proofs.significand.Goals.{After-value_between-whole, Else-behind-zeros, Start}
+use Rattle.decimal.proofs.Split.significand.Goals as goal
+use Rattle.decimal.proofs.Split.significand.Goals.{After-value_between-whole, Else-behind-zeros, Start}
 
 module _ (c : Start) where
   abbrev xs : List ℕ
-  xs = c.args.s.now
+  xs = c.args.self.text.now
 
   abbrev p : Parts
-  p = c.args.p
+  p = c.args.self.parts
 
   abbrev zeros : ℕ
   zeros = c.args.zeros
 
   in_order : Ordered xs p
-  in_order = ordered xs p c.requires.0
+  in_order = ordered xs p c.args.self.lies
 
   abbrev whole : List ℕ
   whole = whole_in xs p
@@ -36,13 +36,13 @@ module _ (c : Start) where
   fraction = fraction_in xs p
 
   long : length fraction ≡ behind_in xs p
-  long = fraction_long xs p c.requires.0
+  long = fraction_long xs p c.args.self.lies
 
   whole_few : trailing whole ≤ p.whole_to - p.whole_from
-  whole_few = omega (arith, trailing_few whole, whole_long xs p c.requires.0)
+  whole_few = omega (arith, trailing_few whole, whole_long xs p c.args.self.lies)
 
   counted : zeros ≡ trailing (whole ++ fraction)
-  counted = c.requires.1 ∙ ap trailing (sym (digits_are xs p c.requires.0))
+  counted = c.requires ∙ ap trailing (sym (digits_are xs p c.args.self.lies))
 
   -- as many zeros as there are digits behind the point, or fewer
   first : behind_in xs p ≤ zeros → (is_zeros fraction ≡ true) × (zeros ≡ behind_in xs p + trailing whole)
@@ -58,9 +58,6 @@ module _ (c : Start) where
       go : (b : Bool) → is_zeros fraction ≡ b → (is_zeros fraction ≡ false) × (zeros ≡ trailing fraction)
       go true e = let f : ⊥ = omega (arith, counted, trailing_first whole fraction e, long) in absurd f
       go false e = (e, omega (arith, counted, trailing_last whole fraction e))
-
-pub overflow_sub-behind : goal.overflow_sub-behind
-overflow_sub-behind c = (in_order (goal.at.overflow_sub-behind c).Start).fraction
 
 pub overflow_sub-p : goal.overflow_sub-p
 overflow_sub-p c = let s = (goal.at.overflow_sub-p c).Start in omega (arith, (first s c.if-behind-zeros.true).1, (in_order s).whole, whole_few s)
@@ -79,16 +76,13 @@ returns-then-behind-zeros c =
     let k : zeros s - behind_in (xs s) (p s) ≡ trailing (whole s) = omega (arith, f.1) in
     c.value_between.ensures
     ∙ ap (λ (n : ℕ). min most_told (value_of 10 (between (xs s) (p s).whole_from ((p s).whole_to - n)))) k
-    ∙ ap (λ (ys : List ℕ). min most_told (value_of 10 ys)) (sym (ap trimmed (sym (digits_are (xs s) (p s) s.requires.0)) ∙ trimmed_first (whole s) (fraction s) f.0 ∙ trimmed_between (xs s) (p s).whole_from (p s).whole_to o.whole o.whole_in_holds))
+    ∙ ap (λ (ys : List ℕ). min most_told (value_of 10 ys)) (sym (ap trimmed (sym (digits_are (xs s) (p s) s.args.self.lies)) ∙ trimmed_first (whole s) (fraction s) f.0 ∙ trimmed_between (xs s) (p s).whole_from (p s).whole_to o.whole o.whole_in_holds))
 
 pub value_between-whole-requires : goal.value_between-whole-requires
 value_between-whole-requires c = let o = in_order (goal.at.value_between-whole-requires c).Start in (o.whole, o.whole_in_holds)
 
 fraction_few : (c : After-value_between-whole) → let s = (goal.at.After-value_between-whole c).Start in zeros s ≤ behind_in (xs s) (p s)
 fraction_few c = let s = (goal.at.After-value_between-whole c).Start in omega (arith, (second s c.if-behind-zeros.false).1, trailing_few (fraction s), long s)
-
-pub overflow_sub-p-2 : goal.overflow_sub-p-2
-overflow_sub-p-2 c = omega (arith, fraction_few (goal.at.overflow_sub-p-2 c).After-value_between-whole)
 
 pub value_between-requires-2 : goal.value_between-requires-2
 value_between-requires-2 c =
@@ -108,4 +102,4 @@ returns c =
     ∙ capped_on 10 (omega arith) most_told (value_of 10 (whole s)) rest
     ∙ ap (min most_told) (sym (value_join 10 0 (whole s) rest))
     ∙ ap (λ (ys : List ℕ). min most_told (value_of 10 ys))
-    (sym (ap trimmed (sym (digits_are (xs s) (p s) s.requires.0)) ∙ trimmed_both (whole s) (fraction s) g.0 ∙ ap (λ (ys : List ℕ). whole s ++ ys) (trimmed_between (xs s) (p s).fraction_from (p s).fraction_to o.fraction o.fraction_in_holds)))
+    (sym (ap trimmed (sym (digits_are (xs s) (p s) s.args.self.lies)) ∙ trimmed_both (whole s) (fraction s) g.0 ∙ ap (λ (ys : List ℕ). whole s ++ ys) (trimmed_between (xs s) (p s).fraction_from (p s).fraction_to o.fraction o.fraction_in_holds)))
