@@ -75,59 +75,12 @@ fn first_of(s: &[u8], c: u8) -> usize
     position_of(s, c).unwrap_or(s.len())
 }
 
-// Whether there is a line feed where none may be.
-#[tactic(auto, unfolding(crate::specs::Literal::has_newline))]
-fn has_newline(sign: u8, inner: &[u8]) -> bool
-    ensures { result ≡ has_newline sign inner.now }
-{
-    sign != tile::BACKQUOTE && has_byte(inner, tile::LINE_FEED)
-}
-
-// Whether there is an escape.
-#[tactic(auto, unfolding(crate::specs::Literal::has_escape))]
-fn has_escape(sign: u8, inner: &[u8]) -> bool
-    ensures { result ≡ has_escape sign inner.now }
-{
-    sign != tile::BACKQUOTE && has_byte(inner, tile::BACKSLASH)
-}
-
 // Whether a byte is ASCII, and neither the sign nor a backslash: it is a tile by itself.
 #[tactic(auto, unfolding(crate::specs::steps::Measure::is_plain))]
 fn is_plain(sign: u8, c: u8) -> bool
     ensures { result ≡ is_plain sign c }
 {
     c != tile::BACKSLASH && c != sign && c.is_ascii()
-}
-
-// What the letter behind a backslash at a place stands for, where such an escape stands there.
-#[tactic(auto, using(crate::proofs::tile::Letters::letter_tile, crate::proofs::tile::Letters::letter_small))]
-fn letter_at(inner: &[u8], at: usize, sign: u8) -> Option<u32>
-    requires { at < length inner.now }
-    ensures inner_value { IfSome result (λ v. tile_of sign (drop at inner.now) ≡ piece Letter v 2) }
-    ensures upper_bound { sign < 0x80 → IfSome result (λ v. v ≤ 0x7f) }
-{
-    let c = inner[at];
-    if c != tile::BACKSLASH || c == sign || sign == tile::BACKQUOTE {
-        return None;
-    }
-    let &letter = inner.get(at + tile::BEHIND_BACKSLASH)?;
-    tile::letter_value(sign, letter)
-}
-
-// The tile at a place, where it is a plain byte or a letter behind a backslash: of these there are most.
-fn single_at(inner: &[u8], at: usize, sign: u8) -> Option<Single>
-    requires { (sign < 0x80) × (at < length inner.now) }
-    ensures { IfSome result (λ one. GivesOne sign (drop at inner.now) one.value one.size) }
-{
-    let c = inner[at];
-    if is_plain(sign, c) {
-        return Some(Single { value: c, size: 1 });
-    }
-    let value = letter_at(inner, at, sign)?;
-    Some(Single {
-        value: value as u8,
-        size: tile::BEHIND_LETTER,
-    })
 }
 
 // Whether a tile gives one byte, and not a character.
@@ -159,29 +112,6 @@ fn piece_size(reading: Reading, form: Form, value: u32) -> usize
     encode::encoded_size(value)
 }
 
-// How many bytes the tiles of a content give, or where the first bad one begins. Where a tile ends is known only once it is read: no `for` goes
-// over them.
-fn measure(inner: &[u8], sign: u8, reading: Reading) -> Result<usize, usize>
-    requires { sign < 0x80 }
-    ensures { result ≡ tiles_extent reading (tiles_of sign inner.now) }
-{
-    let mut n = 0;
-    let mut from = 0;
-    while from < inner.len() {
-        if let Some(one) = single_at(inner, from, sign) {
-            n += 1;
-            from += one.size;
-            continue;
-        }
-        let Some(piece) = tile::unquote_char(&inner[from..], sign) else {
-            return Err(from);
-        };
-        n += piece_size(reading, piece.form, piece.value);
-        from += piece.size;
-    }
-    Ok(n)
-}
-
 // Writes what a tile gives at a place where it fits, and answers the place past it.
 fn put_piece(reading: Reading, form: Form, value: u32, out: &mut [u8], at: usize) -> usize
     requires value_value { is_allowed form value ≡ true }
@@ -196,105 +126,171 @@ fn put_piece(reading: Reading, form: Form, value: u32, out: &mut [u8], at: usize
     at + encode::encode(value, out, ByteOffset(at)).unwrap()
 }
 
-// Writes what the tiles of a content give at the front of a buffer that it fits, and answers how many bytes that is, or where the first bad
-// one begins. What the tiles before that give is left there. The turns are those of `measure`.
-fn write_pieces(inner: &[u8], sign: u8, reading: Reading, out: &mut [u8]) -> Result<usize, usize>
-    requires sign_bound { sign < 0x80 }
-    requires inner_in_bounds { length (bytes_of reading (tiles_of sign inner.now)) ≤ length out.old }
-    ensures value { result ≡ tiles_extent reading (tiles_of sign inner.now) }
-    ensures out_after { has_bad (tiles_of sign inner.now) ≡ false → out.new ≡ sets out.old 0 (bytes_of reading (tiles_of sign inner.now)) }
-{
-    let mut at = 0;
-    let mut from = 0;
-    while from < inner.len() {
-        if let Some(one) = single_at(inner, from, sign) {
-            out[at] = one.value;
-            at += 1;
-            from += one.size;
-            continue;
+// What stands between the two signs of a literal, which are ASCII, and the reading that it is read in.
+#[derive(Clone, Copy)]
+struct Content<'a> {
+    inner: &'a [u8],
+    sign: u8,
+    reading: Reading,
+    ghost ascii_sign: { sign < 0x80 },
+}
+
+impl Content<'_> {
+    // Whether there is a line feed where none may be.
+    #[tactic(auto, unfolding(crate::specs::Literal::has_newline))]
+    fn has_newline(&self) -> bool
+        ensures { result ≡ has_newline self.now.sign self.now.inner.now }
+    {
+        self.sign != tile::BACKQUOTE && has_byte(self.inner, tile::LINE_FEED)
+    }
+
+    // Whether there is an escape.
+    #[tactic(auto, unfolding(crate::specs::Literal::has_escape))]
+    fn has_escape(&self) -> bool
+        ensures { result ≡ has_escape self.now.sign self.now.inner.now }
+    {
+        self.sign != tile::BACKQUOTE && has_byte(self.inner, tile::BACKSLASH)
+    }
+
+    // What the letter behind a backslash at a place stands for, where such an escape stands there.
+    #[tactic(auto, using(crate::proofs::tile::Letters::letter_tile, crate::proofs::tile::Letters::letter_small))]
+    fn letter_at(&self, at: usize) -> Option<u32>
+        requires { at < length self.now.inner.now }
+        ensures inner_value { IfSome result (λ v. tile_of self.now.sign (drop at self.now.inner.now) ≡ piece Letter v 2) }
+        ensures upper_bound { IfSome result (λ v. v ≤ 0x7f) }
+    {
+        let c = self.inner[at];
+        if c != tile::BACKSLASH || c == self.sign || self.sign == tile::BACKQUOTE {
+            return None;
         }
-        let Some(piece) = tile::unquote_char(&inner[from..], sign) else {
-            return Err(from);
-        };
-        at = put_piece(reading, piece.form, piece.value, out, at);
-        from += piece.size;
+        let &letter = self.inner.get(at + tile::BEHIND_BACKSLASH)?;
+        tile::letter_value(self.sign, letter)
     }
-    Ok(at)
-}
 
-// Writes the text of a content with escapes where it has room, by way of a buffer of one's own that is no shorter than the content.
-#[tactic(auto, using(crate::proofs::Passed::extent_told, crate::proofs::Contents::bytes_few, proving::proofs::Stores::written_front))]
-fn read_once<const N: usize>(
-    inner: &[u8],
-    sign: u8,
-    reading: Reading,
-    text: &mut [u8],
-) -> Result<usize, usize>
-    requires { (sign < 0x80) × (length inner.now ≤ N) × (N < 2 ^ 63) }
-    ensures value { result ≡ tiles_extent reading (tiles_of sign inner.now) }
-    ensures text_after { text.new ≡ left_sized result (bytes_of reading (tiles_of sign inner.now)) text.old }
-{
-    let mut own = [0; N];
-    let size = write_pieces(inner, sign, reading, &mut own)?;
-    if size <= text.len() {
-        text[..size].copy_from_slice(&own[..size]);
+    // The tile at a place, where it is a plain byte or a letter behind a backslash: of these there are most.
+    fn single_at(&self, at: usize) -> Option<Single>
+        requires { at < length self.now.inner.now }
+        ensures { IfSome result (λ one. GivesOne self.now.sign (drop at self.now.inner.now) one.value one.size) }
+    {
+        let c = self.inner[at];
+        if is_plain(self.sign, c) {
+            return Some(Single { value: c, size: 1 });
+        }
+        let value = self.letter_at(at)?;
+        Some(Single {
+            value: value as u8,
+            size: tile::BEHIND_LETTER,
+        })
     }
-    Ok(size)
-}
 
-// The same for a content of any length, which is measured first.
-#[tactic(auto, using(crate::proofs::Passed::extent_told, crate::proofs::Bytes::sets_front))]
-fn read_twice(inner: &[u8], sign: u8, reading: Reading, text: &mut [u8]) -> Result<usize, usize>
-    requires { sign < 0x80 }
-    ensures value { result ≡ tiles_extent reading (tiles_of sign inner.now) }
-    ensures text_after { text.new ≡ left_sized result (bytes_of reading (tiles_of sign inner.now)) text.old }
-{
-    let size = measure(inner, sign, reading)?;
-    if size <= text.len() {
-        return write_pieces(inner, sign, reading, text);
+    // How many bytes the tiles of a content give, or where the first bad one begins. Where a tile ends is known only once it is read: no `for` goes
+    // over them.
+    fn measure(&self) -> Result<usize, usize>
+        ensures { result ≡ tiles_extent self.now.reading (tiles_of self.now.sign self.now.inner.now) }
+    {
+        let mut n = 0;
+        let mut from = 0;
+        while from < self.inner.len() {
+            if let Some(one) = self.single_at(from) {
+                n += 1;
+                from += one.size;
+                continue;
+            }
+            let Some(piece) = tile::unquote_char(&self.inner[from..], self.sign) else {
+                return Err(from);
+            };
+            n += piece_size(self.reading, piece.form, piece.value);
+            from += piece.size;
+        }
+        Ok(n)
     }
-    Ok(size)
-}
 
-// The text of a content with escapes: but for a very long one its tiles are read once.
-fn read_tiles(inner: &[u8], sign: u8, reading: Reading, text: &mut [u8]) -> Result<usize, usize>
-    requires { sign < 0x80 }
-    ensures value { result ≡ tiles_extent reading (tiles_of sign inner.now) }
-    ensures text_after { text.new ≡ left_sized result (bytes_of reading (tiles_of sign inner.now)) text.old }
-{
-    if inner.len() <= SHORT {
-        return read_once::<SHORT>(inner, sign, reading, text);
+    // Writes what the tiles of a content give at the front of a buffer that it fits, and answers how many bytes that is, or where the first bad
+    // one begins. What the tiles before that give is left there. The turns are those of `measure`.
+    fn write_pieces(&self, out: &mut [u8]) -> Result<usize, usize>
+        requires inner_in_bounds { length (bytes_of self.now.reading (tiles_of self.now.sign self.now.inner.now)) ≤ length out.old }
+        ensures value { result ≡ tiles_extent self.now.reading (tiles_of self.now.sign self.now.inner.now) }
+        ensures out_after { has_bad (tiles_of self.now.sign self.now.inner.now) ≡ false → out.new ≡ sets out.old 0 (bytes_of self.now.reading (tiles_of self.now.sign self.now.inner.now)) }
+    {
+        let mut at = 0;
+        let mut from = 0;
+        while from < self.inner.len() {
+            if let Some(one) = self.single_at(from) {
+                out[at] = one.value;
+                at += 1;
+                from += one.size;
+                continue;
+            }
+            let Some(piece) = tile::unquote_char(&self.inner[from..], self.sign) else {
+                return Err(from);
+            };
+            at = put_piece(self.reading, piece.form, piece.value, out, at);
+            from += piece.size;
+        }
+        Ok(at)
     }
-    if inner.len() <= LONGER {
-        return read_once::<LONGER>(inner, sign, reading, text);
-    }
-    read_twice(inner, sign, reading, text)
-}
 
-// What the content between two signs comes to, or where it goes wrong; a text with escapes is written where it has room.
-#[tactic(auto, using(crate::proofs::Literals::unescaped_bad), unfolding(crate::specs::steps::Measure::content_extent, crate::specs::steps::Measure::tiles_extent))]
-fn read_content(
-    inner: &[u8],
-    sign: u8,
-    reading: Reading,
-    text: &mut [u8],
-) -> Result<Unquoted, usize>
-    requires ascii_sign { sign < 0x80 }
-    requires well_formed { WellFormed inner.now }
-    ensures value { result ≡ content_extent reading sign inner.now }
-    ensures text_after { text.new ≡ left_in result (bytes_of reading (tiles_of sign inner.now)) text.old }
-{
-    if has_newline(sign, inner) {
-        return Err(first_of(inner, tile::LINE_FEED));
+    // Writes the text of a content with escapes where it has room, by way of a buffer of one's own that is no shorter than the content.
+    #[tactic(auto, using(crate::proofs::Passed::extent_told, crate::proofs::Contents::bytes_few, proving::proofs::Stores::written_front))]
+    fn read_once<const N: usize>(&self, text: &mut [u8]) -> Result<usize, usize>
+        requires { (length self.now.inner.now ≤ N) × (N < 2 ^ 63) }
+        ensures value { result ≡ tiles_extent self.now.reading (tiles_of self.now.sign self.now.inner.now) }
+        ensures text_after { text.new ≡ left_sized result (bytes_of self.now.reading (tiles_of self.now.sign self.now.inner.now)) text.old }
+    {
+        let mut own = [0; N];
+        let size = self.write_pieces(&mut own)?;
+        if size <= text.len() {
+            text[..size].copy_from_slice(&own[..size]);
+        }
+        Ok(size)
     }
-    if has_escape(sign, inner) {
-        let size = read_tiles(inner, sign, reading, text)?;
-        return Ok(Unquoted::Written(size));
+
+    // The same for a content of any length, which is measured first.
+    #[tactic(auto, using(crate::proofs::Passed::extent_told, crate::proofs::Bytes::sets_front))]
+    fn read_twice(&self, text: &mut [u8]) -> Result<usize, usize>
+        ensures value { result ≡ tiles_extent self.now.reading (tiles_of self.now.sign self.now.inner.now) }
+        ensures text_after { text.new ≡ left_sized result (bytes_of self.now.reading (tiles_of self.now.sign self.now.inner.now)) text.old }
+    {
+        let size = self.measure()?;
+        if size <= text.len() {
+            return self.write_pieces(text);
+        }
+        Ok(size)
     }
-    if has_byte(inner, sign) {
-        return Err(first_of(inner, sign));
+
+    // The text of a content with escapes: but for a very long one its tiles are read once.
+    fn read_tiles(&self, text: &mut [u8]) -> Result<usize, usize>
+        ensures value { result ≡ tiles_extent self.now.reading (tiles_of self.now.sign self.now.inner.now) }
+        ensures text_after { text.new ≡ left_sized result (bytes_of self.now.reading (tiles_of self.now.sign self.now.inner.now)) text.old }
+    {
+        if self.inner.len() <= SHORT {
+            return self.read_once::<SHORT>(text);
+        }
+        if self.inner.len() <= LONGER {
+            return self.read_once::<LONGER>(text);
+        }
+        self.read_twice(text)
     }
-    Ok(Unquoted::Inner(inner.len()))
+
+    // What the content between two signs comes to, or where it goes wrong; a text with escapes is written where it has room.
+    #[tactic(auto, using(crate::proofs::Literals::unescaped_bad), unfolding(crate::specs::steps::Measure::content_extent, crate::specs::steps::Measure::tiles_extent))]
+    fn read(&self, text: &mut [u8]) -> Result<Unquoted, usize>
+        requires well_formed { WellFormed self.now.inner.now }
+        ensures value { result ≡ content_extent self.now.reading self.now.sign self.now.inner.now }
+        ensures text_after { text.new ≡ left_in result (bytes_of self.now.reading (tiles_of self.now.sign self.now.inner.now)) text.old }
+    {
+        if self.has_newline() {
+            return Err(first_of(self.inner, tile::LINE_FEED));
+        }
+        if self.has_escape() {
+            let size = self.read_tiles(text)?;
+            return Ok(Unquoted::Written(size));
+        }
+        if has_byte(self.inner, self.sign) {
+            return Err(first_of(self.inner, self.sign));
+        }
+        Ok(Unquoted::Inner(self.inner.len()))
+    }
 }
 
 // What a literal comes to, or where it goes wrong; a text with escapes is written where it has room.
@@ -315,7 +311,12 @@ fn read_literal(literal: &[u8], reading: Reading, text: &mut [u8]) -> Result<Unq
     if !byte::is_quote(sign as usize) {
         return Err(0);
     }
-    match read_content(&literal[1..end], sign, reading, text) {
+    let content = Content {
+        inner: &literal[1..end],
+        sign,
+        reading,
+    };
+    match content.read(text) {
         Ok(unquoted) => Ok(unquoted),
         Err(at) => Err(at + 1),
     }

@@ -2,10 +2,10 @@
 use Rattle.std.proofs.Common.{sym, ◌∙◌, drop}
 use Rattle.string.proofs.Bytes.{peek_here}
 use Rattle.string.proofs.Contents.{plain_one}
-use Rattle.string.proofs.single_at.Goals as goal
-use Rattle.string.proofs.single_at.Goals.{Start}
+use Rattle.string.proofs.Content.single_at.Goals as goal
+use Rattle.string.proofs.Content.single_at.Goals.{Start}
 
 pub returns-then-is_plain : goal.returns-then-is_plain
 returns-then-is_plain c =
     let a = (goal.at.returns-then-is_plain c).Start in
-    plain_one a.args.sign _ (sym c.is_plain.ensures ∙ c.if-is_plain.true) (drop a.args.at a.args.inner.now) (peek_here a.args.inner.now a.args.at a.requires.1)
+    plain_one a.args.self.now.sign _ (sym c.is_plain.ensures ∙ c.if-is_plain.true) (drop a.args.at a.args.self.now.inner.now) (peek_here a.args.self.now.inner.now a.args.at a.requires)
