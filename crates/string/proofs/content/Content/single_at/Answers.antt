@@ -2,8 +2,8 @@
 use Rattle.std.proofs.Common.{sym, ◌∙◌, drop}
 use Rattle.string.proofs.Bytes.{peek_here}
 use Rattle.string.proofs.Contents.{plain_one}
-use Rattle.string.proofs.Content.single_at.Goals as goal
-use Rattle.string.proofs.Content.single_at.Goals.{Start}
+use Rattle.string.proofs.content.Content.single_at.Goals as goal
+use Rattle.string.proofs.content.Content.single_at.Goals.{Start}
 
 pub returns-then-is_plain : goal.returns-then-is_plain
 returns-then-is_plain c =

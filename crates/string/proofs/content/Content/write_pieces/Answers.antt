@@ -6,8 +6,8 @@ use Rattle.proving.proofs.Lists.{rest_of}
 use Rattle.string.specs.Tile.{is_allowed, tile_of}
 use Rattle.string.specs.Tiles.{piece_bytes}
 use Rattle.string.proofs.Passed.{Turn, turn, turn_one, passed_none, passed_bad, passed_all}
-use Rattle.string.proofs.Content.write_pieces.Goals as goal
-use Rattle.string.proofs.Content.write_pieces.Goals.{In-Some, In-Some-unquote_char}
+use Rattle.string.proofs.content.Content.write_pieces.Goals as goal
+use Rattle.string.proofs.content.Content.write_pieces.Goals.{In-Some, In-Some-unquote_char}
 
 one : (c : In-Some) → Turn c.args.self.now.reading c.args.self.now.sign c.args.self.now.inner.now c.loop-from.from c.loop-from.at c.in-Some.one.size (c.in-Some.one.value ∷ [])
 one c =

@@ -1,6 +1,6 @@
 use Rattle.std.proofs.Common.{◌-◌, length}
 use Rattle.string.proofs.Passed.{Passed}
-use Rattle.string.proofs.Content.measure.Given as goal
+use Rattle.string.proofs.content.Content.measure.Given as goal
 
 abbrev pub invariant-loop-from : goal.invariant-loop-from
 invariant-loop-from l = Passed l.self.reading l.self.sign l.self.inner.now l.from l.n

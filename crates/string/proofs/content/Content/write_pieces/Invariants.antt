@@ -3,7 +3,7 @@ use Rattle.std.proofs.Common.{◌-◌, ◌≡◌, length, drop}
 use Rattle.std.proofs.lemmas.List.Edits.{sets}
 use Rattle.string.specs.Tiles.{tiles_of, bytes_of}
 use Rattle.string.proofs.Passed.{Passed}
-use Rattle.string.proofs.Content.write_pieces.Given as goal
+use Rattle.string.proofs.content.Content.write_pieces.Given as goal
 
 abbrev pub invariant-loop-from : goal.invariant-loop-from
 invariant-loop-from l = record {
