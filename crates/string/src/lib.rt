@@ -29,7 +29,7 @@ pub enum Unquoted {
 const SIGNS: usize = 2;
 
 // What a literal comes to, or where it goes wrong; a text with escapes is written where it has room.
-#[tactic(auto, using(crate::proofs::Literals::sign_is, crate::proofs::Literals::last_is, crate::proofs::Literals::cut_is, crate::proofs::Literals::content_is, crate::proofs::Literals::quote_ascii, crate::proofs::Literals::inner_well, crate::proofs::Literals::encloses, crate::proofs::Literals::content_within), unfolding(crate::specs::Literal::extent_of, crate::specs::Literal::fault_of))]
+#[tactic(auto, using(crate::proofs::Literals::literal_read), unfolding(crate::specs::Literal::extent_of, crate::specs::Literal::fault_of))]
 fn read_literal(literal: &[u8], reading: Reading, text: &mut [u8]) -> Result<Unquoted, usize>
     requires { WellFormed literal.now }
     ensures value { result ≡ extent_of reading literal.now }
