@@ -6,19 +6,19 @@ use Rattle.proving.proofs.Lists.{rest_of}
 use Rattle.string.specs.Tile.{is_allowed, tile_of}
 use Rattle.string.specs.Tiles.{piece_bytes}
 use Rattle.string.proofs.Passed.{Turn, turn, turn_one, passed_none, passed_bad, passed_all}
-use Rattle.string.proofs.write_pieces.Goals as goal
-use Rattle.string.proofs.write_pieces.Goals.{In-Some, In-Some-unquote_char}
+use Rattle.string.proofs.content.Content.write_pieces.Goals as goal
+use Rattle.string.proofs.content.Content.write_pieces.Goals.{In-Some, In-Some-unquote_char}
 
-one : (c : In-Some) → Turn c.args.reading c.args.sign c.args.inner.now c.loop-from.from c.loop-from.at c.in-Some.one.size (c.in-Some.one.value ∷ [])
+one : (c : In-Some) → Turn c.args.self.now.reading c.args.self.now.sign c.args.self.now.inner.now c.loop-from.from c.loop-from.at c.in-Some.one.size (c.in-Some.one.value ∷ [])
 one c =
     let l = c.loop-from in
-    turn_one c.args.reading c.args.sign c.args.inner.now c.requires.sign_bound l.from l.at l.invariant.passed c.loop-from-test.true _ _ c.in-Some.ensures
+    turn_one c.args.self.now.reading c.args.self.now.sign c.args.self.now.inner.now c.args.self.now.ascii_sign l.from l.at l.invariant.passed c.loop-from-test.true _ _ c.in-Some.ensures
 
-several : (c : In-Some-unquote_char) → let p = c.in-Some-unquote_char.piece in Turn c.args.reading c.args.sign c.args.inner.now c.loop-from.from c.loop-from.at p.size (piece_bytes c.args.reading p.form p.value) × (is_allowed p.form p.value ≡ true)
+several : (c : In-Some-unquote_char) → let p = c.in-Some-unquote_char.piece in Turn c.args.self.now.reading c.args.self.now.sign c.args.self.now.inner.now c.loop-from.from c.loop-from.at p.size (piece_bytes c.args.self.now.reading p.form p.value) × (is_allowed p.form p.value ≡ true)
 several c =
     let l = c.loop-from in
-    let here = sym (c.unquote_char.ensures ∙ ap (tile_of c.args.sign) (rest_of c.args.inner.now l.from)) ∙ c.in-Some-unquote_char.is in
-    turn c.args.reading c.args.sign c.args.inner.now c.requires.sign_bound l.from l.at l.invariant.passed c.loop-from-test.true _ _ _ here
+    let here = sym (c.unquote_char.ensures ∙ ap (tile_of c.args.self.now.sign) (rest_of c.args.self.now.inner.now l.from)) ∙ c.in-Some-unquote_char.is in
+    turn c.args.self.now.reading c.args.self.now.sign c.args.self.now.inner.now c.args.self.now.ascii_sign l.from l.at l.invariant.passed c.loop-from-test.true _ _ _ here
 
 pub loop-from-init : goal.loop-from-init
 loop-from-init c = record {
@@ -28,7 +28,7 @@ loop-from-init c = record {
 }
 
 pub bounds-out-at : goal.bounds-out-at
-bounds-out-at c = omega (arith, (one c).passed.long, c.loop-from.invariant.long, c.requires.inner_in_bounds)
+bounds-out-at c = omega (arith, (one c).passed.long, c.loop-from.invariant.long, c.requires)
 
 pub overflow_add-from : goal.overflow_add-from
 overflow_add-from c = omega (arith, (one (goal.at.overflow_add-from c).In-Some).passed.within)
@@ -51,8 +51,8 @@ loop-from-preserved-in-Some c =
 pub returns-in_default-unquote_char : goal.returns-in_default-unquote_char
 returns-in_default-unquote_char c =
     let l = c.loop-from in
-    let here = sym (c.unquote_char.ensures ∙ ap (tile_of c.args.sign) (rest_of c.args.inner.now l.from)) ∙ c.in_default-unquote_char.is in
-    let b = passed_bad c.args.reading c.args.sign c.args.inner.now c.requires.sign_bound l.from l.at l.invariant.passed c.loop-from-test.true here in
+    let here = sym (c.unquote_char.ensures ∙ ap (tile_of c.args.self.now.sign) (rest_of c.args.self.now.inner.now l.from)) ∙ c.in_default-unquote_char.is in
+    let b = passed_bad c.args.self.now.reading c.args.self.now.sign c.args.self.now.inner.now c.args.self.now.ascii_sign l.from l.at l.invariant.passed c.loop-from-test.true here in
     record {
       value = b.0;
       out_after = λ good. absurd (true≢false (sym b.1 ∙ good));
@@ -63,7 +63,7 @@ put_piece-at-requires c =
     let t = several (goal.at.put_piece-at-requires c).In-Some-unquote_char in
     record {
       value_value = t.1;
-      value_in_bounds = omega (arith, t.0.passed.long, c.loop-from.invariant.long, c.requires.inner_in_bounds);
+      value_in_bounds = omega (arith, t.0.passed.long, c.loop-from.invariant.long, c.requires);
     }
 
 pub overflow_add-from-in-loop-from : goal.overflow_add-from-in-loop-from
@@ -88,7 +88,7 @@ loop-from-preserved c =
 pub returns : goal.returns
 returns c =
     let l = c.loop-from in
-    let e = passed_all c.args.reading c.args.sign c.args.inner.now l.from l.at l.invariant.passed c.loop-from-test.false in
+    let e = passed_all c.args.self.now.reading c.args.self.now.sign c.args.self.now.inner.now l.from l.at l.invariant.passed c.loop-from-test.false in
     record {
       value = e.0;
       out_after = λ good. sym (l.invariant.left ∙ e.1 l.out);

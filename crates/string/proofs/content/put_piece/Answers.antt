@@ -17,8 +17,8 @@ use Rattle.string.specs.Tile.{is_byte, is_allowed}
 use Rattle.string.specs.Tiles.{gives_byte, piece_bytes}
 use Rattle.string.specs.steps.Measure.{is_single}
 use Rattle.string.proofs.Contents.{single, several}
-use Rattle.string.proofs.put_piece.Goals as goal
-use Rattle.string.proofs.put_piece.Goals.{After-encode, After-unwrap, Start, Then-is_single}
+use Rattle.string.proofs.content.put_piece.Goals as goal
+use Rattle.string.proofs.content.put_piece.Goals.{After-encode, After-unwrap, Start, Then-is_single}
 
 module _ (f : Form) (v : ℕ) (a : is_allowed f v ≡ true) where
   byte_small : (r : Reading) → is_single r f v ≡ true → v ≤ 0xff
