@@ -16,26 +16,26 @@ use Rattle.std.proofs.Common.{rules}
 use Rattle.std.proofs.lemmas.Result.{err_from_is_err_and}
 use Rattle.std.specs.Prelude.{min, Err, Result}
 use Rattle.quoted.specs.declared.Fault.{Fault}
-use Rattle.lex.specs.declared.Run.{Run}
+use Rattle.lex.specs.declared.query.Run.{Run}
 use Rattle.lex.specs.Outcome.{outcome_of}
 use Rattle.lex.specs.steps.Pass.{State, state, state_behind, Alike, Leads, Reached}
 use Rattle.lex.proofs.Lists.{leads_on, leads_alike, leads_refused, leads_end}
 use Rattle.lex.proofs.Turns.{lexeme_depth, lexeme_opens, lexeme_further, space_further, comment_further, refused_within, turn_lexeme, turn_space, turn_comment, turn_refused, turn_finished, in_mode, Stands, stands_start}
-use Rattle.lex.proofs.pass.Goals as goal
-use Rattle.lex.proofs.pass.Goals.{After-opened, After-outside-s, After-slice_known-in-Lexeme-4-1, Start}
+use Rattle.lex.proofs.query.Query.pass.Goals as goal
+use Rattle.lex.proofs.query.Query.pass.Goals.{After-opened, After-outside, After-slice_known-in-Lexeme-4-1, Start}
 
 -- once a step is known: where the loop stood
 abbrev Place : Type 0
-Place = After-outside-s
+Place = After-outside
 
 abbrev start : Place → Start
-start c = (goal.at.After-outside-s c).Start
+start c = (goal.at.After-outside c).Start
 
 abbrev bytes : Place → List ℕ
-bytes c = (start c).args.query.now
+bytes c = (start c).args.self.now.text.now
 
 abbrev reading : Place → Reading
-reading c = (start c).args.reading
+reading c = (start c).args.self.now.reading
 
 abbrev at : Place → ℕ
 at c = c.loop-kind.at
@@ -46,9 +46,9 @@ depth c = c.loop-kind.depth
 abbrev here : Place → Mode
 here c = mode (depth c) Nothing
 
-module _ (c : Place) {s : Step} (e : c.outside-s.result ≡ s) where
+module _ (c : Place) {s : Step} (e : c.outside.result ≡ s) where
   told : munched (reading c) (here c) (drop (at c) (bytes c)) ≡ s
-  told = rw rest_of at (sym c.outside-s.ensures ∙ e)
+  told = rw rest_of at (sym c.outside.ensures ∙ e)
 
   leads_to : LeadsTo (depth c) Nothing s
   leads_to = rw told at (step_leads (reading c) (depth c) Nothing (drop (at c) (bytes c)))
@@ -61,16 +61,16 @@ module _ (c : Place) where
   stand = c.loop-kind.invariant.2
 
   alike : let l = c.loop-kind in Alike l.kinds l.starts l.lengths l.depths
-  alike = leads_alike stand.leads (start c).requires.alike
+  alike = leads_alike stand.leads (start c).requires
 
 pub loop-kind-init : goal.loop-kind-init
 loop-kind-init c = (omega arith, omega arith, stands_start _ _ _ _ (omega arith))
 
 pub put-requires : goal.put-requires
 put-requires c =
-    let p = (goal.at.put-requires c).After-outside-s in
+    let p = (goal.at.put-requires c).After-outside in
     let g = lexeme_further (stand p) (told p c.in-Lexeme.is) in
-    let q = (start p).requires.limited in
+    let q = (start p).args.self.now.limited in
     let v = p.loop-kind.invariant in
     record {
       alike = alike p;
@@ -79,7 +79,7 @@ put-requires c =
 
 -- behind `put`: where the step was known, and how far the lexeme goes
 abbrev place : After-slice_known-in-Lexeme-4-1 → Place
-place c = (goal.at.After-slice_known-in-Lexeme-4-1 c).After-outside-s
+place c = (goal.at.After-slice_known-in-Lexeme-4-1 c).After-outside
 
 further : (c : After-slice_known-in-Lexeme-4-1) → let p = place c in let n = c.in-Lexeme.length in (1 ≤ n) × (at p + n ≤ length (bytes p))
 further c = let p = place c in lexeme_further (stand p) (told p c.in-Lexeme.is)
@@ -98,10 +98,10 @@ behind c =
     turn_lexeme (stand p) e (lesser ∙ lexeme_depth (stand p) e (omega (arith, (start p).requires, (stand p).inside))) (c.put.ensures.kinds_after, (c.put.ensures.starts_after, (c.put.ensures.lengths_after, c.put.ensures.depths_after)))
 
 pub overflow_add-at : goal.overflow_add-at
-overflow_add-at c = let d = (goal.at.overflow_add-at c).After-slice_known-in-Lexeme-4-1 in omega (arith, further d, (start (place d)).requires.limited)
+overflow_add-at c = let d = (goal.at.overflow_add-at c).After-slice_known-in-Lexeme-4-1 in omega (arith, further d, (start (place d)).args.self.now.limited)
 
 pub overflow_add-i : goal.overflow_add-i
-overflow_add-i c = let p = place (goal.at.overflow_add-i c).After-slice_known-in-Lexeme-4-1 in omega (arith, p.loop-kind.invariant.0, (stand p).inside, (start p).requires.limited)
+overflow_add-i c = let p = place (goal.at.overflow_add-i c).After-slice_known-in-Lexeme-4-1 in omega (arith, p.loop-kind.invariant.0, (stand p).inside, (start p).args.self.now.limited)
 
 pub opened-requires : goal.opened-requires
 opened-requires c =
@@ -111,8 +111,7 @@ opened-requires c =
     let v = p.loop-kind.invariant in
     let h = (start p).requires in
     record {
-      limited = h.limited;
-      alike = leads_alike (behind d).leads h.alike;
+      alike = leads_alike (behind d).leads h;
       opens = leads_to p d.in-Lexeme.is;
       placed = (g.1, omega arith, omega (arith, lexeme_opens (stand p) (told p d.in-Lexeme.is)));
     }
@@ -166,56 +165,56 @@ loop-kind-preserved-in-Lexeme c =
     (w.0.2, omega (arith, lexeme_opens (stand p) (told p c.in-Lexeme.is), w.0.0), record { inside = w.0.1; leads = w.1 })
 
 pub overflow_add-at-in-Space : goal.overflow_add-at-in-Space
-overflow_add-at-in-Space c = let p = (goal.at.overflow_add-at-in-Space c).After-outside-s in let g = space_further (stand p) (told p c.in-Space.is) in omega (arith, (start p).requires.limited)
+overflow_add-at-in-Space c = let p = (goal.at.overflow_add-at-in-Space c).After-outside in let g = space_further (stand p) (told p c.in-Space.is) in omega (arith, (start p).args.self.now.limited)
 
 pub loop-kind-smaller-in-Space : goal.loop-kind-smaller-in-Space
-loop-kind-smaller-in-Space c = let p = (goal.at.loop-kind-smaller-in-Space c).After-outside-s in let g = space_further (stand p) (told p c.in-Space.is) in omega arith
+loop-kind-smaller-in-Space c = let p = (goal.at.loop-kind-smaller-in-Space c).After-outside in let g = space_further (stand p) (told p c.in-Space.is) in omega arith
 
 pub loop-kind-preserved-in-Space : goal.loop-kind-preserved-in-Space
 loop-kind-preserved-in-Space c =
-    let p = (goal.at.loop-kind-preserved-in-Space c).After-outside-s in
+    let p = (goal.at.loop-kind-preserved-in-Space c).After-outside in
     let e = c.in-Space.is in
     let v = p.loop-kind.invariant in
     (omega arith, omega arith, in_mode (leads_to p e) (turn_space (stand p) (told p e)))
 
 pub overflow_add-at-in-Comment : goal.overflow_add-at-in-Comment
-overflow_add-at-in-Comment c = let p = (goal.at.overflow_add-at-in-Comment c).After-outside-s in let g = comment_further (stand p) (told p c.in-Comment.is) in omega (arith, (start p).requires.limited)
+overflow_add-at-in-Comment c = let p = (goal.at.overflow_add-at-in-Comment c).After-outside in let g = comment_further (stand p) (told p c.in-Comment.is) in omega (arith, (start p).args.self.now.limited)
 
 pub loop-kind-smaller : goal.loop-kind-smaller
-loop-kind-smaller c = let p = (goal.at.loop-kind-smaller c).After-outside-s in let g = comment_further (stand p) (told p c.in-Comment.is) in omega arith
+loop-kind-smaller c = let p = (goal.at.loop-kind-smaller c).After-outside in let g = comment_further (stand p) (told p c.in-Comment.is) in omega arith
 
 pub loop-kind-preserved : goal.loop-kind-preserved
 loop-kind-preserved c =
-    let p = (goal.at.loop-kind-preserved c).After-outside-s in
+    let p = (goal.at.loop-kind-preserved c).After-outside in
     let e = told p c.in-Comment.is in
     let v = p.loop-kind.invariant in
     let g = comment_further (stand p) e in
     (omega arith, omega arith, turn_comment (stand p) e)
 
 pub overflow_add-at-in-Refused : goal.overflow_add-at-in-Refused
-overflow_add-at-in-Refused c = let p = (goal.at.overflow_add-at-in-Refused c).After-outside-s in omega (arith, refused_within (stand p) (told p c.in-Refused.is), (start p).requires.limited)
+overflow_add-at-in-Refused c = let p = (goal.at.overflow_add-at-in-Refused c).After-outside in omega (arith, refused_within (stand p) (told p c.in-Refused.is), (start p).args.self.now.limited)
 
 pub returns-in-Refused : goal.returns-in-Refused
 returns-in-Refused c =
-    let p = (goal.at.returns-in-Refused c).After-outside-s in
+    let p = (goal.at.returns-in-Refused c).After-outside in
     let w = leads_refused (reading p) (bytes p) (turn_refused (stand p) (told p c.in-Refused.is)) in
     rw c.refused_by.ensures record { value = w.0; kinds_after = w.1.0; starts_after = w.1.1.0; lengths_after = w.1.1.1.0; depths_after = w.1.1.1.1 }
 
 pub put-requires-in-Finished : goal.put-requires-in-Finished
 put-requires-in-Finished c =
-    let p = (goal.at.put-requires-in-Finished c).After-outside-s in
+    let p = (goal.at.put-requires-in-Finished c).After-outside in
     let v = p.loop-kind.invariant in
-    let q = (start p).requires.limited in
+    let q = (start p).args.self.now.limited in
     record {
       alike = alike p;
       small = (omega (arith, (stand p).inside), omega arith, omega arith);
     }
 
 pub overflow_add-count : goal.overflow_add-count
-overflow_add-count c = let v = c.loop-kind.invariant in omega (arith, c.requires.limited)
+overflow_add-count c = let v = c.loop-kind.invariant in omega (arith, c.args.self.now.limited)
 
 pub returns-in-Finished : goal.returns-in-Finished
 returns-in-Finished c =
-    let p = (goal.at.returns-in-Finished c).After-outside-s in
+    let p = (goal.at.returns-in-Finished c).After-outside in
     let w = leads_end (reading p) (bytes p) (turn_finished (stand p) (told p c.in-Finished.is)) (c.put-in-Finished.ensures.kinds_after, (c.put-in-Finished.ensures.starts_after, (c.put-in-Finished.ensures.lengths_after, c.put-in-Finished.ensures.depths_after))) in
     record { value = w.0; kinds_after = w.1.0; starts_after = w.1.1.0; lengths_after = w.1.1.1.0; depths_after = w.1.1.1.1 }

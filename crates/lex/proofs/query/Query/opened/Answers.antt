@@ -8,7 +8,6 @@ use mathlib.Core.Logic.{inl, inr}
 use mathlib.Core.Path.{◌≡◌, refl, sym, ap, ap₂, subst, ◌∙◌}
 use denote.Enum.Declared.{tag_of}
 use lib.ListN.{length, drop}
-use Rattle.proving.proofs.Lists.{rest_of}
 use Rattle.munch.specs.contracts.Inside as inside
 use Rattle.utf8.specs.declared.Reading.{Reading}
 use Rattle.munch.specs.declared.Inside.{Inside}
@@ -22,8 +21,8 @@ use Rattle.munch.proofs.Modes.{step_leads}
 use Rattle.lex.specs.steps.Pass.{in_braces, has_colon, inside_by, outcome_at, State, state, Leads, Alike}
 use Rattle.lex.proofs.Lists.{leads_alike}
 use Rattle.lex.proofs.Turns.{same_depth, lexeme_further, space_further, comment_further, refused_within, turn_lexeme, turn_space, turn_comment, turn_refused, in_mode, same_mode, Stands, stands_start}
-use Rattle.lex.proofs.opened.Goals as goal
-use Rattle.lex.proofs.opened.Goals.{After-inner_step-s, In-Lexeme, After-slice_known-in-Lexeme-4-1, Start}
+use Rattle.lex.proofs.query.Query.opened.Goals as goal
+use Rattle.lex.proofs.query.Query.opened.Goals.{After-inner_step, In-Lexeme, After-slice_known-in-Lexeme-4-1, Start}
 
 -- what is open at first, by whether it is braces
 opening : (i : Inside) {b : Bool} → Opens i → (i ≡ Nothing → ⊥) → b ≡ in_braces i → i ≡ inside_by b false true
@@ -60,15 +59,15 @@ never true s f e = let z = ap (tag_of inside.the_type) e in omega arith
 never false s f e = let z = ap (tag_of inside.the_type) e in omega arith
 
 -- once a step is known: where the loop stood
-module _ (c : After-inner_step-s) where
+module _ (c : After-inner_step) where
   abbrev start : Start
-  start = (goal.at.After-inner_step-s c).Start
+  start = (goal.at.After-inner_step c).Start
 
   abbrev bytes : List ℕ
-  bytes = start.args.query.now
+  bytes = start.args.self.now.text.now
 
   abbrev reading : Reading
-  reading = start.args.reading
+  reading = start.args.self.now.reading
 
   abbrev depth : ℕ
   depth = start.args.next.depth
@@ -91,10 +90,10 @@ module _ (c : After-inner_step-s) where
   alike : let l = c.loop-kind in Alike l.kinds l.starts l.lengths l.depths
   alike = leads_alike stand.leads start.requires.alike
 
-  stepped : {s : Step} → c.inner_step-s.result ≡ s → munched reading (mode depth here) (drop at bytes) ≡ s
-  stepped e = rw rest_of at (sym c.inner_step-s.ensures ∙ e)
+  stepped : {s : Step} → c.inner_step.result ≡ s → munched reading (mode depth here) (drop at bytes) ≡ s
+  stepped e = sym c.inner_step.ensures ∙ e
 
-  leads_to : {s : Step} → c.inner_step-s.result ≡ s → LeadsTo depth here s
+  leads_to : {s : Step} → c.inner_step.result ≡ s → LeadsTo depth here s
   leads_to e = rw (stepped e) at (step_leads reading depth here (drop at bytes))
 
   -- the query goes on as it does from what is open at first
@@ -106,8 +105,8 @@ module _ (c : After-inner_step-s) where
 
 -- where the step is a lexeme, and how far it goes
 module _ (c : In-Lexeme) where
-  abbrev place : After-inner_step-s
-  place = (goal.at.In-Lexeme c).After-inner_step-s
+  abbrev place : After-inner_step
+  place = (goal.at.In-Lexeme c).After-inner_step
 
   abbrev size : ℕ
   size = c.in-Lexeme.length
@@ -150,10 +149,10 @@ put-requires c =
     }
 
 pub overflow_add-at : goal.overflow_add-at
-overflow_add-at c = let d = (goal.at.overflow_add-at c).In-Lexeme in omega (arith, further d, (start (place d)).requires.limited)
+overflow_add-at c = let d = (goal.at.overflow_add-at c).In-Lexeme in omega (arith, further d, (start (place d)).args.self.now.limited)
 
 pub overflow_add-i : goal.overflow_add-i
-overflow_add-i c = let p = place (goal.at.overflow_add-i c).In-Lexeme in let v = p.loop-kind.invariant in omega (arith, (start p).requires.limited, (stand p).inside)
+overflow_add-i c = let p = place (goal.at.overflow_add-i c).In-Lexeme in let v = p.loop-kind.invariant in omega (arith, (start p).args.self.now.limited, (stand p).inside)
 
 -- the lexeme is written, and what is behind it is still to come
 wrote : (c : After-slice_known-in-Lexeme-4-1) →
@@ -191,37 +190,37 @@ loop-kind-preserved-in-Lexeme c =
     (omega arith, omega arith, in_mode e (wrote (goal.at.loop-kind-preserved-in-Lexeme c).After-slice_known-in-Lexeme-4-1))
 
 pub overflow_add-at-in-Space : goal.overflow_add-at-in-Space
-overflow_add-at-in-Space c = let p = (goal.at.overflow_add-at-in-Space c).After-inner_step-s in omega (arith, space_further (stand p) (stepped p c.in-Space.is), (start p).requires.limited)
+overflow_add-at-in-Space c = let p = (goal.at.overflow_add-at-in-Space c).After-inner_step in omega (arith, space_further (stand p) (stepped p c.in-Space.is), (start p).args.self.now.limited)
 
 pub loop-kind-smaller-in-Space : goal.loop-kind-smaller-in-Space
-loop-kind-smaller-in-Space c = let p = (goal.at.loop-kind-smaller-in-Space c).After-inner_step-s in omega (arith, space_further (stand p) (stepped p c.in-Space.is))
+loop-kind-smaller-in-Space c = let p = (goal.at.loop-kind-smaller-in-Space c).After-inner_step in omega (arith, space_further (stand p) (stepped p c.in-Space.is))
 
 pub loop-kind-preserved-in-Space : goal.loop-kind-preserved-in-Space
 loop-kind-preserved-in-Space c =
-    let p = (goal.at.loop-kind-preserved-in-Space c).After-inner_step-s in
+    let p = (goal.at.loop-kind-preserved-in-Space c).After-inner_step in
     let e = c.in-Space.is in
     let v = p.loop-kind.invariant in
     (omega arith, omega arith, in_mode (leads_to p e ∙ ap (mode (depth p)) (passed (braces p) p.loop-kind.seen p.loop-kind.fresh)) (turn_space (stand p) (stepped p e)))
 
 pub overflow_add-at-in-Comment : goal.overflow_add-at-in-Comment
-overflow_add-at-in-Comment c = let p = (goal.at.overflow_add-at-in-Comment c).After-inner_step-s in omega (arith, comment_further (stand p) (stepped p c.in-Comment.is), (start p).requires.limited)
+overflow_add-at-in-Comment c = let p = (goal.at.overflow_add-at-in-Comment c).After-inner_step in omega (arith, comment_further (stand p) (stepped p c.in-Comment.is), (start p).args.self.now.limited)
 
 pub loop-kind-smaller : goal.loop-kind-smaller
-loop-kind-smaller c = let p = (goal.at.loop-kind-smaller c).After-inner_step-s in omega (arith, comment_further (stand p) (stepped p c.in-Comment.is))
+loop-kind-smaller c = let p = (goal.at.loop-kind-smaller c).After-inner_step in omega (arith, comment_further (stand p) (stepped p c.in-Comment.is))
 
 pub loop-kind-preserved : goal.loop-kind-preserved
 loop-kind-preserved c =
-    let p = (goal.at.loop-kind-preserved c).After-inner_step-s in
+    let p = (goal.at.loop-kind-preserved c).After-inner_step in
     let e = stepped p c.in-Comment.is in
     let v = p.loop-kind.invariant in
     let g = comment_further (stand p) e in
     (omega arith, omega arith, turn_comment (stand p) e)
 
 pub overflow_add-at-in-Refused : goal.overflow_add-at-in-Refused
-overflow_add-at-in-Refused c = let p = (goal.at.overflow_add-at-in-Refused c).After-inner_step-s in omega (arith, refused_within (stand p) (stepped p c.in-Refused.is), (start p).requires.limited)
+overflow_add-at-in-Refused c = let p = (goal.at.overflow_add-at-in-Refused c).After-inner_step in omega (arith, refused_within (stand p) (stepped p c.in-Refused.is), (start p).args.self.now.limited)
 
 pub returns-in-Refused : goal.returns-in-Refused
-returns-in-Refused c = let p = (goal.at.returns-in-Refused c).After-inner_step-s in rw c.refused_by.ensures record { reached = tt; leads = begins p (turn_refused (stand p) (stepped p c.in-Refused.is)) }
+returns-in-Refused c = let p = (goal.at.returns-in-Refused c).After-inner_step in rw c.refused_by.ensures record { reached = tt; leads = begins p (turn_refused (stand p) (stepped p c.in-Refused.is)) }
 
 pub returns-in-Finished : goal.returns-in-Finished
-returns-in-Finished c = let p = (goal.at.returns-in-Finished c).After-inner_step-s in let l = p.loop-kind in absurd (never (braces p) l.seen l.fresh (leads_to p c.in-Finished.is))
+returns-in-Finished c = let p = (goal.at.returns-in-Finished c).After-inner_step in let l = p.loop-kind in absurd (never (braces p) l.seen l.fresh (leads_to p c.in-Finished.is))

@@ -2,7 +2,7 @@
 use native.Mathlib.Omega.{arith}
 use mathlib.Core.Path.{refl, sym}
 use lib.Seq.{set_out}
-use Rattle.lex.proofs.put.Goals as goal
+use Rattle.lex.proofs.query.put.Goals as goal
 
 pub returns-then-i-kinds : goal.returns-then-i-kinds
 returns-then-i-kinds c = record {

@@ -5,11 +5,11 @@ use Rattle.munch.specs.Munch.{mode}
 use Rattle.lex.specs.Outcome.{outcome_of}
 use Rattle.lex.specs.steps.Pass.{state}
 use Rattle.lex.proofs.Turns.{Stands}
-use Rattle.lex.proofs.pass.Given as goal
+use Rattle.lex.proofs.query.Query.pass.Given as goal
 
 abbrev pub invariant-loop-kind : goal.invariant-loop-kind
 invariant-loop-kind l =
-    (l.i ≤ l.at) × (l.depth ≤ l.at) × Stands l.reading (state l.initial.kinds l.initial.starts l.initial.lengths l.initial.depths 0 (outcome_of l.reading l.query)) l.query l.kinds l.starts l.lengths l.depths l.i l.at (mode l.depth Nothing)
+    (l.i ≤ l.at) × (l.depth ≤ l.at) × Stands l.self.reading (state l.initial.kinds l.initial.starts l.initial.lengths l.initial.depths 0 (outcome_of l.self.reading l.self.text.now)) l.self.text.now l.kinds l.starts l.lengths l.depths l.i l.at (mode l.depth Nothing)
 
 abbrev pub decreases-loop-kind : goal.decreases-loop-kind
-decreases-loop-kind l = length l.query - l.at
+decreases-loop-kind l = length l.self.text.now - l.at
