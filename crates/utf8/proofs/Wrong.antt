@@ -1,5 +1,5 @@
 -- The answer that each promise leaves at a telling input: a program that answers otherwise there, as the theorem's name says, cannot be
--- proved. Where a theorem unfolds `FUNCTION-at` it computes with all that this lemma unfolds.
+-- proved. Where a theorem unfolds `FUNCTION_at` it computes with all that this lemma unfolds.
 use Prim.Native.Nat.{ℕ}
 use Prim.Native.Char.{code}
 use mathlib.Core.Bool.{Bool, true, false}
