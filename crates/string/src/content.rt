@@ -27,7 +27,7 @@ const SHORT: usize = 128;
 
 const LONGER: usize = 4096;
 
-// Whether a text has the byte. Unlike `scan::contains` it looks at all of it, so that many bytes are at once.
+// Whether a text has the byte. Unlike `scan::contains` it looks at all of it, so that many bytes are looked at at once.
 #[tactic(auto, using(crate::proofs::Bytes::has_next, crate::proofs::Bytes::has_over))]
 fn has_byte(s: &[u8], c: u8) -> bool
     ensures { result ≡ has c s.now }

@@ -1,5 +1,4 @@
-// String literals: where the text of one stands, and that text. What is to be written is measured first, so that a refused call writes
-// nothing.
+// String literals: where the text of one stands, and that text. Nothing lent is written before all of a literal is known to be good.
 #![tactic(auto)]
 
 mod content;
