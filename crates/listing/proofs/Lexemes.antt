@@ -6,7 +6,7 @@ use native.Mathlib.Omega.{arith}
 use mathlib.Core.Path.{◌≡◌, refl, sym, ap, ◌∙◌}
 use mathlib.Core.List.{List, [], ◌∷◌, ◌++◌, map, append_assoc, append-nil}
 use lib.ListN.{length, take, drop, get_or, length-map}
-use lib.Seq.{take-suc, take_all, take_at}
+use lib.Seq.{take-suc, take_all, take_at, length-take-le}
 use Rattle.utf8.specs.declared.Refusal.{Refusal}
 use Rattle.std.specs.Prelude.{Ok, Result}
 use Rattle.utf8.specs.declared.Reading.TheVariants.{Crate}
@@ -24,17 +24,24 @@ zipped_back (e ∷ es) = ap (λ (t : List Entry). e ∷ t) (zipped_back es)
 listed_front : (f : Entry → ℕ) (q d : List ℕ) (n : ℕ) → n ≡ length (entries_of Crate q) → take n (listed Crate f q d) ≡ map f (entries_of Crate q)
 listed_front f q d n h = take_at (map f (entries_of Crate q)) (drop (length (entries_of Crate q)) d) n (length-map (entries_of Crate q) f ∙ sym h)
 
--- what `lexer` promises of an accepted query is that the first entries of the four lists are its lexemes, and that there is room for them
+-- an accepted query has no more lexemes than there is room for
+pub no_more : (room : ℕ) (q : List ℕ) (n : ℕ) → ◌≡◌ {A = Result ℕ Refusal} (Ok n) (lexed Crate room q) → n ≤ room
+no_more room q n told = (((lexing_given Crate room q).4 n).0 (sym told)).3
+
+-- so that each list has as many at its front
+pub ruleset fronts = (no_more, length-take-le)
+
+-- what `lexer` promises of an accepted query is that the first entries of the four lists are its lexemes
 pub lists_hold : (q ks ss ls ds : List ℕ) {x : Result ℕ Refusal} {n : ℕ} {ks' ss' ls' ds' : List ℕ}
     → (x ≡ lexed Crate (shortest (length ks) (length ss) (length ls) (length ds)) q)
     × ((ks' ≡ left_after x (listed Crate kind_of q ks) ks)
     × ((ss' ≡ left_after x (listed Crate starts_at q ss) ss)
     × ((ls' ≡ left_after x (listed Crate length_of q ls) ls) × (ds' ≡ left_after x (listed Crate depth_of q ds) ds))))
     → x ≡ Ok n
-    → (n ≤ shortest (length ks) (length ss) (length ls) (length ds)) × (zipped (take n ks') (take n ss') (take n ls') (take n ds') ≡ entries_of Crate q)
+    → zipped (take n ks') (take n ss') (take n ls') (take n ds') ≡ entries_of Crate q
 lists_hold q ks ss ls ds {x} {n} p told =
     let w = ((lexing_given Crate (shortest (length ks) (length ss) (length ls) (length ds)) q).4 n).0 (sym p.0 ∙ told) in
-    (w.3, rw (holds kind_of ks w.2 p.1.0, holds starts_at ss w.2 p.1.1.0, holds length_of ls w.2 p.1.1.1.0, holds depth_of ds w.2 p.1.1.1.1) (zipped_back (entries_of Crate q)))
+    rw (holds kind_of ks w.2 p.1.0, holds starts_at ss w.2 p.1.1.0, holds length_of ls w.2 p.1.1.1.0, holds depth_of ds w.2 p.1.1.1.1) (zipped_back (entries_of Crate q))
   where
     holds : (f : Entry → ℕ) (d : List ℕ) → n ≡ length (entries_of Crate q) → {d' : List ℕ} → d' ≡ left_after x (listed Crate f q d) d → take n d' ≡ map f (entries_of Crate q)
     holds f d h e = ap (take n) (e ∙ ap (λ y. left_after y (listed Crate f q d) d) told) ∙ listed_front f q d n h

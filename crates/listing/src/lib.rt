@@ -97,6 +97,7 @@ fn put_lexemes(
 }
 
 // Writes what is printed of a query, whose lexemes go to the lent lists.
+#[tactic(auto, using(crate::proofs::Lexemes::fronts))]
 fn lex_to(
     query: &[u8],
     kinds: &mut [u16],
