@@ -19,8 +19,9 @@ use Rattle.lex.specs.Lex.{eof, entries_of}
 use Rattle.lex.specs.laws.Refusals.{Reaches, start, lexeme, space, comment}
 use Rattle.lex.specs.laws.Before.{entries_from}
 use Rattle.lex.proofs.Steps.{steps_at, goes_at}
+use Rattle.std.specs.Prelude.{None, Option}
 use Rattle.reason.specs.declared.Found.{Found}
-use Rattle.reason.specs.Reason.{found_in, lexeme_at}
+use Rattle.reason.specs.Reason.{found_at, found_in, lexeme_at}
 use Rattle.reason.specs.laws.Reasons.{lexeme_of}
 
 -- the first of the bytes from a place on
@@ -29,7 +30,7 @@ first_at q i = rw add-zero at (get_or-drop i q 0 end)
 
 -- what is found, and the lexeme
 pub data Finds (r : Reading) (q : List ℕ) : Option Found → Entry → Type 0 where
-  there : (at k n : ℕ) (m m' : Mode) → Reaches r q at m → munched r m (drop at q) ≡ Lexeme k n m' → Finds r q (there at m) (entry k at n (depth_by k m'))
+  there : (at k n : ℕ) (m m' : Mode) → Reaches r q at m → munched r m (drop at q) ≡ Lexeme k n m' → Finds r q (found_at at m) (entry k at n (depth_by k m'))
   nowhere : (at : ℕ) → peek_at q at ≡ end → Finds r q None (eof at)
 
 module _ (r : Reading) (q : List ℕ) where

@@ -13,10 +13,11 @@ use Rattle.munch.specs.declared.Step.TheVariants.{Lexeme, Space, Comment, Refuse
 use Rattle.munch.specs.Munch.{outside, munched}
 use Rattle.lex.specs.Outcome.{steps_past, read_from, outcome_of}
 use Rattle.lex.proofs.Steps.{steps_at, goes_at}
+use Rattle.std.specs.Prelude.{Err, None, Option, Some}
+use Rattle.quoted.specs.Quoted.{fault}
 use Rattle.reason.specs.declared.Found.{Found}
-use Rattle.reason.specs.declared.Sought.TheVariants as sought
-use Rattle.reason.specs.Reason.{found_in, lexeme_at}
-use Rattle.reason.specs.steps.Search.{search_by, searched, or_else, FoundWithin}
+use Rattle.reason.specs.Reason.{found_at, found_in, lexeme_at}
+use Rattle.reason.specs.steps.Search.{ended, search_by, searched, or_else, FoundWithin}
 
 -- where the search stands: at an offset in a mode, with so many lexemes before it, and what was found
 pub record Looks (r : Reading) (q : List ℕ) (wanted at i : ℕ) (m : Mode) (f : Option Found) : Type 0 where
@@ -37,13 +38,13 @@ or_nowhere None = refl
 module _ {r : Reading} {q : List ℕ} {wanted at i : ℕ} {m : Mode} {f : Option Found} (l : Looks r q wanted at i m f) where
   -- a lexeme is the one, or is passed; g is what is found behind it
   lexeme_found : {k n : ℕ} {next : Mode} → munched r m (drop at q) ≡ Lexeme k n next → (g : Option Found)
-      → ((i ≡ wanted) × (g ≡ there at m)) ⊎ ((¬ (i ≡ wanted)) × (g ≡ f)) → lexeme_at r q wanted ≡ or_else g (found_in wanted (i + 1) (at + n) next (steps_past r 0 next (drop (at + n) q)))
+      → ((i ≡ wanted) × (g ≡ found_at at m)) ⊎ ((¬ (i ≡ wanted)) × (g ≡ f)) → lexeme_at r q wanted ≡ or_else g (found_in wanted (i + 1) (at + n) next (steps_past r 0 next (drop (at + n) q)))
   unfolding found_in
   lexeme_found e g (inl (z, h)) = rw h (l.found ∙ rw (l.late (omega (arith, z)), steps_at r q at m _ e, eq-eqb i wanted z))
   lexeme_found e g (inr (z, h)) = rw h (l.found ∙ rw (steps_at r q at m _ e, ne_eqb i wanted z))
 
   pub looks_lexeme : {k n : ℕ} {next : Mode} → munched r m (drop at q) ≡ Lexeme k n next → (g : Option Found)
-      → ((i ≡ wanted) × (g ≡ there at m)) ⊎ ((¬ (i ≡ wanted)) × (g ≡ f)) → Looks r q wanted (at + n) (i + 1) next g
+      → ((i ≡ wanted) × (g ≡ found_at at m)) ⊎ ((¬ (i ≡ wanted)) × (g ≡ f)) → Looks r q wanted (at + n) (i + 1) next g
   unfolding read_from search_by
   looks_lexeme {k} {n} {next} e g w =
       let p = goes_at r q at m _ e in
@@ -56,11 +57,11 @@ module _ {r : Reading} {q : List ℕ} {wanted at i : ℕ} {m : Mode} {f : Option
         count = λ h. l.count h ∙ rw (steps_at r q at m _ e);
       }
     where
-      later : ((i ≡ wanted) × (g ≡ there at m)) ⊎ ((¬ (i ≡ wanted)) × (g ≡ f)) → i + 1 ≤ wanted → g ≡ None
+      later : ((i ≡ wanted) × (g ≡ found_at at m)) ⊎ ((¬ (i ≡ wanted)) × (g ≡ f)) → i + 1 ≤ wanted → g ≡ None
       later (inl (z, h)) u = absurd (omega (arith, z, u))
       later (inr (z, h)) u = h ∙ l.late (omega (arith, u))
 
-      inner : ((i ≡ wanted) × (g ≡ there at m)) ⊎ ((¬ (i ≡ wanted)) × (g ≡ f)) → FoundWithin q g
+      inner : ((i ≡ wanted) × (g ≡ found_at at m)) ⊎ ((¬ (i ≡ wanted)) × (g ≡ f)) → FoundWithin q g
       inner (inl (z, h)) = rw h l.inside
       inner (inr (z, h)) = rw h l.within
 
@@ -90,11 +91,11 @@ module _ {r : Reading} {q : List ℕ} {wanted at i : ℕ} {m : Mode} {f : Option
         count = λ h. l.count h ∙ rw (steps_at r q at m _ e);
       }
 
-  pub looks_refused_holds : {number o : ℕ} → munched r m (drop at q) ≡ Refused number o → sought.Refused number (record { 0 = at + o }) ≡ searched r wanted q
+  pub looks_refused_holds : {number o : ℕ} → munched r m (drop at q) ≡ Refused number o → Err (fault number (at + o)) ≡ searched r wanted q
   unfolding read_from search_by
   looks_refused_holds e = sym (l.count (lexeme_at r q wanted) ∙ rw (steps_at r q at m _ e))
 
-  pub looks_finished : munched r m (drop at q) ≡ Finished → sought.Ended (i + 1) f ≡ searched r wanted q
+  pub looks_finished : munched r m (drop at q) ≡ Finished → ended (i + 1) f ≡ searched r wanted q
   unfolding read_from search_by found_in
   looks_finished e =
       let h : lexeme_at r q wanted ≡ f = l.found ∙ rw (steps_at r q at m _ e) (or_nowhere f) in

@@ -3,11 +3,6 @@ use mathlib.Core.Path.{sym, ◌∙◌}
 use Rattle.proving.proofs.One.{OneAnswer}
 use Rattle.reason.proofs.word_reason.Kinds as word_reason
 use Rattle.reason.proofs.word_reason.Reads as word_reason_reads
-use Rattle.reason.proofs.not_reasoned.Kinds as not_reasoned
-use Rattle.reason.proofs.not_reasoned.Reads as not_reasoned_reads
 
 pub same_word_reason : OneAnswer word_reason.ps word_reason.r word_reason_reads.Post
 same_word_reason κs a x y e f p q = p ∙ sym q
-
-pub same_not_reasoned : OneAnswer not_reasoned.ps not_reasoned.r not_reasoned_reads.Post
-same_not_reasoned κs a x y e f p q = p ∙ sym q

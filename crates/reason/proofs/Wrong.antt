@@ -14,7 +14,7 @@ use Rattle.utf8.specs.declared.Reading.TheVariants.{Crate, Documented}
 use Rattle.utf8.specs.Table.{fits, size_in, char_length}
 use Rattle.utf8.specs.Code.{code_of}
 use Rattle.utf8.specs.Text.{chars_past, size_of, begun_in, char_number}
-use Rattle.utf8.specs.Answers.{place, validity_of, admitted, at_start}
+use Rattle.utf8.specs.Answers.{place, validity_of, admitted}
 use Rattle.token.specs.Words.{words, kind_in, keyword_of}
 use Rattle.numeral.specs.Numeral.{is_hex, fraction_end, exponent_end, number_end, is_unit, numeral_of, duration_from, turn_of, stop_of}
 use Rattle.quoted.specs.Quoted.{is_escape, quoted_from, is_raw, raw_from, comment_end}
@@ -24,11 +24,9 @@ use Rattle.utf8.specs.declared.Refusal.{Refusal}
 use Rattle.proving.proofs.One.{Answers}
 use Rattle.lex.specs.Outcome.{steps_past, read_from}
 use Rattle.lex.specs.Lex.{answer_by, measured}
-use Rattle.reason.specs.Reason.{word_outside, word_in_braces, wording_of, found_in, reasoned, not_reasoned}
+use Rattle.reason.specs.Reason.{word_outside, word_in_braces, wording_of, found_in, reasoned}
 use Rattle.reason.proofs.word_reason.Kinds as word_reason
 use Rattle.reason.proofs.word_reason.Reads as word_reason_reads
-use Rattle.reason.proofs.not_reasoned.Kinds as not_reasoned_kinds
-use Rattle.reason.proofs.not_reasoned.Reads as not_reasoned_reads
 
 -- what computes at a query
 reasoning : Unit {0}
@@ -160,15 +158,3 @@ query_is_refused_before_its_count_is_met = word_reason_at _ _ _
 pub text_that_is_not_utf8_is_refused : word_reason_gives Crate (0xff ∷ []) 0 (refused 2 0 0)
 unfolding reasoning
 text_that_is_not_utf8_is_refused = word_reason_at _ _ _
-
-abbrev not_reasoned_gives : Result ℕ Refusal → Refusal → Type 0
-not_reasoned_gives v r = Answers not_reasoned_kinds.ps not_reasoned_kinds.r not_reasoned_reads.Post (λ κs a. a.0 ≡ v) (λ κs. r)
-
-not_reasoned_at : (v : Result ℕ Refusal) → not_reasoned_gives v (not_reasoned v)
-not_reasoned_at v κs a x e p h = cc (p, h)
-
-pub refusal_of_a_reason_is_told : not_reasoned_gives (refused 74 0 0) (at_start 74)
-refusal_of_a_reason_is_told = not_reasoned_at _
-
-pub reason_has_no_refusal : not_reasoned_gives (Ok 3) (at_start 0)
-reason_has_no_refusal = not_reasoned_at _

@@ -47,14 +47,14 @@ wording_of Braces xs = word_in_braces xs
 wording_of (Brackets seen fresh) xs = None
 
 -- a lexeme begins at an offset, in a mode
-abbrev pub there : ℕ → Mode → Option Found
-there at m = Some (record { at = at; mode = m })
+abbrev pub found_at : ℕ → Mode → Option Found
+found_at at m = Some (record { at = at; mode = m })
 
 -- where the lexeme of a number begins, and in which mode: the steps begin at an offset in a mode, and i lexemes stand before them. Nothing is found for EOF's number,
 -- since EOF is no step's
 unfoldable pub found_in : ℕ → ℕ → ℕ → Mode → List Step → Option Found
 found_in number i at m [] = None
-found_in number i at m (step.Lexeme k n next ∷ t) = cond (eqb i number) (there at m) (found_in number (i + 1) (at + n) next t)
+found_in number i at m (step.Lexeme k n next ∷ t) = cond (eqb i number) (found_at at m) (found_in number (i + 1) (at + n) next t)
 found_in number i at m (step.Space next ∷ t) = found_in number i (at + 1) next t
 found_in number i at m (step.Comment n ∷ t) = found_in number i (at + n) m t
 found_in number i at m (step.Refused row o ∷ t) = None

@@ -51,12 +51,7 @@ struct Sought {
 }
 
 // Reads a text to its end, and looks for the lexeme of a number.
-fn search(
-    tables: &Tables,
-    query: &[u8],
-    reading: Reading,
-    wanted: usize,
-) -> Result<Sought, Fault>
+fn search(tables: &Tables, query: &[u8], reading: Reading, wanted: usize) -> Result<Sought, Fault>
     requires { length query.now ≤ text_limit }
     ensures value { result ≡ searched reading wanted query.now }
     ensures within { Within query.now result }
@@ -72,7 +67,9 @@ fn search(
         let s = tables.step(&query[at..], reading, mode);
         match s {
             Step::Lexeme {
-                length, mode: next, ..
+                length,
+                mode: next,
+                ..
             } => {
                 if i == wanted {
                     found = Some(Found { at, mode });
@@ -110,6 +107,7 @@ fn is_word_start(c: usize) -> bool
 }
 
 // The rule of the word that bytes outside braces begin with, if they do.
+#[tactic(auto, unfolding(crate::specs::Reason::word_outside), using(scan::proofs::Runs::run_within, crate::proofs::Starts::start_inside))]
 fn outside_word(tables: &Tables, s: &[u8]) -> Option<Rule>
     ensures { result ≡ word_outside s.now }
 {
@@ -122,6 +120,7 @@ fn outside_word(tables: &Tables, s: &[u8]) -> Option<Rule>
 }
 
 // The rule of the word that bytes in braces begin with, if they do.
+#[tactic(auto, unfolding(crate::specs::Reason::word_in_braces))]
 fn brace_word(s: &[u8]) -> Option<Rule>
     ensures { result ≡ word_in_braces s.now }
 {
@@ -190,6 +189,7 @@ fn answer_of(
 }
 
 // Why the word that is a query's lexeme of a number has its kind: one of seven reasons, numbered from 1 in 02's order.
+#[tactic(auto, unfolding(crate::specs::Reason::reasoned, lex::specs::Lex::measured), using(utf8::proofs::Given::admitted_text))]
 pub fn word_reason(query: &[u8], reading: Reading, number: usize) -> Result<usize, Refusal>
     ensures { result ≡ reasoned reading number query.now }
 {

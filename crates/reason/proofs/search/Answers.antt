@@ -59,14 +59,11 @@ loop-length-init c = looks_start _ _ _
 pub slice_bounds-step-count : goal.slice_bounds-step-count
 slice_bounds-step-count c = c.loop-length.invariant.inside
 
-pub step-s-requires : goal.step-s-requires
-step-s-requires c = c.requires.tables
-
 pub overflow_add-at : goal.overflow_add-at
-overflow_add-at c = omega (arith, (turned c).inside, (start (place c)).requires.limited)
+overflow_add-at c = omega (arith, (turned c).inside, (start (place c)).requires)
 
 pub overflow_add-i : goal.overflow_add-i
-overflow_add-i c = omega (arith, (turned c).few, (turned c).inside, (start (place c)).requires.limited)
+overflow_add-i c = omega (arith, (turned c).few, (turned c).inside, (start (place c)).requires)
 
 pub loop-length-smaller-in-Lexeme : goal.loop-length-smaller-in-Lexeme
 loop-length-smaller-in-Lexeme c = omega (arith, (turned c).inside, (goes (place c) c.in-Lexeme.is).some)
@@ -75,7 +72,7 @@ pub loop-length-preserved-in-Lexeme : goal.loop-length-preserved-in-Lexeme
 loop-length-preserved-in-Lexeme c = turned c
 
 pub overflow_add-at-in-Space : goal.overflow_add-at-in-Space
-overflow_add-at-in-Space c = omega (arith, (looks_space c.loop-length.invariant (told (goal.at.overflow_add-at-in-Space c).After-step-s c.in-Space.is)).inside, (start (goal.at.overflow_add-at-in-Space c).After-step-s).requires.limited)
+overflow_add-at-in-Space c = omega (arith, (looks_space c.loop-length.invariant (told (goal.at.overflow_add-at-in-Space c).After-step-s c.in-Space.is)).inside, (start (goal.at.overflow_add-at-in-Space c).After-step-s).requires)
 
 pub loop-length-smaller-in-Space : goal.loop-length-smaller-in-Space
 loop-length-smaller-in-Space c = omega (arith, (looks_space c.loop-length.invariant (told (goal.at.loop-length-smaller-in-Space c).After-step-s c.in-Space.is)).inside)
@@ -84,7 +81,7 @@ pub loop-length-preserved-in-Space : goal.loop-length-preserved-in-Space
 loop-length-preserved-in-Space c = looks_space c.loop-length.invariant (told (goal.at.loop-length-preserved-in-Space c).After-step-s c.in-Space.is)
 
 pub overflow_add-at-in-Comment : goal.overflow_add-at-in-Comment
-overflow_add-at-in-Comment c = omega (arith, (looks_comment c.loop-length.invariant (told (goal.at.overflow_add-at-in-Comment c).After-step-s c.in-Comment.is)).inside, (start (goal.at.overflow_add-at-in-Comment c).After-step-s).requires.limited)
+overflow_add-at-in-Comment c = omega (arith, (looks_comment c.loop-length.invariant (told (goal.at.overflow_add-at-in-Comment c).After-step-s c.in-Comment.is)).inside, (start (goal.at.overflow_add-at-in-Comment c).After-step-s).requires)
 
 pub loop-length-smaller : goal.loop-length-smaller
 loop-length-smaller c = omega (arith, (looks_comment c.loop-length.invariant (told (goal.at.loop-length-smaller c).After-step-s c.in-Comment.is)).inside, (goes (goal.at.loop-length-smaller c).After-step-s c.in-Comment.is).some)
@@ -92,17 +89,14 @@ loop-length-smaller c = omega (arith, (looks_comment c.loop-length.invariant (to
 pub loop-length-preserved : goal.loop-length-preserved
 loop-length-preserved c = looks_comment c.loop-length.invariant (told (goal.at.loop-length-preserved c).After-step-s c.in-Comment.is)
 
-pub overflow_add-at-in-Refused : goal.overflow_add-at-in-Refused
-overflow_add-at-in-Refused c = omega (arith, edge_within (drop (at (goal.at.overflow_add-at-in-Refused c).After-step-s) (bytes (goal.at.overflow_add-at-in-Refused c).After-step-s)) c.in-Refused.offset (goes (goal.at.overflow_add-at-in-Refused c).After-step-s c.in-Refused.is), length-drop (at (goal.at.overflow_add-at-in-Refused c).After-step-s) (bytes (goal.at.overflow_add-at-in-Refused c).After-step-s), c.loop-length.invariant.inside, (start (goal.at.overflow_add-at-in-Refused c).After-step-s).requires.limited)
+pub overflow_add-result : goal.overflow_add-result
+overflow_add-result c = omega (arith, edge_within (drop (at (goal.at.overflow_add-result c).After-step-s) (bytes (goal.at.overflow_add-result c).After-step-s)) c.in-Refused.offset (goes (goal.at.overflow_add-result c).After-step-s c.in-Refused.is), length-drop (at (goal.at.overflow_add-result c).After-step-s) (bytes (goal.at.overflow_add-result c).After-step-s), c.loop-length.invariant.inside, (start (goal.at.overflow_add-result c).After-step-s).requires)
 
 pub returns-in-Refused : goal.returns-in-Refused
 returns-in-Refused c = record {
   value = looks_refused_holds c.loop-length.invariant (told (goal.at.returns-in-Refused c).After-step-s c.in-Refused.is);
   within = tt;
 }
-
-pub overflow_add-count : goal.overflow_add-count
-overflow_add-count c = omega (arith, c.loop-length.invariant.few, c.loop-length.invariant.inside, (start (goal.at.overflow_add-count c).After-step-s).requires.limited)
 
 pub returns-in-Finished : goal.returns-in-Finished
 returns-in-Finished c = record {

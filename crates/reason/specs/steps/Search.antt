@@ -1,6 +1,6 @@
 -- The search as the code makes it: a count that goes up with each lexeme, and the lexeme that was found. A refusal has its byte offset; its character is counted when
 -- it is given.
-use Rattle.std.specs.Prelude.{ℕ, ◌+◌, ◌≤◌, cond, List, leb, length, Err, Result}
+use Rattle.std.specs.Prelude.{ℕ, ◌+◌, ◌≤◌, cond, List, leb, length, Err, None, Ok, Option, Result, Some}
 use Rattle.utf8.specs.declared.Reading.{Reading}
 use Rattle.utf8.specs.declared.Refusal.{Refusal}
 use Rattle.utf8.specs.Answers.{refused_at}
