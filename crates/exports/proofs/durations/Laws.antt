@@ -15,7 +15,7 @@ use Rattle.duration.proofs.display.Answers.{display_answers}
 use Rattle.exports.specs.Packed.{refused_from, Packable, counted_code}
 use Rattle.exports.specs.Duration.{duration_code}
 use Rattle.exports.specs.laws.Codes.{looks_refused, is_no_duration, DurationTold, DurationKept, is_not_written, DurationDisplayTold, DurationDisplayKept}
-use Rattle.exports.proofs.packing.Laws.{packed_told, placed_kept}
+use Rattle.exports.proofs.packing.Laws.{packed_told}
 
 pub duration_told : DurationTold
 duration_told o xs = go (timing_by o xs)

@@ -11,8 +11,8 @@ use Rattle.utf8.specs.Answers.{place_at, text_limit, too_long, no_room, not_utf8
 use Rattle.utf8.specs.Encode.{not_scalar, encoding_of}
 use Rattle.token.specs.Display.{displayed}
 use Rattle.string.specs.Escape.{escaping_of}
-use Rattle.string.specs.declared.Unquoting.{Unquoting}
-use Rattle.string.specs.declared.Unquoting.TheVariants as unquoting
+use Rattle.string.specs.declared.Unquoted.{Unquoted}
+use Rattle.string.specs.declared.Unquoted.TheVariants.{Inner, Written}
 use Rattle.string.specs.laws.ReadBack.{is_read}
 use Rattle.string.specs.Literal.{unquoting_of}
 use Rattle.number.specs.Number.{parsing_of}
@@ -92,10 +92,10 @@ abbrev pub EscapeKept : Type 0
 EscapeKept = (room : ℕ) (xs : List ℕ) (r : Refusal) → escaping_of room xs ≡ Err r → Packable r
 
 -- of `simmerpath_unquote_string`, where a caller takes another answer for a text in the literal itself from bit 32 on
-abbrev pub is_inner : Unquoting → Bool
-is_inner (unquoting.Inner n) = true
-is_inner (unquoting.Written n) = false
-is_inner (unquoting.Refused r) = false
+abbrev pub is_inner : Result Unquoted Refusal → Bool
+is_inner (Ok (Inner n)) = true
+is_inner (Ok (Written n)) = false
+is_inner (Err r) = false
 
 abbrev pub UnquoteTold : Type 0
 UnquoteTold =
@@ -105,7 +105,7 @@ UnquoteTold =
     (looks_refused code ≡ not (is_read u)) × (not (looks_refused code) && leb inner_from code ≡ is_inner u)
 
 abbrev pub UnquoteKept : Type 0
-UnquoteKept = (r : Reading) (room : ℕ) (xs : List ℕ) (s : Refusal) → unquoting_of r room xs ≡ unquoting.Refused s → Packable s
+UnquoteKept = (r : Reading) (room : ℕ) (xs : List ℕ) (s : Refusal) → unquoting_of r room xs ≡ Err s → Packable s
 
 -- of `simmerpath_parse_str_radix`
 abbrev pub is_no_number : Result Number Refusal → Bool
