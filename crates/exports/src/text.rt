@@ -32,7 +32,7 @@ pub extern "C" fn simmerpath_utf8_char_number(text: &[u8], to: usize) -> u64
 }
 
 // The length of the character at a byte offset, whose code point it writes; 0 past the end; or refusal 1 or 2.
-#[tactic(auto, using(proving::proofs::Ways::ways), unfolding(crate::specs::Utf8::char_at_code, crate::specs::Utf8::char_at_left))]
+#[tactic(auto, unfolding(crate::specs::Utf8::char_at_code, crate::specs::Utf8::char_at_left))]
 #[unsafe(no_mangle)]
 pub extern "C" fn simmerpath_utf8_char_at(text: &[u8], at: usize, code: &mut u32) -> u64
     ensures value { result ≡ char_at_code text.now at }

@@ -4,13 +4,11 @@ use Rattle.std.specs.Prelude.{Result, ℕ}
 use Rattle.listing.proofs.Puts.{puts}
 use Rattle.listing.proofs.Few.{refused_few}
 use Rattle.listing.proofs.Lexemes.{lists_hold}
-use Rattle.listing.specs.Listing.{most_lexemes, zipped, printed_by, refusal}
+use Rattle.listing.specs.Listing.{most_lexemes, printed_by, refusal}
 use Rattle.utf8.specs.declared.Reading.TheVariants.{Crate}
-use Rattle.lex.specs.Lex.{entries_of, lexed, shortest}
-use lib.Seq.{length-take-le}
-use lib.ListN.{length, take}
+use Rattle.lex.specs.Lex.{lexed, shortest}
+use lib.ListN.{length}
 use mathlib.Core.Path.{◌≡◌, sym, ap, ◌∙◌}
-use Prim.Native.Nat.{◌≤◌}
 use native.Mathlib.Omega.{arith}
 use Rattle.listing.proofs.lex_to.Goals as goal
 use Rattle.listing.proofs.lex_to.Goals.{After-lexer, In-Ok, Start}
