@@ -35,4 +35,4 @@ returns-in-Err c =
     let d = c.in-Err in
     let start = (goal.at.returns-in-Err c).Start in
     let e = answered (goal.at.returns-in-Err c).After-lexer d.is in
-    rw e (puts _ 0 (refusal d.refusal) (c.put_refusal.ensures.value, c.put_refusal.ensures.out_after) (omega (arith, start.requires, refused_few most_lexemes start.args.query.now d.refusal e)))
+    rw e (puts _ 0 (refusal d.refusal) c.put_refusal.ensures.value c.put_refusal.ensures.out_after (omega (arith, start.requires, refused_few most_lexemes start.args.query.now d.refusal e)))
