@@ -11,7 +11,8 @@ use Rattle.decimal.specs.declared.Notation.TheVariants.{Decimal, Hex, Octal}
 use Rattle.number.specs.Number.{parsing_of}
 use Rattle.number.proofs.Bounds.{parsing_bound}
 use Rattle.exports.specs.Number.{notation_code, parse_code}
-use Rattle.exports.specs.laws.Codes.{looks_refused, is_no_number, ParseTold, ParseKept}
+use Rattle.std.specs.Result.{is_err}
+use Rattle.exports.specs.laws.Codes.{looks_refused, ParseTold, ParseKept}
 use Rattle.exports.proofs.packing.Laws.{packed_told}
 
 pub parse_told : ParseTold
@@ -22,7 +23,7 @@ parse_told d xs = go (parsing_of d xs)
     by Hex = refl
     by Octal = refl
 
-    go : (p : Result Number Refusal) → looks_refused (parse_code p) ≡ is_no_number p
+    go : (p : Result Number Refusal) → looks_refused (parse_code p) ≡ is_err p
     go (Ok n) = by n.notation
     go (Err r) = packed_told r
 

@@ -19,20 +19,20 @@ use Rattle.string.proofs.escape.Answers.{escape_answers}
 use Rattle.utf8.specs.declared.Reading.{Reading}
 use Rattle.string.specs.declared.Unquoted.{Unquoted}
 use Rattle.string.specs.declared.Unquoted.TheVariants.{Inner, Written}
-use Rattle.string.specs.laws.ReadBack.{is_read}
 use Rattle.string.specs.Literal.{unquoting_of}
 use Rattle.string.specs.laws.Refusals.{LiteralTells}
 use Rattle.string.proofs.Answers.{literal_answers}
 use Rattle.exports.specs.Packed.{refused_from, Packable, counted_code}
 use Rattle.exports.specs.String.{inner_from, unquote_code}
-use Rattle.exports.specs.laws.Codes.{looks_refused, is_not_written, EscapeTold, EscapeKept, is_inner, UnquoteTold, UnquoteKept}
+use Rattle.std.specs.Result.{is_err}
+use Rattle.exports.specs.laws.Codes.{looks_refused, EscapeTold, EscapeKept, is_inner, UnquoteTold, UnquoteKept}
 use Rattle.exports.proofs.packing.Laws.{small, packed_told}
 use Rattle.exports.proofs.text.Laws.{validate_kept}
 
 pub escape_told : EscapeTold
 escape_told room xs = go (escaping_of room xs) (escape_answers room xs)
   where
-    go : (e : Result ℕ Refusal) → EscapeTells xs e → looks_refused (counted_code e) ≡ is_not_written e
+    go : (e : Result ℕ Refusal) → EscapeTells xs e → looks_refused (counted_code e) ≡ is_err e
     go (Ok n) t = small n (omega (arith, t.0.0, t.2))
     go (Err r) t = packed_told r
 
@@ -50,7 +50,7 @@ inner_few r room xs n e = let t = subst (LiteralTells r xs) (sym e) (literal_ans
 pub unquote_told : UnquoteTold
 unquote_told r room xs = go (unquoting_of r room xs) (literal_answers r room xs)
   where
-    go : (u : Result Unquoted Refusal) → LiteralTells r xs u → (looks_refused (unquote_code u) ≡ not (is_read u)) × (not (looks_refused (unquote_code u)) && leb inner_from (unquote_code u) ≡ is_inner u)
+    go : (u : Result Unquoted Refusal) → LiteralTells r xs u → (looks_refused (unquote_code u) ≡ is_err u) × (not (looks_refused (unquote_code u)) && leb inner_from (unquote_code u) ≡ is_inner u)
     go (Ok (Inner n)) t =
         let h : n ≤ text_limit = omega (arith, t.0.0, t.2) in
         rw (lt-leb refused_from (unquote_code (Ok (Inner n))) (omega arith), le-leb inner_from (unquote_code (Ok (Inner n))) (omega arith)) (refl, refl)
