@@ -4,9 +4,10 @@ use Prim.Native.Nat.{ℕ, zero, suc, ◌+◌, ◌≤◌, ◌<◌}
 use native.Mathlib.Numerals.{add-one}
 use native.Mathlib.Omega.{arith}
 use mathlib.Core.Path.{◌≡◌, refl, sym, ap, ◌∙◌}
-use mathlib.Core.List.{List, [], ◌∷◌, ◌++◌, map, append_assoc, append-nil}
+use mathlib.Core.List.{List, [], ◌∷◌, ◌++◌, map}
 use lib.ListN.{length, take, drop, get_or, length-map}
 use lib.Seq.{take-suc, take_all, take_at, length-take-le}
+use Rattle.std.proofs.lemmas.List.{flat_map_more}
 use Rattle.utf8.specs.declared.Refusal.{Refusal}
 use Rattle.std.specs.Prelude.{Ok, Result}
 use Rattle.utf8.specs.declared.Reading.TheVariants.{Crate}
@@ -46,12 +47,6 @@ lists_hold q ks ss ls ds {x} {n} p told =
     holds : (f : Entry → ℕ) (d : List ℕ) → n ≡ length (entries_of Crate q) → {d' : List ℕ} → d' ≡ left_after x (listed Crate f q d) d → take n d' ≡ map f (entries_of Crate q)
     holds f d h e = ap (take n) (e ∙ ap (λ y. left_after y (listed Crate f q d) d) told) ∙ listed_front f q d n h
 
-one_more : (es : List Entry) (e : Entry) → lexemes_text (es ++ e ∷ []) ≡ lexemes_text es ++ lexeme_text e
-unfolding lexemes_text
-one_more [] e = append-nil (lexeme_text e)
-one_more (x ∷ es) e =
-    ap (λ (t : List ℕ). lexeme_text x ++ t) (one_more es e) ∙ sym (append_assoc (lexeme_text x) (lexemes_text es) (lexeme_text e))
-
 zipped_length : (ks ss ls ds : List ℕ) → Alike ks ss ls ds → length (zipped ks ss ls ds) ≡ length ks
 zipped_length [] ss ls ds h = refl
 zipped_length (k ∷ ks) [] ls ds h = absurd (omega (arith, h))
@@ -72,10 +67,11 @@ module _ (ks ss ls ds : List ℕ) (h : Alike ks ss ls ds) where
   -- the text of one more
   pub text_more : (i : ℕ) → i < length ks
       → lexemes_text (take (i + 1) (zipped ks ss ls ds)) ≡ lexemes_text (take i (zipped ks ss ls ds)) ++ lexeme_text (entry (get_or ks i 0) (get_or ss i 0) (get_or ls i 0) (get_or ds i 0))
+  unfolding lexemes_text
   text_more i l =
       let es = zipped ks ss ls ds in
       let inside : i < length es = omega (arith, zipped_length ks ss ls ds h) in
-      rw (add-one, take-suc es i (entry 0 0 0 0) inside, one_more, zipped_at ks ss ls ds i h l)
+      rw (add-one, take-suc es i (entry 0 0 0 0) inside, ← flat_map_more lexeme_text [] (take i es) (get_or es i (entry 0 0 0 0)), zipped_at ks ss ls ds i h l)
 
   -- and of all
   pub text_all : (i : ℕ) → length ks ≤ i → lexemes_text (take i (zipped ks ss ls ds)) ≡ lexemes_text (zipped ks ss ls ds)

@@ -6,7 +6,7 @@ use mathlib.Core.Path.{◌≡◌, refl, subst}
 use borrow.Author.Tests.{lt-leb}
 use Rattle.utf8.specs.declared.Refusal.{Refusal}
 use Rattle.duration.specs.declared.span.Duration.{Duration}
-use Rattle.std.specs.Prelude.{Err, Ok, Result, ℕ}
+use Rattle.std.specs.Prelude.{Err, Ok, Result, ℕ, is_err}
 use Rattle.duration.specs.Duration.{timing_by}
 use Rattle.duration.proofs.Bounds.{timing_bound}
 use Rattle.duration.specs.Display.{displaying_of}
@@ -14,7 +14,6 @@ use Rattle.duration.specs.laws.Display.{DisplayTells}
 use Rattle.duration.proofs.display.Answers.{display_answers}
 use Rattle.exports.specs.Packed.{refused_from, Packable, counted_code}
 use Rattle.exports.specs.Duration.{duration_code}
-use Rattle.std.specs.Result.{is_err}
 use Rattle.exports.specs.laws.Codes.{looks_refused, DurationTold, DurationKept, DurationDisplayTold, DurationDisplayKept}
 use Rattle.exports.proofs.packing.Laws.{packed_told}
 

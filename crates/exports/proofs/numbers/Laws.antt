@@ -5,13 +5,12 @@ use mathlib.Core.Bool.{false}
 use mathlib.Core.Path.{◌≡◌, refl}
 use Rattle.decimal.specs.declared.Number.{Number}
 use Rattle.utf8.specs.declared.Refusal.{Refusal}
-use Rattle.std.specs.Prelude.{Err, Ok, Result}
+use Rattle.std.specs.Prelude.{Err, Ok, Result, is_err}
 use Rattle.decimal.specs.declared.Notation.{Notation}
 use Rattle.decimal.specs.declared.Notation.TheVariants.{Decimal, Hex, Octal}
 use Rattle.number.specs.Number.{parsing_of}
 use Rattle.number.proofs.Bounds.{parsing_bound}
 use Rattle.exports.specs.Number.{notation_code, parse_code}
-use Rattle.std.specs.Result.{is_err}
 use Rattle.exports.specs.laws.Codes.{looks_refused, ParseTold, ParseKept}
 use Rattle.exports.proofs.packing.Laws.{packed_told}
 

@@ -4,14 +4,13 @@ use native.Mathlib.Omega.{arith}
 use mathlib.Core.Path.{◌≡◌, subst}
 use Rattle.exports.specs.Packed.{counted_code}
 use Rattle.utf8.specs.declared.Refusal.{Refusal}
-use Rattle.std.specs.Prelude.{Err, Ok, Result, ℕ}
+use Rattle.std.specs.Prelude.{Err, Ok, Result, ℕ, is_err}
 use Rattle.lex.specs.Lex.{lexed}
 use Rattle.lex.specs.laws.Bounds.{LexingWithin}
 use Rattle.lex.proofs.Bounds.{lexing_bounded}
 use Rattle.reason.specs.Reason.{reasoned}
 use Rattle.reason.specs.laws.Reasons.{ReasoningWithin}
 use Rattle.reason.proofs.Bounds.{reason_bounded}
-use Rattle.std.specs.Result.{is_err}
 use Rattle.exports.specs.laws.Codes.{looks_refused, LexerTold, LexerKept, ReasonTold, ReasonKept}
 use Rattle.exports.proofs.packing.Laws.{small, packed_told}
 

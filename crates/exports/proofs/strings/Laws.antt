@@ -10,7 +10,7 @@ use mathlib.Core.Path.{◌≡◌, refl, sym, subst}
 use lib.Dec.{leb}
 use borrow.Author.Tests.{le-leb, lt-leb}
 use Rattle.utf8.specs.declared.Refusal.{Refusal}
-use Rattle.std.specs.Prelude.{Err, Ok, Result, ℕ}
+use Rattle.std.specs.Prelude.{Err, Ok, Result, ℕ, is_err}
 use Rattle.utf8.specs.Answers.{text_limit}
 use Rattle.utf8.proofs.Bounds.{number_bound}
 use Rattle.string.specs.Escape.{escaping_of}
@@ -24,7 +24,6 @@ use Rattle.string.specs.laws.Refusals.{LiteralTells}
 use Rattle.string.proofs.Answers.{literal_answers}
 use Rattle.exports.specs.Packed.{refused_from, Packable, counted_code}
 use Rattle.exports.specs.String.{inner_from, unquote_code}
-use Rattle.std.specs.Result.{is_err}
 use Rattle.exports.specs.laws.Codes.{looks_refused, EscapeTold, EscapeKept, is_inner, UnquoteTold, UnquoteKept}
 use Rattle.exports.proofs.packing.Laws.{small, packed_told}
 use Rattle.exports.proofs.text.Laws.{validate_kept}

@@ -9,7 +9,7 @@ use lib.ListN.{length}
 use borrow.Author.Tests.{ltb-false}
 use Rattle.utf8.specs.declared.Refusal.{Refusal}
 use Rattle.utf8.specs.declared.CharNumber.{CharNumber}
-use Rattle.std.specs.Prelude.{Err, Ok, Result, ℕ}
+use Rattle.std.specs.Prelude.{Err, Ok, Result, ℕ, is_err}
 use Rattle.utf8.specs.declared.Character.{Character}
 use Rattle.utf8.specs.declared.Character.TheVariants.{Scalar, Nothing, IllFormed}
 use Rattle.utf8.specs.Answers.{place_at, text_limit, too_long, not_utf8, admitted, character_at}
@@ -19,7 +19,6 @@ use Rattle.utf8.proofs.Bounds.{admitted_bound, character_within, number_bound}
 use Rattle.utf8.proofs.encode.Bounds.{encoding_bound}
 use Rattle.exports.specs.Packed.{packed_of, counted_code}
 use Rattle.exports.specs.Utf8.{validate_code, character_code, char_at_code}
-use Rattle.std.specs.Result.{is_err}
 use Rattle.exports.specs.laws.Codes.{looks_refused, ValidateTold, ValidateKept, is_ill_formed, CharAtTold, CharAtKept, EncodeTold, EncodeKept}
 use Rattle.exports.proofs.packing.Laws.{small, packed_told, placed_kept}
 

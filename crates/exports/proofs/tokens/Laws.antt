@@ -6,11 +6,10 @@ use lib.Dec.{leb}
 use lib.ListN.{length}
 use Rattle.exports.specs.Packed.{counted_code}
 use Rattle.utf8.specs.declared.Refusal.{Refusal}
-use Rattle.std.specs.Prelude.{Result, ℕ}
+use Rattle.std.specs.Prelude.{Result, ℕ, is_err}
 use Rattle.proving.proofs.Choice.{either}
 use Rattle.token.specs.Display.{display_of}
 use Rattle.token.proofs.Displays.{short}
-use Rattle.std.specs.Result.{is_err}
 use Rattle.exports.specs.laws.Codes.{looks_refused, TokenDisplayTold, TokenDisplayKept}
 use Rattle.exports.proofs.packing.Laws.{small}
 

@@ -1,7 +1,6 @@
 -- What a caller in C may rely on to read an answer, as statements; `proofs/MODULE/Laws` has their proofs. Told: a refusal is told from a
 -- result. Kept: what is refused fits its bits, so that packing loses nothing of it (`NothingLost`).
-use Rattle.std.specs.Prelude.{ℕ, ◌≤◌, ◌<◌, Bool, true, false, ◌&&◌, ◌||◌, not, List, ◌≡◌, leb, ltb, length, Err, Ok, Result}
-use Rattle.std.specs.Result.{is_err}
+use Rattle.std.specs.Prelude.{ℕ, ◌≤◌, ◌<◌, Bool, true, false, ◌&&◌, ◌||◌, not, List, ◌≡◌, leb, ltb, length, Err, Ok, Result, is_err}
 use Rattle.utf8.specs.declared.Reading.{Reading}
 use Rattle.utf8.specs.declared.Refusal.{Refusal}
 use Rattle.utf8.specs.declared.Character.{Character}
