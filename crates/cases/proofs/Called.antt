@@ -21,7 +21,7 @@ use Rattle.utf8.specs.Answers.{text_limit, refused_at}
 use Rattle.utf8.specs.laws.Ascii.{is_ascii}
 use Rattle.utf8.proofs.Ascii.{ascii_text}
 use Rattle.string.specs.laws.ReadBack.{is_read}
-use Rattle.string.specs.declared.Unquoting.{Unquoting}
+use Rattle.string.specs.declared.Unquoted.{Unquoted}
 use Rattle.string.specs.Literal.{unquoted, unquoting_of, text_by}
 use Rattle.string.proofs.Readings.{part_is_text, good_read}
 use Rattle.string.proofs.unquote_string.Kinds as unquote
@@ -66,8 +66,8 @@ pub record Displayed (d : Duration) (room : ℕ) : Type 0 where
 abbrev Lent : Reading → List ℕ → List ℕ → (κs : Lfts 2) → Dens κs unquote.ps → Type 0
 Lent r xs d κs a = (a.0.now ≡ xs) × (a.1.0 ≡ r) × (a.1.1.0.now ≡ d)
 
-pub record Unquoted (r : Reading) (xs ys d : List ℕ) : Type 0 where
-  pub answer : Unquoting
+pub record Handed (r : Reading) (xs ys d : List ℕ) : Type 0 where
+  pub answer : Result Unquoted Refusal
   pub left : List ℕ
   pub accepted : is_read answer ≡ true
   pub answers : Answers unquote.ps unquote.r unquote_reads.Post (Lent r xs d) (λ κs. answer)
@@ -79,7 +79,7 @@ pub record Unquoted (r : Reading) (xs ys d : List ℕ) : Type 0 where
 abbrev pub Called : Case → Type 0
 Called (lexes q ks) = (c : LexCall Crate q) → length ks ≤ room_in c → (c.result ≡ Ok (length ks)) × (take (length ks) (kinds_left c) ≡ ks)
 Called (refuses q r p) = (c : LexCall Crate q) → c.result ≡ Err (refused_at q r p)
-Called (literal r xs ys) = (d : List ℕ) → length ys ≤ length d → Unquoted r xs ys d
+Called (literal r xs ys) = (d : List ℕ) → length ys ≤ length d → Handed r xs ys d
 Called (timed xs t) = (c : Timed xs) → c.result ≡ t
 Called (written d ys) = (room : ℕ) (c : Displayed d room) → length ys ≤ room → d.nanos < nanos_a_second → (c.result ≡ Ok (length ys)) × (take (length ys) c.exit.1.0.now ≡ ys)
 

@@ -1,4 +1,3 @@
-pub mod Tells
 pub mod Laws
 pub mod Unique
 pub mod Wrong

@@ -8,8 +8,8 @@ ghost use Rattle.exports.specs.Packed.{counted_code};
 ghost use Rattle.exports.specs.Duration.{duration_code, secs_left, nanos_left, duration_of};
 
 use crate::packing;
-use duration::span::Duration;
 use duration::display;
+use duration::span::Duration;
 use utf8::Refusal;
 
 // 0 for an answer that is a duration, whose seconds and nanoseconds it writes; or the refusal.

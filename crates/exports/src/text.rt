@@ -1,14 +1,13 @@
 // The C functions over `utf8`: each answers with one number, and writes what else it gives to what is lent.
 // A refusal is answered as `packing` makes it one number.
-ghost use Rattle.std.specs.Prelude.{◌≡◌, ℕ, length};
+ghost use Rattle.std.specs.Prelude.{◌≡◌, length};
 ghost use Rattle.utf8.specs.Text.{char_number};
 ghost use Rattle.utf8.specs.Answers.{text_limit, admitted};
-ghost use Rattle.utf8.specs.declared.Character.TheVariants.{Scalar};
 ghost use Rattle.utf8.specs.Code.{encoded};
 ghost use Rattle.utf8.specs.Encode.{encoding_of};
 ghost use Rattle.utf8.specs.Writing.{left_at};
 ghost use Rattle.exports.specs.Packed.{counted_code};
-ghost use Rattle.exports.specs.Utf8.{validate_code, character_code, char_at_code, char_at_left};
+ghost use Rattle.exports.specs.Utf8.{validate_code, char_at_code, char_at_left};
 
 use crate::packing;
 use utf8::{ByteOffset, Character, encode};
@@ -33,6 +32,7 @@ pub extern "C" fn simmerpath_utf8_char_number(text: &[u8], to: usize) -> u64
 }
 
 // The length of the character at a byte offset, whose code point it writes; 0 past the end; or refusal 1 or 2.
+#[tactic(auto, unfolding(crate::specs::Utf8::char_at_code, crate::specs::Utf8::char_at_left))]
 #[unsafe(no_mangle)]
 pub extern "C" fn simmerpath_utf8_char_at(text: &[u8], at: usize, code: &mut u32) -> u64
     ensures value { result ≡ char_at_code text.now at }

@@ -1,6 +1,6 @@
 // The C functions over `token`: each answers with one number, and writes what else it gives to what is lent.
 // A refusal is answered as `packing` makes it one number.
-ghost use Rattle.std.specs.Prelude.{◌≡◌, length};
+ghost use Rattle.std.specs.Prelude.{◌≡◌, ◌≤◌, length};
 ghost use Rattle.utf8.specs.Writing.{left_by};
 ghost use Rattle.token.specs.Display.{display_of, displayed};
 ghost use Rattle.token.specs.Words.{keyword_of};
@@ -46,7 +46,8 @@ pub extern "C" fn simmerpath_token_display(kind: u16, out: &mut [u8]) -> u64
 
 // A flag as a number that is worth so much.
 fn worth(is: bool, much: u64) -> u64
-    ensures { result ≡ flag is much }
+    ensures value { result ≡ flag is much }
+    ensures at_most { result ≤ much }
 {
     if is { much } else { 0 }
 }

@@ -1,6 +1,6 @@
 -- The join, said of three calls: of whatever answers and contents the promise of `lexer` allows. What an accepted call wrote are the query's lexemes
 -- (`writes`), so the laws of the definitions carry over; what the room decides of B's answer and of the join's, it decides of each by itself.
-use Prim.Native.Nat.{ℕ, zero, suc, pred, ◌+◌, ◌≤◌, ◌<◌}
+use Prim.Native.Nat.{ℕ, suc, pred, ◌+◌, ◌≤◌, ◌<◌}
 use native.Mathlib.Omega.{arith}
 use mathlib.Core.Bool.{Bool, true, false, cond}
 use mathlib.Core.List.{List, [], ◌∷◌, ◌++◌, map, map-append}
@@ -9,6 +9,7 @@ use borrow.Author.Tests.{le-leb, lt-leb}
 use lib.Dec.{leb}
 use lib.ListN.{length, take}
 use lib.Seq.{take-take}
+use Rattle.std.proofs.lemmas.List.{map-id, take-map}
 use Rattle.std.specs.Prelude.{Err, Ok, Result}
 use Rattle.utf8.specs.declared.Reading.{Reading}
 use Rattle.utf8.specs.declared.Refusal.{Refusal}
@@ -23,32 +24,18 @@ use Rattle.join.specs.laws.Join.{joined, front, moved_entry, moved_behind}
 use Rattle.join.proofs.Join.{join_answer, join_entries}
 
 -- a refusal but for want of room is the measure's
-number_of : Result ℕ Refusal → ℕ
-number_of (Ok n) = 0
-number_of (Err r) = r.number
-
 room_refused : (room : ℕ) (r : Refusal) (x : Result ℕ Refusal) → (¬ (r.number ≡ no_room.number)) → roomed room x ≡ Err r → x ≡ Err r
-unfolding number_of
 room_refused room r (Ok m) d h = go (leb m room) h
   where
     go : (b : Bool) → cond b (Ok m) (Err no_room) ≡ Err r → Ok m ≡ Err r
     go true e = e
-    go false e = absurd (d (sym (ap number_of e)))
+    go false e = absurd (d (cc))
 room_refused room r (Err s) d e = e
 
 -- numbers of lexemes that are moved along
 moved_all : (d : ℕ) (f : Entry → ℕ) (g : ℕ → ℕ) → ((e : Entry) → f (moved_entry d e) ≡ g (f e)) → (es : List Entry) → map f (map (moved_entry d) es) ≡ map g (map f es)
 moved_all d f g h [] = refl
 moved_all d f g h (e ∷ es) = ap₂ (λ (x : ℕ) (xs : List ℕ). x ∷ xs) (h e) (moved_all d f g h es)
-
-map_same : (xs : List ℕ) → map (λ (x : ℕ). x) xs ≡ xs
-map_same [] = refl
-map_same (x ∷ xs) = ap (λ (ys : List ℕ). x ∷ ys) (map_same xs)
-
-take_map : (f : Entry → ℕ) (n : ℕ) (es : List Entry) → take n (map f es) ≡ map f (take n es)
-take_map f zero es = refl
-take_map f (suc n) [] = refl
-take_map f (suc n) (e ∷ es) = ap (λ (xs : List ℕ). f e ∷ xs) (take_map f n es)
 
 module _ (r : Reading) (a b : List ℕ) (n : ℕ) (j : JoinCalls r a b n) where
   -- the numbers of A's lexemes without its end mark, and of B's behind them, are those of the join
@@ -59,7 +46,7 @@ module _ (r : Reading) (a b : List ℕ) (n : ℕ) (j : JoinCalls r a b n) where
       ap (map f) (join_entries r a b n (record { accepted = c.0; plain = j.plain }))
       ∙ map-append f (front r a) (map (moved_entry (suc (length a))) (entries_of r b))
       ∙ ap₂ (λ (xs ys : List ℕ). xs ++ ys)
-      (ap (λ (i : ℕ). map f (take (pred i) (entries_of r a))) (sym c.1) ∙ sym (take_map f (pred n) (entries_of r a)) ∙ ap (take (pred n)) (sym u) ∙ take-take (pred n) n us (omega arith))
+      (ap (λ (i : ℕ). map f (take (pred i) (entries_of r a))) (sym c.1) ∙ sym (take-map f (pred n) (entries_of r a)) ∙ ap (take (pred n)) (sym u) ∙ take-take (pred n) n us (omega arith))
       (moved_all (suc (length a)) f g m (entries_of r b))
 
   answer : measured r (joined a b) ≡ moved_behind a n (measured r b)
@@ -77,7 +64,7 @@ module _ (r : Reading) (a b : List ℕ) (n : ℕ) (j : JoinCalls r a b n) where
     -- a list of numbers that moving along leaves as they are
     same : (f : Entry → ℕ) → ((x : Entry) → f (moved_entry (suc (length a)) x) ≡ f x) → (us ws : List ℕ) → take n us ≡ map f (entries_of r a)
         → take (pred n + k) ws ≡ map f (entries_of r (joined a b)) → take (pred n + k) ws ≡ take (pred n) us ++ map f (entries_of r b)
-    same f m us ws u w = w ∙ lists f (λ x. x) m us u ∙ ap (λ (xs : List ℕ). take (pred n) us ++ xs) (map_same (map f (entries_of r b)))
+    same f m us ws u w = w ∙ lists f (λ x. x) m us u ∙ ap (λ (xs : List ℕ). take (pred n) us ++ xs) (map-id (map f (entries_of r b)))
 
     -- in every room, with B's lexemes
     joins : let es = entries_of r b in JoinsIn j k (map kind_of es) (map starts_at es) (map length_of es) (map depth_of es)

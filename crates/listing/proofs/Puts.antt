@@ -12,8 +12,8 @@ use Rattle.writing.proofs.Writes.{put_stands}
 use Rattle.listing.specs.steps.Puts.{Puts}
 
 -- what the writers promise is that a text is put, where it fits
-pub puts : (d : List ℕ) (at : ℕ) (xs : List ℕ) {r : ℕ} {e : List ℕ} → (r ≡ past_at d at xs) × (e ≡ put_at d at xs) → at + length xs ≤ length d → Puts xs d at r e
-puts d at xs p h = record { room = h; past = p.0 ∙ (put_stands d at xs h).0; left = p.1 }
+pub puts : (d : List ℕ) (at : ℕ) (xs : List ℕ) {r : ℕ} {e : List ℕ} → r ≡ past_at d at xs → e ≡ put_at d at xs → at + length xs ≤ length d → Puts xs d at r e
+puts d at xs p l h = record { room = h; past = p ∙ (put_stands d at xs h).0; left = l }
 
 -- and a text that was put fits
 pub puts_told : {d xs e : List ℕ} {at r : ℕ} → Puts xs d at r e → (r ≡ past_at d at xs) × (e ≡ put_at d at xs)

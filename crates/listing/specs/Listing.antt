@@ -1,5 +1,5 @@
 -- What the program prints of a query, which it lexes in the crate reading: document 01, "Order of the port" and "Values on both sides".
-use Rattle.std.specs.Prelude.{ℕ, ◌+◌, ◌*◌, cond, List, [], ◌∷◌, ◌++◌, ltb, length, Err, Ok, Result}
+use Rattle.std.specs.Prelude.{ℕ, ◌+◌, ◌*◌, cond, List, [], ◌∷◌, ◌++◌, ltb, length, flat_map, Err, Ok, Result}
 use Rattle.scan.specs.Ascii.{ascii}
 use Rattle.utf8.specs.declared.Reading.TheVariants.{Crate}
 use Rattle.utf8.specs.declared.Refusal.{Refusal}
@@ -48,8 +48,7 @@ abbrev pub lexeme_text : Entry → List ℕ
 lexeme_text e = number_then e.kind (ascii " ") ++ numbers e.start e.length e.depth
 
 unfoldable pub lexemes_text : List Entry → List ℕ
-lexemes_text [] = []
-lexemes_text (e ∷ es) = lexeme_text e ++ lexemes_text es
+lexemes_text es = flat_map lexeme_text es
 
 -- the lexemes that four lists hold
 abbrev pub zipped : List ℕ → List ℕ → List ℕ → List ℕ → List Entry

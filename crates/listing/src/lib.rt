@@ -42,6 +42,7 @@ fn put_number(out: &mut [u8], at: usize, n: usize, after: &[u8]) -> usize
 }
 
 // Writes a line's end: three numbers, with a space between them and LF behind.
+#[tactic(auto, using(crate::proofs::Few::number_most))]
 fn put_numbers(out: &mut [u8], at: usize, first: usize, second: usize, third: usize) -> usize
     requires { at + most_numbers ≤ length out.old }
     ensures { Puts (numbers first second third) out.old at result out.new }
@@ -69,6 +70,7 @@ fn put_refusal(out: &mut [u8], at: usize, r: Refusal) -> usize
 }
 
 // Writes a line `KIND START LENGTH DEPTH`.
+#[tactic(auto, using(crate::proofs::Few::number_most))]
 fn put_lexeme(out: &mut [u8], at: usize, kind: u16, start: u32, size: u32, depth: u32) -> usize
     requires { at + most_digits + 1 + most_numbers ≤ length out.old }
     ensures { Puts (lexeme_text (entry kind start size depth)) out.old at result out.new }
@@ -97,6 +99,7 @@ fn put_lexemes(
 }
 
 // Writes what is printed of a query, whose lexemes go to the lent lists.
+#[tactic(auto, using(crate::proofs::Lexemes::fronts))]
 fn lex_to(
     query: &[u8],
     kinds: &mut [u16],
@@ -116,6 +119,7 @@ fn lex_to(
 }
 
 // Writes what is printed of an input to a list that has room for it.
+#[tactic(auto, unfolding(crate::specs::Listing::printed))]
 fn list_to(query: &[u8], text: &mut [u8]) -> usize
     requires { most_room ≤ length text.old }
     ensures { Puts (printed query.now) text.old 0 result text.new }

@@ -18,8 +18,6 @@ use Rattle.scan.specs.Byte.{peek_at, is_quote, is_space, is_in}
 use Rattle.scan.proofs.Edges.{class_ascii}
 use Rattle.utf8.specs.declared.Reading.{Reading}
 use Rattle.numeral.specs.laws.Texts.{is_apart}
-use Rattle.quoted.specs.declared.Quoted.{Quoted}
-use Rattle.quoted.specs.declared.Quoted.TheVariants.{Closed, Refused}
 use Rattle.quoted.specs.laws.Texts.{IsString}
 use Rattle.quoted.proofs.Texts.{string_given}
 use Rattle.munch.specs.laws.Text.{TextOf, quoted, left, right, bare}
@@ -54,11 +52,6 @@ quote_no_gap c e = (go (is_space c) refl, λ h. true≢false (sym e ∙ ap is_qu
     go true f = absurd (true≢false (sym (rw (f, e) at (below (λ x. not (is_space x && is_quote x)) 0x80 refl c (class_ascii Space refl c f)))))
     go false f = f
 
--- the length of a string
-abbrev size : Quoted → ℕ
-size (Closed n) = n
-size (Refused number n) = 0
-
 module _ (r : Reading) (q : List ℕ) where
   abbrev Bares : ℕ → ℕ → Type 0
   Bares from to = (i : ℕ) → from ≤ i → i < to → Bare (peek_at q i)
@@ -87,7 +80,7 @@ module _ (r : Reading) (q : List ℕ) where
   one_string : {from n n' : ℕ} → IsQuoted from n → IsQuoted from n' → n ≡ n'
   one_string {from} a b =
       let g = string_given r (peek_at (drop from q) 0) a.sign (drop 1 (drop from q)) in
-      let z : a.k ≡ b.k = ap size (sym ((g a.k).0.1 a.string) ∙ (g b.k).0.1 b.string) in
+      let z : a.k ≡ b.k = cc ((g a.k).0.1 a.string, (g b.k).0.1 b.string) in
       omega (arith, a.whole, b.whole, z)
 
   -- no gap begins where a lexeme does

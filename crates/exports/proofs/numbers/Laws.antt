@@ -5,13 +5,13 @@ use mathlib.Core.Bool.{false}
 use mathlib.Core.Path.{◌≡◌, refl}
 use Rattle.decimal.specs.declared.Number.{Number}
 use Rattle.utf8.specs.declared.Refusal.{Refusal}
-use Rattle.std.specs.Prelude.{Err, Ok, Result}
+use Rattle.std.specs.Prelude.{Err, Ok, Result, is_err}
 use Rattle.decimal.specs.declared.Notation.{Notation}
 use Rattle.decimal.specs.declared.Notation.TheVariants.{Decimal, Hex, Octal}
 use Rattle.number.specs.Number.{parsing_of}
 use Rattle.number.proofs.Bounds.{parsing_bound}
 use Rattle.exports.specs.Number.{notation_code, parse_code}
-use Rattle.exports.specs.laws.Codes.{looks_refused, is_no_number, ParseTold, ParseKept}
+use Rattle.exports.specs.laws.Codes.{looks_refused, ParseTold, ParseKept}
 use Rattle.exports.proofs.packing.Laws.{packed_told}
 
 pub parse_told : ParseTold
@@ -22,7 +22,7 @@ parse_told d xs = go (parsing_of d xs)
     by Hex = refl
     by Octal = refl
 
-    go : (p : Result Number Refusal) → looks_refused (parse_code p) ≡ is_no_number p
+    go : (p : Result Number Refusal) → looks_refused (parse_code p) ≡ is_err p
     go (Ok n) = by n.notation
     go (Err r) = packed_told r
 

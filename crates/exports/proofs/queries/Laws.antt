@@ -4,20 +4,20 @@ use native.Mathlib.Omega.{arith}
 use mathlib.Core.Path.{◌≡◌, subst}
 use Rattle.exports.specs.Packed.{counted_code}
 use Rattle.utf8.specs.declared.Refusal.{Refusal}
-use Rattle.std.specs.Prelude.{Err, Ok, Result, ℕ}
+use Rattle.std.specs.Prelude.{Err, Ok, Result, ℕ, is_err}
 use Rattle.lex.specs.Lex.{lexed}
 use Rattle.lex.specs.laws.Bounds.{LexingWithin}
 use Rattle.lex.proofs.Bounds.{lexing_bounded}
 use Rattle.reason.specs.Reason.{reasoned}
 use Rattle.reason.specs.laws.Reasons.{ReasoningWithin}
 use Rattle.reason.proofs.Bounds.{reason_bounded}
-use Rattle.exports.specs.laws.Codes.{looks_refused, is_not_lexed, LexerTold, LexerKept, is_not_reasoned, ReasonTold, ReasonKept}
+use Rattle.exports.specs.laws.Codes.{looks_refused, LexerTold, LexerKept, ReasonTold, ReasonKept}
 use Rattle.exports.proofs.packing.Laws.{small, packed_told}
 
 pub lexer_told : LexerTold
 lexer_told r room q = go (lexed r room q) (lexing_bounded r room q)
   where
-    go : (x : Result ℕ Refusal) → LexingWithin x → looks_refused (counted_code x) ≡ is_not_lexed x
+    go : (x : Result ℕ Refusal) → LexingWithin x → looks_refused (counted_code x) ≡ is_err x
     go (Ok n) h = small n (omega arith)
     go (Err refusal) h = packed_told refusal
 
@@ -27,7 +27,7 @@ lexer_kept r room q refusal e = let b = subst LexingWithin e (lexing_bounded r r
 pub reason_told : ReasonTold
 reason_told r number q = go (reasoned r number q) (reason_bounded r number q)
   where
-    go : (x : Result ℕ Refusal) → ReasoningWithin x → looks_refused (counted_code x) ≡ is_not_reasoned x
+    go : (x : Result ℕ Refusal) → ReasoningWithin x → looks_refused (counted_code x) ≡ is_err x
     go (Ok n) h = small n (omega (arith, h.1))
     go (Err refusal) h = packed_told refusal
 

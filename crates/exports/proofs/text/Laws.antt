@@ -9,7 +9,7 @@ use lib.ListN.{length}
 use borrow.Author.Tests.{ltb-false}
 use Rattle.utf8.specs.declared.Refusal.{Refusal}
 use Rattle.utf8.specs.declared.CharNumber.{CharNumber}
-use Rattle.std.specs.Prelude.{Err, Ok, Result, ℕ}
+use Rattle.std.specs.Prelude.{Err, Ok, Result, ℕ, is_err}
 use Rattle.utf8.specs.declared.Character.{Character}
 use Rattle.utf8.specs.declared.Character.TheVariants.{Scalar, Nothing, IllFormed}
 use Rattle.utf8.specs.Answers.{place_at, text_limit, too_long, not_utf8, admitted, character_at}
@@ -19,13 +19,13 @@ use Rattle.utf8.proofs.Bounds.{admitted_bound, character_within, number_bound}
 use Rattle.utf8.proofs.encode.Bounds.{encoding_bound}
 use Rattle.exports.specs.Packed.{packed_of, counted_code}
 use Rattle.exports.specs.Utf8.{validate_code, character_code, char_at_code}
-use Rattle.exports.specs.laws.Codes.{looks_refused, is_not_admitted, ValidateTold, ValidateKept, is_ill_formed, CharAtTold, CharAtKept, is_not_written, EncodeTold, EncodeKept}
+use Rattle.exports.specs.laws.Codes.{looks_refused, ValidateTold, ValidateKept, is_ill_formed, CharAtTold, CharAtKept, EncodeTold, EncodeKept}
 use Rattle.exports.proofs.packing.Laws.{small, packed_told, placed_kept}
 
 pub validate_told : ValidateTold
 validate_told xs = go (admitted text_limit xs) (admitted_bound text_limit xs)
   where
-    go : (a : Result CharNumber Refusal) → Bounded text_limit a → looks_refused (validate_code a) ≡ is_not_admitted a
+    go : (a : Result CharNumber Refusal) → Bounded text_limit a → looks_refused (validate_code a) ≡ is_err a
     go (Ok n) h = small n.0 (omega arith)
     go (Err r) h = packed_told r
 
@@ -53,7 +53,7 @@ char_at_kept = (
 pub encode_told : EncodeTold
 encode_told c room at = go (encoding_of c room at) refl
   where
-    go : (k : Result ℕ Refusal) → encoding_of c room at ≡ k → looks_refused (counted_code k) ≡ is_not_written k
+    go : (k : Result ℕ Refusal) → encoding_of c room at ≡ k → looks_refused (counted_code k) ≡ is_err k
     go (Ok n) e = small n (omega (arith, encoding_bound c room at n e))
     go (Err r) e = packed_told r
 

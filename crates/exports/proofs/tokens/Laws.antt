@@ -6,16 +6,16 @@ use lib.Dec.{leb}
 use lib.ListN.{length}
 use Rattle.exports.specs.Packed.{counted_code}
 use Rattle.utf8.specs.declared.Refusal.{Refusal}
-use Rattle.std.specs.Prelude.{Result, ℕ}
+use Rattle.std.specs.Prelude.{Result, ℕ, is_err}
 use Rattle.proving.proofs.Choice.{either}
 use Rattle.token.specs.Display.{display_of}
 use Rattle.token.proofs.Displays.{short}
-use Rattle.exports.specs.laws.Codes.{looks_refused, is_not_written, TokenDisplayTold, TokenDisplayKept}
+use Rattle.exports.specs.laws.Codes.{looks_refused, TokenDisplayTold, TokenDisplayKept}
 use Rattle.exports.proofs.packing.Laws.{small}
 
 pub token_display_told : TokenDisplayTold
 token_display_told room k =
-    either (λ (d : Result ℕ Refusal). looks_refused (counted_code d) ≡ is_not_written d) (leb (length (display_of k)) room)
+    either (λ (d : Result ℕ Refusal). looks_refused (counted_code d) ≡ is_err d) (leb (length (display_of k)) room)
     (λ e. small (length (display_of k)) (omega (arith, short k))) (λ e. refl)
 
 pub token_display_kept : TokenDisplayKept

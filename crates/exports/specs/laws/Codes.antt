@@ -1,8 +1,6 @@
 -- What a caller in C may rely on to read an answer, as statements; `proofs/MODULE/Laws` has their proofs. Told: a refusal is told from a
 -- result. Kept: what is refused fits its bits, so that packing loses nothing of it (`NothingLost`).
-use Rattle.decimal.specs.declared.Number.{Number}
-use Rattle.utf8.specs.declared.CharNumber.{CharNumber}
-use Rattle.std.specs.Prelude.{ℕ, ◌≤◌, ◌<◌, Bool, true, false, ◌&&◌, ◌||◌, not, List, ◌≡◌, leb, ltb, length, Err, Ok, Result}
+use Rattle.std.specs.Prelude.{ℕ, ◌≤◌, ◌<◌, Bool, true, false, ◌&&◌, ◌||◌, not, List, ◌≡◌, leb, ltb, length, Err, Ok, Result, is_err}
 use Rattle.utf8.specs.declared.Reading.{Reading}
 use Rattle.utf8.specs.declared.Refusal.{Refusal}
 use Rattle.utf8.specs.declared.Character.{Character}
@@ -11,9 +9,8 @@ use Rattle.utf8.specs.Answers.{place_at, text_limit, too_long, no_room, not_utf8
 use Rattle.utf8.specs.Encode.{not_scalar, encoding_of}
 use Rattle.token.specs.Display.{displayed}
 use Rattle.string.specs.Escape.{escaping_of}
-use Rattle.string.specs.declared.Unquoting.{Unquoting}
-use Rattle.string.specs.declared.Unquoting.TheVariants as unquoting
-use Rattle.string.specs.laws.ReadBack.{is_read}
+use Rattle.string.specs.declared.Unquoted.{Unquoted}
+use Rattle.string.specs.declared.Unquoted.TheVariants.{Inner, Written}
 use Rattle.string.specs.Literal.{unquoting_of}
 use Rattle.number.specs.Number.{parsing_of}
 use Rattle.duration.specs.declared.span.Duration.{Duration}
@@ -40,12 +37,8 @@ abbrev pub PackedTold : Type 0
 PackedTold = (r : Refusal) → looks_refused (packed_of r) ≡ true
 
 -- of `simmerpath_utf8_validate`
-abbrev pub is_not_admitted : Result CharNumber Refusal → Bool
-is_not_admitted (Ok n) = false
-is_not_admitted (Err r) = true
-
 abbrev pub ValidateTold : Type 0
-ValidateTold = (xs : List ℕ) → let a = admitted text_limit xs in looks_refused (validate_code a) ≡ is_not_admitted a
+ValidateTold = (xs : List ℕ) → let a = admitted text_limit xs in looks_refused (validate_code a) ≡ is_err a
 
 abbrev pub ValidateKept : Type 0
 ValidateKept = (xs : List ℕ) (r : Refusal) → admitted text_limit xs ≡ Err r → Packable r
@@ -65,66 +58,53 @@ CharAtKept =
     Packable too_long
     × ((xs : List ℕ) (at : ℕ) → length xs ≤ text_limit → character_at xs at ≡ character.IllFormed → Packable (not_utf8 (place_at xs at)))
 
--- of a text that is written
-abbrev pub is_not_written : Result ℕ Refusal → Bool
-is_not_written (Ok n) = false
-is_not_written (Err r) = true
-
 -- of `simmerpath_utf8_encode`
 abbrev pub EncodeTold : Type 0
-EncodeTold = (c room at : ℕ) → let e = encoding_of c room at in looks_refused (counted_code e) ≡ is_not_written e
+EncodeTold = (c room at : ℕ) → let e = encoding_of c room at in looks_refused (counted_code e) ≡ is_err e
 
 abbrev pub EncodeKept : Type 0
 EncodeKept = Packable not_scalar × Packable no_room
 
 -- of `simmerpath_token_display`
 abbrev pub TokenDisplayTold : Type 0
-TokenDisplayTold = (room k : ℕ) → let d = displayed room k in looks_refused (counted_code d) ≡ is_not_written d
+TokenDisplayTold = (room k : ℕ) → let d = displayed room k in looks_refused (counted_code d) ≡ is_err d
 
 abbrev pub TokenDisplayKept : Type 0
 TokenDisplayKept = Packable no_room
 
 -- of `simmerpath_escape_string`
 abbrev pub EscapeTold : Type 0
-EscapeTold = (room : ℕ) (xs : List ℕ) → let e = escaping_of room xs in looks_refused (counted_code e) ≡ is_not_written e
+EscapeTold = (room : ℕ) (xs : List ℕ) → let e = escaping_of room xs in looks_refused (counted_code e) ≡ is_err e
 
 abbrev pub EscapeKept : Type 0
 EscapeKept = (room : ℕ) (xs : List ℕ) (r : Refusal) → escaping_of room xs ≡ Err r → Packable r
 
 -- of `simmerpath_unquote_string`, where a caller takes another answer for a text in the literal itself from bit 32 on
-abbrev pub is_inner : Unquoting → Bool
-is_inner (unquoting.Inner n) = true
-is_inner (unquoting.Written n) = false
-is_inner (unquoting.Refused r) = false
+abbrev pub is_inner : Result Unquoted Refusal → Bool
+is_inner (Ok (Inner n)) = true
+is_inner (Ok (Written n)) = false
+is_inner (Err r) = false
 
 abbrev pub UnquoteTold : Type 0
 UnquoteTold =
     (r : Reading) (room : ℕ) (xs : List ℕ) →
     let u = unquoting_of r room xs in
     let code = unquote_code u in
-    (looks_refused code ≡ not (is_read u)) × (not (looks_refused code) && leb inner_from code ≡ is_inner u)
+    (looks_refused code ≡ is_err u) × (not (looks_refused code) && leb inner_from code ≡ is_inner u)
 
 abbrev pub UnquoteKept : Type 0
-UnquoteKept = (r : Reading) (room : ℕ) (xs : List ℕ) (s : Refusal) → unquoting_of r room xs ≡ unquoting.Refused s → Packable s
+UnquoteKept = (r : Reading) (room : ℕ) (xs : List ℕ) (s : Refusal) → unquoting_of r room xs ≡ Err s → Packable s
 
 -- of `simmerpath_parse_str_radix`
-abbrev pub is_no_number : Result Number Refusal → Bool
-is_no_number (Ok n) = false
-is_no_number (Err r) = true
-
 abbrev pub ParseTold : Type 0
-ParseTold = (d : Reading) (xs : List ℕ) → let p = parsing_of d xs in looks_refused (parse_code p) ≡ is_no_number p
+ParseTold = (d : Reading) (xs : List ℕ) → let p = parsing_of d xs in looks_refused (parse_code p) ≡ is_err p
 
 abbrev pub ParseKept : Type 0
 ParseKept = (d : Reading) (xs : List ℕ) (r : Refusal) → parsing_of d xs ≡ Err r → Packable r
 
 -- of `simmerpath_parse_duration` and `simmerpath_parse_duration_exact`
-abbrev pub is_no_duration : Result Duration Refusal → Bool
-is_no_duration (Ok d) = false
-is_no_duration (Err r) = true
-
 abbrev pub DurationTold : Type 0
-DurationTold = (o : Oversized) (xs : List ℕ) → let t = timing_by o xs in looks_refused (duration_code t) ≡ is_no_duration t
+DurationTold = (o : Oversized) (xs : List ℕ) → let t = timing_by o xs in looks_refused (duration_code t) ≡ is_err t
 
 abbrev pub DurationKept : Type 0
 DurationKept = (o : Oversized) (xs : List ℕ) (r : Refusal) → timing_by o xs ≡ Err r → Packable r
@@ -133,29 +113,21 @@ DurationKept = (o : Oversized) (xs : List ℕ) (r : Refusal) → timing_by o xs 
 abbrev pub DurationDisplayTold : Type 0
 DurationDisplayTold =
     (room : ℕ) (d : Duration) → room < refused_from →
-    let e = displaying_of room d in looks_refused (counted_code e) ≡ is_not_written e
+    let e = displaying_of room d in looks_refused (counted_code e) ≡ is_err e
 
 abbrev pub DurationDisplayKept : Type 0
 DurationDisplayKept = (room : ℕ) (d : Duration) (r : Refusal) → displaying_of room d ≡ Err r → Packable r
 
 -- of `simmerpath_lexer`
-abbrev pub is_not_lexed : Result ℕ Refusal → Bool
-is_not_lexed (Ok n) = false
-is_not_lexed (Err r) = true
-
 abbrev pub LexerTold : Type 0
-LexerTold = (r : Reading) (room : ℕ) (q : List ℕ) → let x = lexed r room q in looks_refused (counted_code x) ≡ is_not_lexed x
+LexerTold = (r : Reading) (room : ℕ) (q : List ℕ) → let x = lexed r room q in looks_refused (counted_code x) ≡ is_err x
 
 abbrev pub LexerKept : Type 0
 LexerKept = (r : Reading) (room : ℕ) (q : List ℕ) (refusal : Refusal) → lexed r room q ≡ Err refusal → Packable refusal
 
 -- of `simmerpath_word_reason`
-abbrev pub is_not_reasoned : Result ℕ Refusal → Bool
-is_not_reasoned (Ok n) = false
-is_not_reasoned (Err r) = true
-
 abbrev pub ReasonTold : Type 0
-ReasonTold = (r : Reading) (number : ℕ) (q : List ℕ) → let x = reasoned r number q in looks_refused (counted_code x) ≡ is_not_reasoned x
+ReasonTold = (r : Reading) (number : ℕ) (q : List ℕ) → let x = reasoned r number q in looks_refused (counted_code x) ≡ is_err x
 
 abbrev pub ReasonKept : Type 0
 ReasonKept = (r : Reading) (number : ℕ) (q : List ℕ) (refusal : Refusal) → reasoned r number q ≡ Err refusal → Packable refusal

@@ -1,17 +1,9 @@
 -- With room for any line what is printed is put where it stays; else it stands at the front of the array, from where it is put.
-use mathlib.Core.Path.{sym}
-use lib.Seq.{length-take-le}
 use Rattle.listing.proofs.Puts.{puts_front, puts_told}
 use Rattle.listing.proofs.list_lexemes.Goals as goal
 
 pub returns-then-out-ge-ROOM : goal.returns-then-out-ge-ROOM
 returns-then-out-ge-ROOM c = let p = puts_told c.list_to.ensures in record { value = p.0; out_after = p.1 }
-
-pub slice_bounds-text-end : goal.slice_bounds-text-end
-slice_bounds-text-end c = let s = c.list_to-end in (puts_front s.ensures s.auto.text).0
-
-pub slice_bounds-put_text-end : goal.slice_bounds-put_text-end
-slice_bounds-put_text-end c = let s = c.list_to-end in sym (length-take-le _ _ (puts_front s.ensures s.auto.text).0)
 
 pub returns : goal.returns
 returns c = let s = c.list_to-end in

@@ -4,7 +4,7 @@ use Rattle.listing.proofs.Few.{refusal_few}
 use Rattle.listing.specs.Listing.{input_limit, refusal, printed}
 use Rattle.utf8.specs.Answers.{too_long}
 use lib.ListN.{length}
-use borrow.Author.Tests.{lt-ltb, le-ltb}
+use borrow.Author.Tests.{lt-ltb}
 use native.Mathlib.Omega.{arith}
 use Rattle.listing.proofs.list_to.Goals as goal
 
@@ -13,8 +13,4 @@ unfolding printed
 returns-then-query-gt-INPUT_LIMIT c =
     let q = c.args.query.now in
     let few = refusal_few too_long (omega arith) (omega arith) (omega arith) in
-    rw (lt-ltb input_limit (length q) (omega arith)) (puts _ 0 (refusal too_long) (rw c.at_start.ensures at c.put_refusal.ensures.value, rw c.at_start.ensures at c.put_refusal.ensures.out_after) (omega arith))
-
-pub returns : goal.returns
-unfolding printed
-returns c = rw (le-ltb input_limit (length c.args.query.now) (omega arith)) c.lex_to.ensures
+    rw (lt-ltb input_limit (length q) (omega arith)) (puts _ 0 (refusal too_long) (rw c.at_start.ensures at c.put_refusal.ensures.value) (rw c.at_start.ensures at c.put_refusal.ensures.out_after) (omega arith))

@@ -11,10 +11,7 @@ use Rattle.listing.proofs.put_lexemes.Goals.{Start}
 
 pub loop-i-init : goal.loop-i-init
 unfolding lexemes_text
-loop-i-init c = (omega arith, refl, omega arith, puts_none _)
-
-pub put_lexeme-at-requires : goal.put_lexeme-at-requires
-put_lexeme-at-requires c = let v = c.loop-i.invariant in omega (arith, c.requires)
+loop-i-init c = record { same_size = refl; few = omega arith; put = puts_none _ }
 
 pub loop-i-preserved : goal.loop-i-preserved
 loop-i-preserved c =
@@ -29,10 +26,14 @@ loop-i-preserved c =
     (omega arith)
     (omega arith) in
     let more = text_more a.kinds.now a.starts.now a.lengths.now a.depths.now g.requires.alike w.i (omega arith) in
-    (omega arith, omega (arith, l.auto.out), omega (arith, l.ensures.past), rw more (puts_on w.invariant.3 l.ensures w.invariant.1))
+    record {
+      same_size = omega (arith, l.auto.out);
+      few = omega (arith, l.ensures.past);
+      put = rw more (puts_on w.invariant.put l.ensures w.invariant.same_size);
+    }
 
 pub returns : goal.returns
 returns c =
     let g = (goal.at.returns c).Start in
     let a = g.args in
-    rw (text_all a.kinds.now a.starts.now a.lengths.now a.depths.now g.requires.alike c.loop-i.i (omega arith)) at c.loop-i.invariant.3
+    rw (text_all a.kinds.now a.starts.now a.lengths.now a.depths.now g.requires.alike c.loop-i.i (omega arith)) at c.loop-i.invariant.put

@@ -13,5 +13,5 @@ returns c =
     let d = c.put_decimal-next in
     let t = c.put_text in
     let few : length (decimal_text a.n) ≤ most_digits = digits_few a.n (omega arith) in
-    let digits = puts a.out.now a.at (decimal_text a.n) (d.ensures.value, d.ensures.out_after) (omega arith) in
-    puts_on digits (puts _ d.result a.after.now (t.ensures.value, t.ensures.out_after) (omega (arith, digits.past, d.auto.out))) d.auto.out
+    let digits = puts a.out.now a.at (decimal_text a.n) d.ensures.value d.ensures.out_after (omega arith) in
+    puts_on digits (puts _ d.result a.after.now t.ensures.value t.ensures.out_after (omega (arith, digits.past, d.auto.out))) d.auto.out

@@ -10,17 +10,14 @@ use Rattle.listing.proofs.put_refusal.Goals as goal
 use Rattle.listing.proofs.put_refusal.Goals.{After-put_numbers-end}
 
 pub put_numbers-end-requires : goal.put_numbers-end-requires
-put_numbers-end-requires c = let t = c.put_text-from in omega (arith, (puts _ 0 (ascii "refused ") (t.ensures.value, t.ensures.out_after) (omega arith)).past, t.auto.out)
+put_numbers-end-requires c = let t = c.put_text-from in omega (arith, (puts _ 0 (ascii "refused ") t.ensures.value t.ensures.out_after (omega arith)).past, t.auto.out)
 
 -- the line stands at the front
 front : (c : After-put_numbers-end) → let t = c.put_numbers-end in let a = c.args in (t.result ≤ length t.new.out) × (take t.result t.new.out ≡ refusal a.r)
 unfolding refusal
 front c =
     let f = c.put_text-from in
-    puts_front (puts_on (puts _ 0 (ascii "refused ") (f.ensures.value, f.ensures.out_after) (omega arith)) c.put_numbers-end.ensures f.auto.out) (c.put_numbers-end.auto.out ∙ f.auto.out)
-
-pub slice_bounds-line-end : goal.slice_bounds-line-end
-slice_bounds-line-end c = (front (goal.at.slice_bounds-line-end c).After-put_numbers-end).0
+    puts_front (puts_on (puts _ 0 (ascii "refused ") f.ensures.value f.ensures.out_after (omega arith)) c.put_numbers-end.ensures f.auto.out) (c.put_numbers-end.auto.out ∙ f.auto.out)
 
 pub returns : goal.returns
 returns c =
