@@ -222,10 +222,9 @@ fn slot_of(word: &[u8]) -> usize
     requires { (0 < length word.now) × (length word.now ≤ widest_word) }
     ensures { result ≡ slot_of (map lowered word.now) }
 {
-    let n = word.len();
     let first = byte::lowered(word[0] as usize);
-    let last = byte::lowered(word[n - 1] as usize);
-    (first * FIRST_WEIGHT + last + n) % SLOT_COUNT
+    let last = byte::lowered(word[word.len() - 1] as usize);
+    (first * FIRST_WEIGHT + last + word.len()) % SLOT_COUNT
 }
 
 // Whether a row of the table holds a word, in any case of its letters, which are compared where they stand.
@@ -251,39 +250,32 @@ fn is_row(row: &[u8], word: &[u8]) -> bool
 pub fn keyword_in(table: &[u8], word: &[u8]) -> Option<u16>
     ensures { result ≡ keyword_in table.now word.now }
 {
-    let n = word.len();
-    if n == 0 {
+    if word.len() == 0 || WIDEST_WORD < word.len() || table.len() < WORD_TABLE {
         return None;
     }
-    if WIDEST_WORD < n {
-        return None;
-    }
-    if table.len() < WORD_TABLE {
-        return None;
-    }
-    let slot = SLOTS_FROM + slot_of(word);
-    let number = table[slot] as usize;
+    let number = table[SLOTS_FROM + slot_of(word)] as usize;
     if WORD_COUNT <= number {
         return None;
     }
     let from = number * WORD_ROW;
-    let to = from + WORD_ROW;
-    let row = &table[from..to];
+    let row = &table[from..from + WORD_ROW];
     if is_row(row, word) {
-        return Some(row[KIND_AT] as u16);
+        Some(row[KIND_AT] as u16)
+    } else {
+        None
     }
-    None
 }
 
 // The kind that a word has of its own, if any, in any case of its letters.
+#[tactic(auto, using(crate::proofs::Lookup::table_finds))]
 pub fn get_keyword_token(word: &[u8]) -> Option<u16>
     ensures { result ≡ keyword_of word.now }
 {
-    let table = words();
-    keyword_in(&table, word)
+    keyword_in(&words(), word)
 }
 
 // Whether a text is a label's name.
+#[tactic(auto, using(crate::proofs::Labels::label_is))]
 pub fn is_label(text: &[u8]) -> bool
     ensures { result ≡ is_label text.now }
 {

@@ -110,49 +110,41 @@ const BITS_OF_THREE: usize = 16;
 const BITS_OF_FOUR: usize = 8;
 
 // How many bytes a character has that begins with a, or 0 where none does.
+#[tactic(auto, unfolding(crate::specs::steps::Lead::size_by))]
 fn size_by(a: usize) -> usize
     ensures { result ≡ size_by a }
 {
-    if a <= LAST_OF_ONE {
-        return 1;
+    match a {
+        ..=LAST_OF_ONE => 1,
+        ..=LAST_OF_NONE => 0,
+        ..=LAST_OF_TWO => 2,
+        ..=LAST_OF_THREE => 3,
+        ..=LAST_OF_FOUR => 4,
+        _ => 0,
     }
-    if a <= LAST_OF_NONE {
-        return 0;
-    }
-    if a <= LAST_OF_TWO {
-        return 2;
-    }
-    if a <= LAST_OF_THREE {
-        return 3;
-    }
-    if a <= LAST_OF_FOUR { 4 } else { 0 }
 }
 
 // The least second byte after the first byte a.
+#[tactic(auto, unfolding(crate::specs::steps::Lead::low_second))]
 fn low_second(a: usize) -> u8
     ensures { result ≡ low_second a }
 {
-    if a == FIRST_OF_THREE {
-        return LOW_OF_THREE;
-    }
-    if a == FIRST_OF_FOUR {
-        LOW_OF_FOUR
-    } else {
-        LOW_TAIL
+    match a {
+        FIRST_OF_THREE => LOW_OF_THREE,
+        FIRST_OF_FOUR => LOW_OF_FOUR,
+        _ => LOW_TAIL,
     }
 }
 
 // The greatest second byte after the first byte a.
+#[tactic(auto, unfolding(crate::specs::steps::Lead::high_second))]
 fn high_second(a: usize) -> u8
     ensures { result ≡ high_second a }
 {
-    if a == BEFORE_SURROGATES {
-        return HIGH_BEFORE_SURROGATES;
-    }
-    if a == LAST_OF_FOUR {
-        HIGH_OF_FOUR
-    } else {
-        HIGH_TAIL
+    match a {
+        BEFORE_SURROGATES => HIGH_BEFORE_SURROGATES,
+        LAST_OF_FOUR => HIGH_OF_FOUR,
+        _ => HIGH_TAIL,
     }
 }
 
@@ -164,31 +156,27 @@ fn is_tail(c: usize) -> bool
 }
 
 // The size n of a character where its third byte and its fourth, so far as it has them, go on with it, else 0.
+#[tactic(auto, unfolding(crate::specs::steps::Lead::with_tails))]
 fn with_tails(n: usize, s: &[u8]) -> usize
     ensures { result ≡ with_tails n s.now }
 {
-    if n <= 2 {
-        return n;
+    if (n <= 2 || is_tail(byte::peek(s, 2))) && (n <= 3 || is_tail(byte::peek(s, 3))) {
+        n
+    } else {
+        0
     }
-    if !is_tail(byte::peek(s, 2)) {
-        return 0;
-    }
-    if n <= 3 {
-        return n;
-    }
-    if is_tail(byte::peek(s, 3)) { n } else { 0 }
 }
 
 // The length of the character that s begins with, or 0 where none does.
+#[tactic(auto, using(crate::proofs::Lead::char_tests))]
 fn char_length(s: &[u8]) -> usize
     ensures { result ≡ char_length s.now }
 {
     let a = byte::peek(s, 0);
     let n = size_by(a);
     if n <= 1 {
-        return n;
-    }
-    if byte::is_within(low_second(a), high_second(a), byte::peek(s, 1)) {
+        n
+    } else if byte::is_within(low_second(a), high_second(a), byte::peek(s, 1)) {
         with_tails(n, s)
     } else {
         0
@@ -199,11 +187,10 @@ fn char_length(s: &[u8]) -> usize
 pub fn is_ascii(text: &[u8]) -> bool
     ensures { result ≡ is_ascii text.now }
 {
+    // the greatest is sought, so that many bytes are looked at at once
     let mut most = 0;
     for &byte in text {
-        if most < byte {
-            most = byte;
-        }
+        most = most.max(byte);
     }
     most <= LAST_ASCII
 }
@@ -215,21 +202,21 @@ const BLOCK: usize = 32;
 fn ascii_run(s: &[u8], most: usize) -> usize
     ensures { (result ≤ length s.now) × (result ≤ most) × (is_ascii (take result s.now) ≡ true) }
 {
-    if most < BLOCK {
-        return 0;
+    if BLOCK <= most && BLOCK <= s.len() && is_ascii(&s[..BLOCK]) {
+        BLOCK
+    } else {
+        0
     }
-    if s.len() < BLOCK {
-        return 0;
-    }
-    if is_ascii(&s[..BLOCK]) { BLOCK } else { 0 }
 }
 
 // Where the first character begins that is not before an offset, or the longest well-formed prefix ends.
+#[tactic(auto, using(crate::proofs::Chars::char_bound, crate::proofs::Chars::stop_start))]
 fn next_start(text: &[u8], to: usize) -> Place
     ensures { result ≡ next_start text.now to }
 {
     let mut at = 0;
     let mut count = 0;
+    // a block or a character is passed in a turn, so that the places are not those of a `for`
     while at < to {
         let s = &text[at..];
         let run = ascii_run(s, to - at);
@@ -252,6 +239,7 @@ fn next_start(text: &[u8], to: usize) -> Place
 }
 
 // How many characters bytes are, or where the longest prefix ends that is UTF-8 text.
+#[tactic(auto, unfolding(crate::specs::Answers::validity_of), using(crate::proofs::Texts::start_all, crate::proofs::Texts::number_end_holds))]
 fn walk(text: &[u8]) -> Result<CharNumber, Place>
     ensures { result ≡ validity_of text.now }
 {
@@ -265,13 +253,15 @@ fn walk(text: &[u8]) -> Result<CharNumber, Place>
 
 // How many characters bytes are, or where the longest prefix ends that is UTF-8 text. Whether they are ASCII is asked first, which is quicker for a
 // long text.
+#[tactic(auto, using(crate::proofs::Ascii::ascii_places))]
 pub fn validate(text: &[u8]) -> Result<CharNumber, Place>
     ensures { result ≡ validity_of text.now }
 {
     if is_ascii(text) {
-        return Ok(CharNumber(text.len()));
+        Ok(CharNumber(text.len()))
+    } else {
+        walk(text)
     }
-    walk(text)
 }
 
 // A refusal that names no place.
@@ -330,39 +320,37 @@ pub fn refused_at(text: &[u8], number: usize, byte: ByteOffset) -> Refusal
 }
 
 // The code point of the character of n bytes that s begins with.
+#[tactic(auto, unfolding(crate::specs::Code::code_of))]
 fn code_of(s: &[u8], n: usize) -> u32
     ensures { result ≡ code_of n s.now }
 {
     let a = byte::peek(s, 0);
-    if n <= 1 {
-        return (a % BITS_OF_ONE) as u32;
-    }
-    let b = byte::peek(s, 1);
-    if n <= 2 {
-        return (a % BITS_OF_TWO * TAIL_BITS + b % TAIL_BITS) as u32;
-    }
-    let c = byte::peek(s, 2);
-    if n <= 3 {
-        return ((a % BITS_OF_THREE * TAIL_BITS + b % TAIL_BITS) * TAIL_BITS + c % TAIL_BITS) as u32;
-    }
-    let d = byte::peek(s, 3);
-    (((a % BITS_OF_FOUR * TAIL_BITS + b % TAIL_BITS) * TAIL_BITS + c % TAIL_BITS) * TAIL_BITS
-        + d % TAIL_BITS) as u32
+    let b = byte::peek(s, 1) % TAIL_BITS;
+    let c = byte::peek(s, 2) % TAIL_BITS;
+    let d = byte::peek(s, 3) % TAIL_BITS;
+    let code = match n {
+        ..=1 => a % BITS_OF_ONE,
+        2 => a % BITS_OF_TWO * TAIL_BITS + b,
+        3 => (a % BITS_OF_THREE * TAIL_BITS + b) * TAIL_BITS + c,
+        _ => ((a % BITS_OF_FOUR * TAIL_BITS + b) * TAIL_BITS + c) * TAIL_BITS + d,
+    };
+    code as u32
 }
 
 // The character that the bytes from an offset on begin with, whatever stands before it.
+#[tactic(auto, unfolding(crate::specs::Answers::character_at))]
 pub fn char_at(text: &[u8], at: ByteOffset) -> Character
     ensures { result ≡ character_at text.now at.0 }
 {
-    let from = at.0;
-    if text.len() <= from {
+    if text.len() <= at.0 {
         return Character::Nothing;
     }
-    let s = &text[from..];
-    let size = char_length(s);
-    if size == 0 {
-        return Character::IllFormed;
+    let s = &text[at.0..];
+    match char_length(s) {
+        0 => Character::IllFormed,
+        size => Character::Scalar {
+            code: code_of(s, size),
+            size,
+        },
     }
-    let code = code_of(s, size);
-    Character::Scalar { code, size }
 }
