@@ -1,5 +1,5 @@
 -- The answer that each promise leaves at a telling input: a program that answers otherwise there, as the theorem's name says, cannot be
--- proved. `FUNCTION-gives` is what the promise of FUNCTION answers at arguments, which is the definition's value there; `FUNCTION-at` computes it.
+-- proved. `FUNCTION_gives` is what the promise of FUNCTION answers at arguments, which is the definition's value there; `FUNCTION_at` computes it.
 use Prim.Native.Nat.{ℕ, min}
 use mathlib.Core.Bool.{true, false}
 use mathlib.Core.List.{List, []}

@@ -144,15 +144,6 @@ fn exponent_has_digits(s: &[u8], p: Parts) -> bool
     !is_exponent(s, p.fraction_to) || p.exponent_from < p.exponent_to
 }
 
-// Whether a text is digits with a point and an exponent, and nothing else, by where its parts lie.
-#[tactic(auto, unfolding(crate::specs::Grammar::is_numeral))]
-fn is_numeral(s: &[u8], p: Parts) -> bool
-    requires { p ≡ parts_of s.now }
-    ensures { result ≡ is_numeral s.now }
-{
-    has_digits(p) && exponent_has_digits(s, p) && p.exponent_to == s.len()
-}
-
 // What `digits_value` answers for this and every greater value: no magnitude of a signed 64-bit integer is so great.
 pub const MOST_TOLD: u64 = 0x8000_0000_0000_0001;
 
@@ -269,53 +260,88 @@ fn is_negative_exponent(s: &[u8], at: usize) -> bool
     is_exponent(s, at) && sign::is_minus(s, at + 1)
 }
 
-// How many zeros the digits of a text end with.
-fn trailing_zeros(s: &[u8], p: Parts) -> usize
-    requires { (p ≡ parts_of s.now) × (length s.now ≤ decimal_limit) }
-    ensures { result ≡ trailing (digits_of s.now) }
-{
-    let zeros = zeros_at_end(&s[p.fraction_from..p.fraction_to]);
-    if zeros == p.fraction_to - p.fraction_from {
-        return zeros + zeros_at_end(&s[p.whole_from..p.whole_to]);
-    }
-    zeros
+// A text, and where its parts lie.
+#[derive(Clone, Copy)]
+struct Split<'a> {
+    text: &'a [u8],
+    parts: Parts,
+    ghost lies: { parts ≡ parts_of text.now },
 }
 
-// What the digits of a text amount to without the zeros that they end with, or the most that is told apart.
-fn significand(s: &[u8], p: Parts, zeros: usize) -> u64
-    requires { (p ≡ parts_of s.now) × (zeros ≡ trailing (digits_of s.now)) }
-    ensures { result ≡ min most_told (significand s.now) }
-{
-    let behind = p.fraction_to - p.fraction_from;
-    if behind <= zeros {
-        return value_between(s, p.whole_from, p.whole_to - (zeros - behind), 0);
+impl<'a> Split<'a> {
+    // Finds the parts of a text.
+    fn new(text: &'a [u8]) -> Self
+        ensures { result.text.now ≡ text.now }
+    {
+        Split {
+            text,
+            parts: parts_of(text),
+        }
     }
-    let whole = value_between(s, p.whole_from, p.whole_to, 0);
-    value_between(s, p.fraction_from, p.fraction_to - zeros, whole)
-}
 
-// What the exponent of a text amounts to, or the most that is told apart.
-fn exponent(s: &[u8], p: Parts) -> usize
-    requires { p ≡ parts_of s.now }
-    ensures { result ≡ min most_told (value_of 10 (exponent_of s.now)) }
-{
-    value_between(s, p.exponent_from, p.exponent_to, 0) as usize
-}
-
-// The value of a numeral, by where its parts lie.
-fn numeral(s: &[u8], p: Parts) -> Decimal
-    requires { (p ≡ parts_of s.now) × (length s.now ≤ decimal_limit) }
-    ensures { result ≡ numeral_read s.now }
-{
-    let zeros = trailing_zeros(s, p);
-    let w = significand(s, p, zeros);
-    let e = exponent(s, p);
-    let behind = p.fraction_to - p.fraction_from;
-    let negative = sign::is_minus(s, 0);
-    if is_negative_exponent(s, p.fraction_to) {
-        return scaled_by(negative, w, zeros, behind + e);
+    // Whether the text is digits with a point and an exponent, and nothing else.
+    #[tactic(auto, unfolding(crate::specs::Grammar::is_numeral))]
+    fn is_numeral(self) -> bool
+        ensures { result ≡ is_numeral self.entry.text.now }
+    {
+        let p = self.parts;
+        has_digits(p) && exponent_has_digits(self.text, p) && p.exponent_to == self.text.len()
     }
-    scaled_by(negative, w, zeros + e, behind)
+
+    // How many zeros the digits end with.
+    fn trailing_zeros(self) -> usize
+        ensures { result ≡ trailing (digits_of self.entry.text.now) }
+    {
+        let p = self.parts;
+        let zeros = zeros_at_end(&self.text[p.fraction_from..p.fraction_to]);
+        if zeros == p.fraction_to - p.fraction_from {
+            return zeros + zeros_at_end(&self.text[p.whole_from..p.whole_to]);
+        }
+        zeros
+    }
+
+    // What the digits amount to without the zeros that they end with, or the most that is told apart.
+    fn significand(self, zeros: usize) -> u64
+        requires { zeros ≡ trailing (digits_of self.text.now) }
+        ensures { result ≡ min most_told (significand self.entry.text.now) }
+    {
+        let p = self.parts;
+        let behind = p.fraction_to - p.fraction_from;
+        if behind <= zeros {
+            return value_between(self.text, p.whole_from, p.whole_to - (zeros - behind), 0);
+        }
+        let whole = value_between(self.text, p.whole_from, p.whole_to, 0);
+        value_between(self.text, p.fraction_from, p.fraction_to - zeros, whole)
+    }
+
+    // What the exponent amounts to, or the most that is told apart.
+    fn exponent(self) -> usize
+        ensures { result ≡ min most_told (value_of 10 (exponent_of self.entry.text.now)) }
+    {
+        value_between(
+            self.text,
+            self.parts.exponent_from,
+            self.parts.exponent_to,
+            0,
+        ) as usize
+    }
+
+    // The value of a numeral.
+    fn numeral(self) -> Decimal
+        requires { length self.text.now ≤ decimal_limit }
+        ensures { result ≡ numeral_read self.entry.text.now }
+    {
+        let p = self.parts;
+        let zeros = self.trailing_zeros();
+        let w = self.significand(zeros);
+        let e = self.exponent();
+        let behind = p.fraction_to - p.fraction_from;
+        let negative = sign::is_minus(self.text, 0);
+        if is_negative_exponent(self.text, p.fraction_to) {
+            return scaled_by(negative, w, zeros, behind + e);
+        }
+        scaled_by(negative, w, zeros + e, behind)
+    }
 }
 
 // Whether a word is infinity's name.
@@ -372,9 +398,9 @@ pub fn read_decimal(s: &[u8]) -> Decimal
     if LIMIT < s.len() {
         return Decimal::NotDecimal;
     }
-    let p = parts_of(s);
-    if is_numeral(s, p) {
-        return numeral(s, p);
+    let split = Split::new(s);
+    if split.is_numeral() {
+        return split.numeral();
     }
     named(s)
 }

@@ -198,8 +198,8 @@ digits_ascii (x ∷ ds) d = rw (lt-ltb x 0x80 (omega (arith, (within_bounds (cod
 
 parts_ascii : {us : List Unit} {xs : List ℕ} {ps : List (ℕ × ℕ)} → PartsOf us xs ps → All us → is_ascii xs ≡ true
 parts_ascii end a = refl
-parts_ascii (none u us xs ps s) a = parts_ascii s a.1
-parts_ascii (one u us ds xs ps d s) a = ascii_join ds (u.text ++ xs) (digits_ascii ds d.0) (ascii_join u.text xs a.0.plain (parts_ascii s a.1))
+parts_ascii (none u us ys ps s) a = parts_ascii s a.1
+parts_ascii (one u us ds ys ps d s) a = ascii_join ds (u.text ++ ys) (digits_ascii ds d.0) (ascii_join u.text ys a.0.plain (parts_ascii s a.1))
 
 -- no number is greater than the days
 rest_year : (ms : ℕ) → rest_of (unit "y" year) ms ≤ ms

@@ -22,13 +22,6 @@ const ZERO: [u8; 2] = *b"0s";
 // No text of a duration has more bytes.
 const LONGEST_TEXT: usize = 30;
 
-// How many there are of a unit.
-#[derive(Clone, Copy)]
-struct Part {
-    count: u64,
-    unit: Unit,
-}
-
 // How many there are of a unit of so many days that is written only where nothing remains.
 #[tactic(auto, using(crate::proofs::display::Days::whole_some, crate::proofs::display::Days::whole_none))]
 fn whole(days: u64, rest: u64, size: u64) -> u64
@@ -42,7 +35,7 @@ fn whole(days: u64, rest: u64, size: u64) -> u64
 }
 
 // How many there are of each unit in a duration, of which what is under a millisecond is dropped.
-fn parts_of(duration: Duration) -> [Part; 7]
+fn parts_of(duration: Duration) -> [(u64, Unit); 7]
     requires { duration.nanos < nanos_a_second }
     ensures { flat_map counted_text result ≡ written units (millis_of duration) }
 {
@@ -53,48 +46,27 @@ fn parts_of(duration: Duration) -> [Part; 7]
     let left = all - years * DAYS_A_YEAR;
     let weeks = whole(left, under, DAYS_A_WEEK);
     [
-        Part {
-            count: years,
-            unit: Unit::Year,
-        },
-        Part {
-            count: weeks,
-            unit: Unit::Week,
-        },
-        Part {
-            count: left - weeks * DAYS_A_WEEK,
-            unit: Unit::Day,
-        },
-        Part {
-            count: under / Duration::HOUR,
-            unit: Unit::Hour,
-        },
-        Part {
-            count: under % Duration::HOUR / Duration::MINUTE,
-            unit: Unit::Minute,
-        },
-        Part {
-            count: under % Duration::MINUTE / Duration::SECOND,
-            unit: Unit::Second,
-        },
-        Part {
-            count: under % Duration::SECOND,
-            unit: Unit::Milli,
-        },
+        (years, Unit::Year),
+        (weeks, Unit::Week),
+        (left - weeks * DAYS_A_WEEK, Unit::Day),
+        (under / Duration::HOUR, Unit::Hour),
+        (under % Duration::HOUR / Duration::MINUTE, Unit::Minute),
+        (under % Duration::MINUTE / Duration::SECOND, Unit::Second),
+        (under % Duration::SECOND, Unit::Milli),
     ]
 }
 
-// Writes a part at a place where it fits, nothing where it counts none, and answers the place past it.
+// Writes a count and its unit at a place where they fit, nothing where there are none, and answers the place past it.
 #[tactic(auto, using(crate::proofs::display::Steps::counted_none, crate::proofs::display::Steps::stored_none))]
-fn put_part(out: &mut [u8], at: usize, part: Part) -> usize
-    requires { at + length (counted_text part) ≤ length out.old }
-    ensures { Stored (counted_text part) out.old at result out.new }
+fn put_part(out: &mut [u8], at: usize, count: u64, unit: Unit) -> usize
+    requires { at + length (counted_text (count, unit)) ≤ length out.old }
+    ensures { Stored (counted_text (count, unit)) out.old at result out.new }
 {
-    if part.count == 0 {
+    if count == 0 {
         return at;
     }
-    let next = writing::put_decimal(out, at, part.count);
-    writing::put_text(out, next, part.unit.text())
+    let next = writing::put_decimal(out, at, count);
+    writing::put_text(out, next, unit.text())
 }
 
 // Writes the text of a duration at the front of a buffer that it fits, and answers how many bytes it has.
@@ -108,8 +80,8 @@ fn put_duration(out: &mut [u8], duration: Duration) -> usize
         return writing::put_text(out, 0, &ZERO);
     }
     let mut at = 0;
-    for part in parts_of(duration) {
-        at = put_part(out, at, part);
+    for (count, unit) in parts_of(duration) {
+        at = put_part(out, at, count, unit);
     }
     at
 }

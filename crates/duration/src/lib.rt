@@ -70,7 +70,7 @@ fn other(text: &[u8], oversized: Oversized) -> Result<Duration, Refusal>
     unit_text(text, oversized)
 }
 
-// Reads a duration. A decimal comes first: it is UTF-8, and short enough. Outside the exact range a positive one is 53; a name and a negative one are 54.
+// Reads a duration. A decimal comes first, which is UTF-8 and short enough; outside the exact range a positive one has a refusal of its own.
 #[tactic(auto, using(crate::proofs::Taken::zero_read, crate::proofs::Taken::exact_read, crate::proofs::Taken::named_read, crate::proofs::Taken::outside_read))]
 fn parse(text: &[u8], oversized: Oversized) -> Result<Duration, Refusal>
     ensures { result ≡ timing_by oversized text.now }

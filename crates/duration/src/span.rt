@@ -50,8 +50,8 @@ struct Dyadic {
     shift: u64,
 }
 
-// 2^32.
-const HIGH_UNIT: u64 = 4_294_967_296;
+// The unit of the high half of a product.
+const HIGH_UNIT: u64 = 1 << 32;
 
 // From this many seconds on there is no duration: 2^64.
 const TWO_TO_64: f64 = 18446744073709551616.0;
@@ -109,7 +109,7 @@ fn nanos(f: u64, k: u64) -> u64
     if k <= 32 {
         return closest_div(f * Duration::NANOS_A_SECOND, pow2(k));
     }
-    // f * 10 ^ 9 is high * 2 ^ 32 + low, and of low only whether it is zero bears on the rounding
+    // f * 10 ^ 9 is high * 2 ^ 32 + low, and of low only whether it is zero bears on the rounding; in 128 bits it has no halves, but takes longer
     let p = f % HIGH_UNIT * Duration::NANOS_A_SECOND;
     let high = f / HIGH_UNIT * Duration::NANOS_A_SECOND + p / HIGH_UNIT;
     let b = pow2(k - 31);
@@ -141,14 +141,12 @@ pub fn from_secs_f64(x: f64) -> Option<Duration>
 {
     if x < TWO_TO_64 {
         if x >= LEAST_TIMED {
-            let p = dyadic_of(x);
-            let d = p.digits;
-            let k = p.shift;
-            if 63 < k {
-                return Some(whole(0, nanos(d, k)));
+            let Dyadic { digits, shift } = dyadic_of(x);
+            if 63 < shift {
+                return Some(whole(0, nanos(digits, shift)));
             }
-            let b = pow2(k);
-            return Some(whole(d / b, nanos(d % b, k)));
+            let unit = pow2(shift);
+            return Some(whole(digits / unit, nanos(digits % unit, shift)));
         }
         if x >= 0.0 {
             return Some(Duration::ZERO);

@@ -1,14 +1,13 @@
 -- Lists into which a pass writes lexemes one after the other. A store past the end of a list changes nothing, so a list with all that is still to come
 -- written to it (`ending`) is the same before a step and behind it, with room or without. `Leads` says so of the four lists and of the answer: it is what
 -- a loop keeps, and what a function that does a part of a pass promises.
-use Prim.Native.Nat.{ℕ, suc, ◌+◌, ◌<◌, ◌≤◌}
-use native.Mathlib.Nat.{zero-add}
+use Prim.Native.Nat.{ℕ, suc, ◌+◌, ◌≤◌}
 use native.Mathlib.Omega.{arith}
 use native.Mathlib.Numerals.{add-one}
 use mathlib.Core.List.{List, [], ◌∷◌, ◌++◌, map, append-nil}
 use mathlib.Core.Path.{◌≡◌, refl, sym, ap, ◌∙◌}
-use lib.ListN.{length, take, drop, set, get_or, drop_of_length-le, length-set, length-map}
-use lib.Seq.{sets, take-nil, take_all, take_at, length-take-le, paste-suc}
+use lib.ListN.{length, take, drop, set, drop_of_length-le, length-set, length-map}
+use lib.Seq.{sets, take-nil, take_all, take_at, length-take-le}
 use Rattle.utf8.specs.declared.Reading.{Reading}
 use Rattle.token.specs.Kinds.{eof_kind}
 use Rattle.lex.specs.Outcome.{Entry, Outcome, reads, ends, refuses, outcome_of}
@@ -81,18 +80,6 @@ module _ (r : Reading) (q : List ℕ) {ks₀ ss₀ ls₀ ds₀ ks ss ls ds : Lis
       → (ks' ≡ set ks i eof_kind) × ((ss' ≡ set ss i o) × ((ls' ≡ set ls i 0) × (ds' ≡ set ds i 0))) → (read_to o (i + 1) ≡ tally_of r q) × Filled r q ks₀ ss₀ ls₀ ds₀ ks' ss' ls' ds'
   unfolding tallied
   leads_end w p = (sym w.tally, (fill r kind_of q ks₀ (w.kinds.goes ∙ sym p.0), (fill r starts_at q ss₀ (w.starts.goes ∙ sym p.1.0), (fill r length_of q ls₀ (w.lengths.goes ∙ sym p.1.1.0), fill r depth_of q ds₀ (w.depths.goes ∙ sym p.1.1.1)))))
-
--- a list to whose front the first i of another are copied
-pub record Copied (s d₀ d : List ℕ) (i : ℕ) : Type 0 where
-  pub same : length d ≡ length d₀
-  pub is : d ≡ take i s ++ drop i d₀
-
-pub copied_start : (s d : List ℕ) → Copied s d d 0
-copied_start s d = record { same = refl; is = refl }
-
-pub copied_more : {s d₀ d : List ℕ} {i : ℕ} → Copied s d₀ d i → i < length s → i < length d₀ → Copied s d₀ (set d i (get_or s i 0)) (i + 1)
-copied_more {s} {d₀} {d} {i} h a b =
-    record { same = length-set d i (get_or s i 0) ∙ h.same; is = rw (h.is, add-one) (rw (zero-add, zero-add) at (paste-suc d₀ 0 s i 0 (rw zero-add b) a)) }
 
 -- a list with room for the n lexemes of a query: what a pass has left in another with that room is copied to it, or a pass goes over just its front
 module _ (r : Reading) (f : Entry → ℕ) (q d : List ℕ) (n : ℕ) (e : n ≡ length (entries_of r q)) where

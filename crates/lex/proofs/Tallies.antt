@@ -10,7 +10,7 @@ use Rattle.quoted.specs.declared.Fault.{Fault}
 use Rattle.utf8.specs.declared.Reading.{Reading}
 use Rattle.utf8.specs.declared.CharNumber.{CharNumber}
 use Rattle.utf8.specs.Answers.{text_limit, admitted}
-use Rattle.lex.specs.declared.Run.{Run}
+use Rattle.lex.specs.declared.query.Run.{Run}
 use Rattle.lex.specs.Outcome.{Outcome, reads, ends, refuses, outcome_of}
 use Rattle.lex.specs.Lex.{entries, entries_of, answer_by, measured}
 use Rattle.lex.specs.steps.Tally.{tallied, tally_of, answer_in}

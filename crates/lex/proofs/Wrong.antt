@@ -1,5 +1,5 @@
 -- The answer, and the content of each lent list, that each promise leaves at a telling input: a program that answers or writes otherwise
--- there, as the theorem's name says, cannot be proved. `FUNCTION-gives` and `FUNCTION-leaves-LIST` say what, at the query and the lists.
+-- there, as the theorem's name says, cannot be proved. `FUNCTION_gives` and `FUNCTION_leaves_LIST` say what, at the query and the lists.
 use Prim.Native.Nat.{ℕ}
 use mathlib.Core.List.{List, [], ◌∷◌}
 use mathlib.Core.Path.{◌≡◌}

@@ -1,5 +1,5 @@
 -- The answer, and the content of the lent buffer, that each promise leaves at a telling input: a program that answers or writes otherwise
--- there, as the theorem's name says, cannot be proved. `FUNCTION-gives` and `FUNCTION-leaves-BUFFER` say what, at the arguments.
+-- there, as the theorem's name says, cannot be proved. `FUNCTION_gives` and `FUNCTION_leaves_BUFFER` say what, at the arguments.
 use Prim.Native.Nat.{ℕ, ◌<◌}
 use Prim.Native.Char.{code}
 use native.Mathlib.Omega.{arith}

@@ -1,4 +1,4 @@
--- The answer that each promise leaves at a telling input: a program that answers otherwise there, as the theorem's name says, cannot be proved. `FUNCTION-gives`
+-- The answer that each promise leaves at a telling input: a program that answers otherwise there, as the theorem's name says, cannot be proved. `FUNCTION_gives`
 -- is what the promise of FUNCTION answers at arguments.
 use Prim.Native.Nat.{ℕ}
 use mathlib.Core.List.{List, [], ◌∷◌}

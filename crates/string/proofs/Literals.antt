@@ -146,6 +146,9 @@ module _ (r : Reading) (xs : List ℕ) (l : 2 ≤ length xs) (d : get_or xs (len
       go n g false true e = ap (λ (i : ℕ). Err i) (sym (add-one g))
       go n g false false e = e
 
+-- what the tests of a literal tell
+pub ruleset literal_read = (sign_is, last_is, cut_is, content_is, quote_ascii, inner_well, encloses, content_within)
+
 -- a literal that is not bad
 pub good_none : (xs : List ℕ) → is_bad_literal xs ≡ false → fault_of xs ≡ None
 good_none xs = go (fault_of xs)

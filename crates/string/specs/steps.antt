@@ -1,2 +1,3 @@
 pub mod Bytes
+pub mod Content
 pub mod Measure

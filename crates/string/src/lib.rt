@@ -1,25 +1,18 @@
-// String literals: where the text of one stands, and that text. What is to be written is measured first, so that a refused call writes
-// nothing.
+// String literals: where the text of one stands, and that text. Nothing lent is written before all of a literal is known to be good.
 #![tactic(auto)]
 
+mod content;
 pub mod escape;
 pub mod tile;
 
-ghost use Rattle.std.specs.Prelude.{true, false, [], ◌≡◌, ◌+◌, ◌-◌, ◌^◌, ◌<◌, ◌≤◌, length, drop, ◌==◌, Ok, IfSome};
-ghost use Rattle.std.specs.List.{position};
-ghost use Rattle.std.proofs.lemmas.List.Edits.{sets};
-ghost use Rattle.scan.specs.Text.{has};
+ghost use Rattle.std.specs.Prelude.{◌≡◌, length};
 ghost use Rattle.utf8.specs.Text.{WellFormed};
-ghost use Rattle.string.specs.declared.tile.Form.TheVariants.{Letter};
-ghost use Rattle.string.specs.Tile.{piece, is_allowed, tile_of};
-ghost use Rattle.string.specs.Tiles.{tiles_of, has_bad, gives_byte, piece_bytes, bytes_of};
-ghost use Rattle.string.specs.Literal.{has_newline, first_of, has_escape, unquoted, extent_of, unquoting_of, text_by, part_of};
-ghost use Rattle.string.specs.declared.Unquoted.TheVariants.{Inner, Written};
-ghost use Rattle.string.specs.steps.Measure.{is_plain, GivesOne, is_single, tiles_extent, content_extent, left_sized, left_in};
+ghost use Rattle.string.specs.Literal.{unquoted, extent_of, unquoting_of, text_by, part_of};
+ghost use Rattle.string.specs.steps.Measure.{left_in};
 
-use crate::tile::{Form, Piece};
+use crate::content::Content;
 use scan::byte;
-use utf8::{ByteOffset, Reading, Refusal, encode};
+use utf8::{ByteOffset, Reading, Refusal};
 
 // Document 01's "bad literal".
 pub const BAD_LITERAL: usize = 40;
@@ -31,274 +24,11 @@ pub enum Unquoted {
     Written(usize),
 }
 
-// A tile that gives one byte: that byte, and how many bytes the tile has.
-#[derive(Clone, Copy)]
-struct Single {
-    value: u8,
-    size: usize,
-}
-
 // The bytes of the two signs.
 const SIGNS: usize = 2;
 
-// The longest contents that are read once: their text is written to a buffer of this length, for short ones and for longer ones, and copied
-// once all of it is known to be good.
-const SHORT: usize = 128;
-
-const LONGER: usize = 4096;
-
-// Whether a text has the byte. All of it is looked at, so that many bytes are at once.
-#[tactic(auto, using(crate::proofs::Bytes::has_next, crate::proofs::Bytes::has_over))]
-fn has_byte(s: &[u8], c: u8) -> bool
-    ensures { result ≡ has c s.now }
-{
-    let mut found = false;
-    for &byte in s {
-        if byte == c {
-            found = true;
-        }
-    }
-    found
-}
-
-// Where a byte first stands in a text.
-fn position_of(s: &[u8], c: u8) -> Option<usize>
-    ensures { result ≡ position (λ x. x == c) s.now }
-{
-    s.iter().position(|&byte| byte == c)
-}
-
-// Where a byte first stands in a text; its end, where it stands nowhere.
-fn first_of(s: &[u8], c: u8) -> usize
-    ensures { result ≡ first_of c s.now }
-{
-    position_of(s, c).unwrap_or(s.len())
-}
-
-// Whether there is a line feed where none may be.
-#[tactic(auto, unfolding(crate::specs::Literal::has_newline))]
-fn has_newline(sign: u8, inner: &[u8]) -> bool
-    ensures { result ≡ has_newline sign inner.now }
-{
-    sign != tile::BACKQUOTE && has_byte(inner, tile::LINE_FEED)
-}
-
-// Whether there is an escape.
-#[tactic(auto, unfolding(crate::specs::Literal::has_escape))]
-fn has_escape(sign: u8, inner: &[u8]) -> bool
-    ensures { result ≡ has_escape sign inner.now }
-{
-    sign != tile::BACKQUOTE && has_byte(inner, tile::BACKSLASH)
-}
-
-// Whether a byte is ASCII, and neither the sign nor a backslash: it is a tile by itself.
-#[tactic(auto, unfolding(crate::specs::steps::Measure::is_plain))]
-fn is_plain(sign: u8, c: u8) -> bool
-    ensures { result ≡ is_plain sign c }
-{
-    c != tile::BACKSLASH && c != sign && c.is_ascii()
-}
-
-// What the letter behind a backslash at a place stands for, where such an escape stands there.
-#[tactic(auto, using(crate::proofs::tile::Letters::letter_tile, crate::proofs::tile::Letters::letter_small))]
-fn letter_at(inner: &[u8], at: usize, sign: u8) -> Option<u32>
-    requires { at < length inner.now }
-    ensures inner_value { IfSome result (λ v. tile_of sign (drop at inner.now) ≡ piece Letter v 2) }
-    ensures upper_bound { sign < 0x80 → IfSome result (λ v. v ≤ 0x7f) }
-{
-    let c = inner[at];
-    if c != tile::BACKSLASH || c == sign || sign == tile::BACKQUOTE {
-        return None;
-    }
-    let &letter = inner.get(at + tile::BEHIND_BACKSLASH)?;
-    tile::letter_value(sign, letter)
-}
-
-// The tile at a place, where it is a plain byte or a letter behind a backslash: of these there are most.
-fn single_at(inner: &[u8], at: usize, sign: u8) -> Option<Single>
-    requires { (sign < 0x80) × (at < length inner.now) }
-    ensures { IfSome result (λ one. GivesOne sign (drop at inner.now) one.value one.size) }
-{
-    let c = inner[at];
-    if is_plain(sign, c) {
-        return Some(Single { value: c, size: 1 });
-    }
-    let value = letter_at(inner, at, sign)?;
-    Some(Single {
-        value: value as u8,
-        size: tile::BEHIND_LETTER,
-    })
-}
-
-// Whether a tile gives one byte, and not a character.
-fn gives_byte(reading: Reading, form: Form) -> bool
-    ensures { result ≡ gives_byte reading form }
-{
-    match reading {
-        Reading::Crate => false,
-        Reading::Documented => tile::is_byte(form),
-    }
-}
-
-// Whether what a tile gives is its value as one byte.
-#[tactic(auto, unfolding(crate::specs::steps::Measure::is_single))]
-fn is_single(reading: Reading, form: Form, value: u32) -> bool
-    ensures { result ≡ is_single reading form value }
-{
-    value <= tile::LAST_ASCII || gives_byte(reading, form)
-}
-
-// How many bytes a tile gives.
-#[tactic(auto, using(crate::proofs::Contents::single, crate::proofs::Contents::several))]
-fn piece_size(reading: Reading, form: Form, value: u32) -> usize
-    ensures { result ≡ length (piece_bytes reading form value) }
-{
-    if is_single(reading, form, value) {
-        return 1;
-    }
-    encode::encoded_size(value)
-}
-
-// How many bytes the tiles of a content give, or where the first bad one begins. Where a tile ends is known only once it is read: no `for` goes
-// over them.
-fn measure(inner: &[u8], sign: u8, reading: Reading) -> Result<usize, usize>
-    requires { sign < 0x80 }
-    ensures { result ≡ tiles_extent reading (tiles_of sign inner.now) }
-{
-    let mut n = 0;
-    let mut from = 0;
-    while from < inner.len() {
-        if let Some(one) = single_at(inner, from, sign) {
-            n += 1;
-            from += one.size;
-            continue;
-        }
-        let Some(piece) = tile::unquote_char(&inner[from..], sign) else {
-            return Err(from);
-        };
-        n += piece_size(reading, piece.form, piece.value);
-        from += piece.size;
-    }
-    Ok(n)
-}
-
-// Writes what a tile gives at a place where it fits, and answers the place past it.
-fn put_piece(reading: Reading, form: Form, value: u32, out: &mut [u8], at: usize) -> usize
-    requires value_value { is_allowed form value ≡ true }
-    requires value_in_bounds { at + length (piece_bytes reading form value) ≤ length out.old }
-    ensures value { result ≡ at + length (piece_bytes reading form value) }
-    ensures out_after { out.new ≡ sets out.old at (piece_bytes reading form value) }
-{
-    if is_single(reading, form, value) {
-        out[at] = value as u8;
-        return at + 1;
-    }
-    at + encode::encode(value, out, ByteOffset(at)).unwrap()
-}
-
-// Writes what the tiles of a content give at the front of a buffer that it fits, and answers how many bytes that is, or where the first bad
-// one begins. What the tiles before that give is left there. The turns are those of `measure`.
-fn write_pieces(inner: &[u8], sign: u8, reading: Reading, out: &mut [u8]) -> Result<usize, usize>
-    requires sign_bound { sign < 0x80 }
-    requires inner_in_bounds { length (bytes_of reading (tiles_of sign inner.now)) ≤ length out.old }
-    ensures value { result ≡ tiles_extent reading (tiles_of sign inner.now) }
-    ensures out_after { has_bad (tiles_of sign inner.now) ≡ false → out.new ≡ sets out.old 0 (bytes_of reading (tiles_of sign inner.now)) }
-{
-    let mut at = 0;
-    let mut from = 0;
-    while from < inner.len() {
-        if let Some(one) = single_at(inner, from, sign) {
-            out[at] = one.value;
-            at += 1;
-            from += one.size;
-            continue;
-        }
-        let Some(piece) = tile::unquote_char(&inner[from..], sign) else {
-            return Err(from);
-        };
-        at = put_piece(reading, piece.form, piece.value, out, at);
-        from += piece.size;
-    }
-    Ok(at)
-}
-
-// Writes the text of a content with escapes where it has room, by way of a buffer of one's own that is no shorter than the content.
-#[tactic(auto, using(crate::proofs::Passed::extent_told, crate::proofs::Contents::bytes_few, proving::proofs::Stores::written_front))]
-fn read_once<const N: usize>(
-    inner: &[u8],
-    sign: u8,
-    reading: Reading,
-    text: &mut [u8],
-) -> Result<usize, usize>
-    requires { (sign < 0x80) × (length inner.now ≤ N) × (N < 2 ^ 63) }
-    ensures value { result ≡ tiles_extent reading (tiles_of sign inner.now) }
-    ensures text_after { text.new ≡ left_sized result (bytes_of reading (tiles_of sign inner.now)) text.old }
-{
-    let mut own = [0; N];
-    let size = write_pieces(inner, sign, reading, &mut own)?;
-    if size <= text.len() {
-        text[..size].copy_from_slice(&own[..size]);
-    }
-    Ok(size)
-}
-
-// The same for a content of any length, which is measured first.
-#[tactic(auto, using(crate::proofs::Passed::extent_told, crate::proofs::Bytes::sets_front))]
-fn read_twice(inner: &[u8], sign: u8, reading: Reading, text: &mut [u8]) -> Result<usize, usize>
-    requires { sign < 0x80 }
-    ensures value { result ≡ tiles_extent reading (tiles_of sign inner.now) }
-    ensures text_after { text.new ≡ left_sized result (bytes_of reading (tiles_of sign inner.now)) text.old }
-{
-    let size = measure(inner, sign, reading)?;
-    if size <= text.len() {
-        return write_pieces(inner, sign, reading, text);
-    }
-    Ok(size)
-}
-
-// The text of a content with escapes: but for a very long one its tiles are read once.
-fn read_tiles(inner: &[u8], sign: u8, reading: Reading, text: &mut [u8]) -> Result<usize, usize>
-    requires { sign < 0x80 }
-    ensures value { result ≡ tiles_extent reading (tiles_of sign inner.now) }
-    ensures text_after { text.new ≡ left_sized result (bytes_of reading (tiles_of sign inner.now)) text.old }
-{
-    if inner.len() <= SHORT {
-        return read_once::<SHORT>(inner, sign, reading, text);
-    }
-    if inner.len() <= LONGER {
-        return read_once::<LONGER>(inner, sign, reading, text);
-    }
-    read_twice(inner, sign, reading, text)
-}
-
-// What the content between two signs comes to, or where it goes wrong; a text with escapes is written where it has room.
-#[tactic(auto, using(crate::proofs::Literals::unescaped_bad), unfolding(crate::specs::steps::Measure::content_extent, crate::specs::steps::Measure::tiles_extent))]
-fn read_content(
-    inner: &[u8],
-    sign: u8,
-    reading: Reading,
-    text: &mut [u8],
-) -> Result<Unquoted, usize>
-    requires ascii_sign { sign < 0x80 }
-    requires well_formed { WellFormed inner.now }
-    ensures value { result ≡ content_extent reading sign inner.now }
-    ensures text_after { text.new ≡ left_in result (bytes_of reading (tiles_of sign inner.now)) text.old }
-{
-    if has_newline(sign, inner) {
-        return Err(first_of(inner, tile::LINE_FEED));
-    }
-    if has_escape(sign, inner) {
-        let size = read_tiles(inner, sign, reading, text)?;
-        return Ok(Unquoted::Written(size));
-    }
-    if has_byte(inner, sign) {
-        return Err(first_of(inner, sign));
-    }
-    Ok(Unquoted::Inner(inner.len()))
-}
-
 // What a literal comes to, or where it goes wrong; a text with escapes is written where it has room.
-#[tactic(auto, using(crate::proofs::Literals::sign_is, crate::proofs::Literals::last_is, crate::proofs::Literals::cut_is, crate::proofs::Literals::content_is, crate::proofs::Literals::quote_ascii, crate::proofs::Literals::inner_well, crate::proofs::Literals::encloses, crate::proofs::Literals::content_within), unfolding(crate::specs::Literal::extent_of, crate::specs::Literal::fault_of))]
+#[tactic(auto, using(crate::proofs::Literals::literal_read), unfolding(crate::specs::Literal::extent_of, crate::specs::Literal::fault_of))]
 fn read_literal(literal: &[u8], reading: Reading, text: &mut [u8]) -> Result<Unquoted, usize>
     requires { WellFormed literal.now }
     ensures value { result ≡ extent_of reading literal.now }
@@ -315,7 +45,12 @@ fn read_literal(literal: &[u8], reading: Reading, text: &mut [u8]) -> Result<Unq
     if !byte::is_quote(sign as usize) {
         return Err(0);
     }
-    match read_content(&literal[1..end], sign, reading, text) {
+    let content = Content {
+        inner: &literal[1..end],
+        sign,
+        reading,
+    };
+    match content.read(text) {
         Ok(unquoted) => Ok(unquoted),
         Err(at) => Err(at + 1),
     }

@@ -80,7 +80,7 @@ pub fn letter_value(quote: u8, c: u8) -> Option<u32>
 }
 
 // What the `count` digits of a radix from an offset on amount to; nothing where other bytes stand there.
-#[tactic(auto, using(crate::proofs::tile::Digits::grown, crate::proofs::tile::Digits::digits_on, crate::proofs::tile::Digits::digits_stop, crate::proofs::tile::Digits::digits_out, scan::proofs::byte::Classes::digit_bound))]
+#[tactic(auto, using(crate::proofs::tile::Digits::digits_read, scan::proofs::byte::Classes::digit_bound))]
 fn read_digits(s: &[u8], at: usize, count: usize, radix: usize) -> Option<u32>
     requires { (at ≤ 2) × (count ≤ 8) × (radix ≤ 16) }
     ensures { result ≡ amount_from radix 0 count at s.now }

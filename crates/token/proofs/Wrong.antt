@@ -1,5 +1,5 @@
 -- The answer and the content of the buffer that each promise leaves at a telling input: a program that does otherwise there, as the
--- theorem's name says, cannot be proved. Where a theorem unfolds `FUNCTION-at` it computes with all that this lemma unfolds.
+-- theorem's name says, cannot be proved. Where a theorem unfolds `FUNCTION_at` it computes with all that this lemma unfolds.
 use Prim.Native.Nat.{ℕ, ◌-◌, ◌*◌}
 use mathlib.Core.Bool.{Bool, true, false}
 use mathlib.Core.List.{List, [], ◌∷◌, ◌++◌}

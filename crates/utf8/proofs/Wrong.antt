@@ -1,5 +1,5 @@
 -- The answer that each promise leaves at a telling input: a program that answers otherwise there, as the theorem's name says, cannot be
--- proved. Where a theorem unfolds `FUNCTION-at` it computes with all that this lemma unfolds.
+-- proved. Where a theorem unfolds `FUNCTION_at` it computes with all that this lemma unfolds.
 use Prim.Native.Nat.{ℕ}
 use Prim.Native.Char.{code}
 use mathlib.Core.Bool.{Bool, true, false}
@@ -185,6 +185,9 @@ module _ (T : RattleType) (L : Laws T) (d : Dict) where
 
   pub refusal_is_told_with_its_place : refusal_of_gives (Err (not_utf8 (place 3 2))) (not_utf8 (place 3 2))
   refusal_is_told_with_its_place = refusal_of_at _
+
+  pub refusal_without_a_place_is_told : refusal_of_gives (Err (at_start 74)) (at_start 74)
+  refusal_without_a_place_is_told = refusal_of_at _
 
   pub answer_has_no_refusal : (x : T.Denot) → refusal_of_gives (Ok x) (at_start 0)
   answer_has_no_refusal x = refusal_of_at _

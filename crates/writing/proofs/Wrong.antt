@@ -1,5 +1,5 @@
 -- The answer and the content of the list that each promise leaves at a telling input: a program that does otherwise there, as the
--- theorem's name says, cannot be proved. `FUNCTION-gives` and `FUNCTION-leaves-out` say what, at the list, the place and what is written.
+-- theorem's name says, cannot be proved. `FUNCTION_gives` and `FUNCTION_leaves_out` say what, at the list, the place and what is written.
 use Prim.Native.Nat.{ℕ}
 use mathlib.Core.List.{List}
 use mathlib.Core.Path.{◌≡◌}

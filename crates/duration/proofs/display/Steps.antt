@@ -15,7 +15,7 @@ use Rattle.writing.specs.Decimal.{decimal_text}
 use Rattle.writing.specs.Put.{put_at, past_at}
 use Rattle.writing.proofs.Writes.{put_stands}
 use Rattle.duration.specs.declared.span.Duration.{Duration}
-use Rattle.duration.specs.declared.display.Part.{Part}
+use Rattle.duration.specs.declared.unit.Unit.{Unit}
 use Rattle.duration.specs.declared.unit.Unit.TheVariants.{Year}
 use Rattle.duration.specs.Spans.{is_zero}
 use Rattle.duration.specs.Unit.{units}
@@ -46,8 +46,8 @@ stored_front {xs} {d} s h =
     let end : length xs ≡ 0 + length xs = omega arith in
     rw (s.holds, s.past, sets-eq xs d 0 room, ← end) (take-append_seam xs (drop (length xs) d))
 
-abbrev pub no_part : Part
-no_part = record { count = 0; unit = Year }
+abbrev pub no_part : ℕ × Unit
+no_part = (0, Year)
 
 pub counted_none : (v : ℕ) (text : List ℕ) → v ≡ 0 → count_text v text ≡ []
 unfolding count_text

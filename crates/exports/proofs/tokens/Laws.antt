@@ -1,4 +1,4 @@
--- The laws of kinds in `specs/laws/Codes`: an accepted answer is the length of a text that a row of `token`'s table has room for, well below
+-- The laws of kinds in `specs/laws/Codes`: an accepted answer is the length of a kind's text, which is short (`token`'s `short`), well below
 -- bit 63, and the number 3 and the place 0, 0 fit their bits.
 use native.Mathlib.Omega.{arith}
 use mathlib.Core.Path.{◌≡◌, refl}

@@ -16,3 +16,6 @@ returns-then-n-clause-lengths_after g c = let e = answer_counts _ _ _ c.pass-run
 
 pub returns-then-n-clause-depths_after : goal.returns-then-n-clause-depths_after
 returns-then-n-clause-depths_after g c = let e = answer_counts _ _ _ c.pass-run.ensures.value (sym c.answer_in.ensures ∙ c.in_ok-n.was) in copied_all _ depth_of _ _ _ e _ (search rules) c.pass-run.ensures.depths_after c.copy.ensures.depths_after
+
+pub write-requires-clause-counted : goal.write-requires-clause-counted
+write-requires-clause-counted g c = answer_counts _ _ _ c.pass-run.ensures.value (sym c.answer_in.ensures ∙ c.in_ok-n.was)

@@ -22,10 +22,7 @@ pub pass-requires : goal.pass-requires
 pass-requires c =
     let r = c.requires.room in
     let k = length-take-le c.args.n c.args.kinds.now r.0 in
-    record {
-      limited = c.requires.limited;
-      alike = (length-take-le _ _ r.1 ∙ sym k, length-take-le _ _ r.2 ∙ sym k, length-take-le _ _ r.3 ∙ sym k);
-    }
+    (length-take-le _ _ r.1 ∙ sym k, length-take-le _ _ r.2 ∙ sym k, length-take-le _ _ r.3 ∙ sym k)
 
 pub returns : goal.returns
 returns c =
@@ -33,8 +30,8 @@ returns c =
     let e = c.requires.counted in
     let r = c.requires.room in
     let w = c.pass.ensures in record {
-      kinds_after = again_all a.reading kind_of a.query.now a.kinds.now a.n e r.0 w.kinds_after refl;
-      starts_after = again_all a.reading starts_at a.query.now a.starts.now a.n e r.1 w.starts_after refl;
-      lengths_after = again_all a.reading length_of a.query.now a.lengths.now a.n e r.2 w.lengths_after refl;
-      depths_after = again_all a.reading depth_of a.query.now a.depths.now a.n e r.3 w.depths_after refl;
+      kinds_after = again_all a.query.now.reading kind_of a.query.now.text.now a.kinds.now a.n e r.0 w.kinds_after refl;
+      starts_after = again_all a.query.now.reading starts_at a.query.now.text.now a.starts.now a.n e r.1 w.starts_after refl;
+      lengths_after = again_all a.query.now.reading length_of a.query.now.text.now a.lengths.now a.n e r.2 w.lengths_after refl;
+      depths_after = again_all a.query.now.reading depth_of a.query.now.text.now a.depths.now a.n e r.3 w.depths_after refl;
     }

@@ -8,7 +8,7 @@ use Rattle.munch.specs.declared.Inside.TheVariants.{Nothing, Braces, Brackets}
 use Rattle.munch.specs.declared.Mode.{Mode}
 use Rattle.munch.specs.Munch.{mode}
 use Rattle.quoted.specs.declared.Fault.{Fault}
-use Rattle.lex.specs.declared.Run.{Run}
+use Rattle.lex.specs.declared.query.Run.{Run}
 use Rattle.lex.specs.Outcome.{Entry, Outcome, refuses, steps_past, read_from}
 use Rattle.lex.specs.Lex.{entries, entries_of, kind_of, starts_at, length_of, depth_of}
 use Rattle.lex.specs.steps.Tally.{tallied}

@@ -5,7 +5,7 @@ use Rattle.utf8.specs.declared.Refusal.{Refusal}
 use Rattle.utf8.specs.Answers.{refused_at}
 use Rattle.quoted.specs.declared.Fault.{Fault}
 use Rattle.quoted.specs.Quoted.{fault}
-use Rattle.lex.specs.declared.Run.{Run}
+use Rattle.lex.specs.declared.query.Run.{Run}
 use Rattle.lex.specs.Outcome.{Outcome, reads, ends, refuses, outcome_of}
 
 -- a text is read to a place, or is refused at an offset

@@ -90,3 +90,6 @@ module _ (radix : ℕ) (xs : List ℕ) where
       let d = here n v at w e in
       let k : i + suc n ≡ i + 1 + n = omega arith in
       rw k (digits_small r n (i + 1) (v * radix + digit_of (peek_at xs at)) (at + 1) w (grown v i radix (digit_of (peek_at xs at)) h r (digit_bound (peek_at xs at))) (sym (turn n v at d) ∙ e))
+
+-- the turns of reading digits
+pub ruleset digits_read = (grown, digits_on, digits_stop, digits_out)

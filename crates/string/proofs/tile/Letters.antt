@@ -68,7 +68,7 @@ module _ (q c : ℕ) where
   letter_some h (inl e) = rw (eq-eqb c q e, lt-ltb 0 q h)
   letter_some h (inr s) = either (λ (o : Option ℕ). is_some o ≡ true) (is_own_sign q c) (λ t. refl) (λ t. (tests_table c).1 s)
 
-  -- every value is Some sign or one of the table's
+  -- every value is some sign or one of the table's
   pub letter_passes : (p : ℕ → Bool) → (0 < q → p q ≡ true) → every p (values letters) ≡ true → passes p (letter_value q c) ≡ true
   unfolding letter_value
   letter_passes p s a =

@@ -3,15 +3,15 @@
 use Prim.Native.Nat.{ℕ, suc, ◌+◌, ◌<◌, ◌≤◌}
 use native.Mathlib.Omega.{arith}
 use native.Mathlib.Decide.{dec_lt, ℕ_discrete}
-use mathlib.Core.Bool.{Bool, true, true≢false}
+use mathlib.Core.Bool.{true, true≢false}
 use mathlib.Core.List.{List}
 use mathlib.Core.Logic.{◌⊎◌, inl, inr}
 use Rattle.std.specs.Prelude.{None, Option, Some, is_some}
 use mathlib.Core.Path.{◌≡◌, refl, sym, ap, ◌∙◌}
-use lib.Dec.{eqb, ltb}
+use lib.Dec.{eqb}
 use lib.ListN.{length, get_or-eq_default}
 use lib.Seq.{length-take-le}
-use borrow.Author.Tests.{ne_eqb, lt-ltb, ltb-true}
+use borrow.Author.Tests.{ne_eqb}
 use Rattle.scan.specs.Byte.{end, peek_at}
 use Rattle.proving.proofs.Choice.{either}
 use Rattle.utf8.specs.Table.{char_length}
@@ -26,7 +26,7 @@ use Rattle.string.specs.declared.tile.Form.{Form}
 use Rattle.string.specs.declared.tile.Form.TheVariants.{Plain, Letter, Hex, Octal, Point}
 use Rattle.string.specs.Letters.{looked_up, letter_value}
 use Rattle.string.specs.Tile.{amount_from, is_allowed, numbered_as, numbered, escape_of, begins_escape, plain_of, tile_of}
-use Rattle.string.proofs.tile.Letters.{passes, letter_passes}
+use Rattle.string.proofs.tile.Letters.{letter_small}
 use Rattle.string.proofs.tile.Forms.{by_letter}
 use Rattle.string.proofs.tile.Digits.{digits_within_text}
 use Rattle.string.specs.declared.tile.Piece.{Piece}
@@ -68,18 +68,13 @@ unfolding is_allowed
 ascii_allowed v l = byte_scalar v (omega arith)
 
 module _ (q : ℕ) (h : q < 0x80) where
-  letter_ascii : (c v : ℕ) → letter_value q c ≡ Some v → v < 0x80
-  letter_ascii c v e =
-      let p : ℕ → Bool = λ n. ltb n 0x80 in
-      ltb-true v 0x80 (sym (ap (passes p) e) ∙ letter_passes q c p (λ s. lt-ltb q 0x80 h) refl)
-
   no_letter : letter_value q end ≡ None
   unfolding letter_value looked_up
   no_letter = rw (ne_eqb end q (λ e. omega arith))
 
   letter_fair : (xs : List ℕ) (v : ℕ) → letter_value q (peek_at xs 1) ≡ Some v → Fair (length xs) Letter v 2
   letter_fair xs v e =
-      let l = letter_ascii (peek_at xs 1) v e in
+      let l : v < 0x80 = omega (arith, letter_small q (peek_at xs 1) v h e) in
       record { some = omega arith; within = inside (dec_lt 1 (length xs)); allowed = ascii_allowed v l; few = omega (arith, ap length (ascii_bytes v l)) }
     where
       inside : Dec (1 < length xs) → 2 ≤ length xs

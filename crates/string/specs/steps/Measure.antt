@@ -39,11 +39,6 @@ abbrev pub behind_sign : Result Unquoted ℕ → Result Unquoted ℕ
 behind_sign (Ok t) = Ok t
 behind_sign (Err at) = Err (at + 1)
 
--- where it goes wrong
-abbrev pub fault_in : Result Unquoted ℕ → ℕ
-fault_in (Ok t) = 0
-fault_in (Err at) = at
-
 -- what the text buffer holds then: a text that is to be written, where it has room
 abbrev pub left_sized : Result ℕ ℕ → List ℕ → List ℕ → List ℕ
 left_sized (Ok n) ys d = cond (leb n (length d)) (ys ++ drop n d) d

@@ -18,7 +18,6 @@ use Rattle.decimal.specs.Grammar.{past_point, whole_from, whole_to, fraction_fro
 use Rattle.decimal.specs.Value.{plain}
 use Rattle.decimal.specs.steps.Short.{most_short, digits_from, Led}
 use Rattle.decimal.proofs.Runs.{value_join}
-use Rattle.decimal.proofs.Values.{ten_pos}
 use Rattle.decimal.proofs.Zeros.{between_long}
 use Rattle.decimal.proofs.Places.{point_within, digits_within_text, fraction_within}
 use Rattle.decimal.proofs.short.Walks.{further}
@@ -28,9 +27,6 @@ use Rattle.decimal.proofs.short.read_short.Goals.{After-digits_from-all, After-d
 
 point_past : (xs : List ℕ) (at : ℕ) → at ≤ past_point xs at
 point_past xs at = either (λ n. at ≤ n) (eqb (peek_at xs at) 46) (λ e. omega arith) (λ e. omega arith)
-
-pub digits_from-whole-requires : goal.digits_from-whole-requires
-digits_from-whole-requires c = (omega arith, omega arith, ten_pos 0)
 
 -- the digits before the point
 module _ (c : After-digits_from-whole) where
@@ -101,9 +97,6 @@ module _ (c : After-digits_from-all) where
     below = further all.value all.end most_short c.digits_from-all.ensures.1 (omega (arith, end_is, fraction_within text, short d));
     fraction = behind_is;
   }
-
-pub overflow_sub-behind : goal.overflow_sub-behind
-overflow_sub-behind c = omega (arith, end_is (goal.at.overflow_sub-behind c).After-digits_from-all, point_is (goal.at.overflow_sub-behind c).After-digits_from-all)
 
 pub magnitude-requires : goal.magnitude-requires
 magnitude-requires c =

@@ -34,9 +34,6 @@ returns-then-not-is_exponent c =
     let e = no_power (text a) (sym (tested (goal.at.returns-then-not-is_exponent c).After-is_exponent) ∙ c.if-not-is_exponent.true) in
     none (text a) (led a).first (unended (text a) (λ q. omega (arith, e, (led a).ends, a.requires.1)))
 
-pub overflow_add-at : goal.overflow_add-at
-overflow_add-at c = omega (arith, c.requires.1)
-
 pub digits_from-e-requires : goal.digits_from-e-requires
 digits_from-e-requires c =
     let a = (goal.at.digits_from-e-requires c).Start in
@@ -83,9 +80,6 @@ pub returns-then-e-s : goal.returns-then-e-s
 returns-then-e-s c =
     let d = (goal.at.returns-then-e-s c).After-digits_from-e in
     none (xs d) (led (start d)).first (unended (xs d) (λ q. c.if-e-s.true (end_is d ∙ q)))
-
-pub overflow_add-at-2 : goal.overflow_add-at-2
-overflow_add-at-2 c = omega (arith, (start (goal.at.overflow_add-at-2 c).After-digits_from-e).requires.1)
 
 -- the sign of the exponent of a numeral
 module _ (c : After-is_minus) where
