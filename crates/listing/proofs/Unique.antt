@@ -9,4 +9,4 @@ pub same_list_lexemes : OneAnswer list_lexemes.ps list_lexemes.r list_lexemes_re
 same_list_lexemes κs a x y e f p q = p.0 ∙ sym q.0
 
 pub same_list_lexemes_out : OneContent list_lexemes.ps list_lexemes.r list_lexemes_reads.Post (λ κs e. e.1.0.now)
-same_list_lexemes_out κs a x y e f p q = p.1 ∙ sym q.1
+same_list_lexemes_out κs a x y e f p q = p.1.0 ∙ sym q.1.0

@@ -61,7 +61,7 @@ list_lexemes_leaves_out q out v =
     Leaves list_lexemes.ps list_lexemes.r list_lexemes_reads.Post (λ κs a. (a.0.now ≡ q) × (a.1.0.now ≡ out)) (λ κs e. e.1.0.now) v
 
 list_lexemes_left_out : (q out : List ℕ) → list_lexemes_leaves_out q out (put_at out 0 (printed q))
-list_lexemes_left_out q out κs a x e p h = cc (p.1, h.0, h.1)
+list_lexemes_left_out q out κs a x e p h = cc (p.1.0, h.0, h.1)
 
 pub short_query_is_not_too_long : list_lexemes_leaves_out (ascii "a") (dots 18) (ascii "1 0 1 0\n0 1 0 0\n..")
 unfolding listing

@@ -142,9 +142,11 @@ fn list_to(query: &[u8], text: &mut [u8]) -> usize
 }
 
 // Writes what is printed of an input at the front of `out`: all of it and its length, or nothing and 0 where it does not fit.
+#[tactic(auto, using(writing::proofs::Writes::past_inside))]
 pub fn list_lexemes(query: &[u8], out: &mut [u8]) -> usize
     ensures value { result ≡ past_at out.old 0 (printed query.now) }
     ensures out_after { out.new ≡ put_at out.old 0 (printed query.now) }
+    ensures in_bounds { result ≤ length out.new }
 {
     if ROOM <= out.len() {
         return list_to(query, out);
