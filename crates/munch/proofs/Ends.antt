@@ -9,9 +9,15 @@ use lib.ListN.{length, get_or, take, drop, length-drop}
 use Rattle.proving.proofs.Choice.{either}
 use Rattle.proving.proofs.Lists.{get_d_any, rest_of}
 use Rattle.scan.specs.Byte.{end, peek_at, backslash}
+use Rattle.std.specs.Prelude.{Ok, Err, Result}
 use Rattle.utf8.specs.declared.Reading.{Reading}
+use Rattle.quoted.specs.declared.Fault.{Fault}
 use Rattle.quoted.specs.Quoted.{is_escape, quoted_from, is_raw, raw_from, quoted_of}
-use Rattle.munch.specs.steps.Lent.{quoted_end}
+
+-- where a string, or its refusal, is behind its opening sign
+abbrev pub quoted_end : Result ℕ Fault → ℕ
+quoted_end (Ok n) = suc n
+quoted_end (Err fault) = suc fault.at
 
 in_escaped : (symbol : ℕ) (escaped : Bool) (n : ℕ) (xs : List ℕ) → quoted_end (quoted_from symbol escaped n xs) ≤ suc (n + length xs)
 unfolding quoted_from

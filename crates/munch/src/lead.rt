@@ -1,7 +1,7 @@
 // What a byte may begin, as one number that a table of all bytes gives: its class, or the kind of a sign that is whole with its one byte.
 ghost use Rattle.std.specs.Prelude.{◌≡◌, ◌≤◌, length};
 ghost use Rattle.scan.specs.Run.{run_length};
-ghost use Rattle.munch.specs.steps.Leads.{is_sign_lead, starts_word, is_from};
+ghost use Rattle.munch.specs.steps.Leads.{is_sign_lead, is_from};
 
 use crate::BYTES;
 use token::kinds;
@@ -37,17 +37,11 @@ pub const LEADS: [u8; BYTES] = *b"\
     ----------------";
 
 // Whether a lead is the kind of a sign.
+#[tactic(auto, unfolding(crate::specs::steps::Leads::is_sign_lead, scan::specs::Byte::is_within))]
 pub fn is_sign(lead: u8) -> bool
     ensures { result ≡ is_sign_lead lead }
 {
-    kinds::T_LEFT_PAREN as u8 <= lead && lead <= kinds::T_AT as u8
-}
-
-// Whether a lead begins a word outside braces.
-pub fn starts_word(lead: u8) -> bool
-    ensures { result ≡ starts_word lead }
-{
-    lead == COLON || lead == LETTER
+    matches!(lead as u16, kinds::T_LEFT_PAREN..=kinds::T_AT)
 }
 
 // How many of the first bytes have leads that are `least` or above.

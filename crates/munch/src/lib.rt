@@ -9,15 +9,14 @@ mod signs;
 pub mod tables;
 pub mod word;
 
-ghost use Rattle.std.specs.Prelude.{◌≡◌, true, false, ◌^◌, ◌<◌, length};
+ghost use Rattle.std.specs.Prelude.{◌≡◌, true, false, ◌<◌, length};
 ghost use Rattle.scan.specs.Byte.{peek_at};
-ghost use Rattle.munch.specs.Munch.{mode, deeper, number_by, quoted_by, dot_step, comment_step, right_paren_step, end_step, colon_step, step_for, munched};
+ghost use Rattle.munch.specs.Munch.{mode, deeper, number_step, quoted_step, dot_step, comment_step, right_paren_step, end_step, colon_step, step_for, munched};
 ghost use Rattle.munch.specs.steps.Leads.{lead_table};
-ghost use Rattle.munch.specs.steps.Lent.{quoted_end, word_step_by, brace_word_by, sign_step, other_table, brace_signs, outside_by, brace_by};
+ghost use Rattle.munch.specs.steps.Lent.{word_step_by, brace_word_by, sign_step, other_table, brace_signs, outside_by, brace_by};
 
 use crate::tables::Tables;
 use numeral::Numeral;
-use quoted::Fault;
 use scan::byte;
 use token::kinds;
 use utf8::Reading;
@@ -77,17 +76,19 @@ fn refused(number: usize, at: usize) -> Step
 }
 
 // One parenthesis more, so far as they can be counted.
+#[tactic(auto, unfolding(crate::specs::Munch::deeper))]
 fn deeper(depth: usize) -> usize
     ensures { result ≡ deeper depth }
 {
-    if depth < usize::MAX { depth + 1 } else { depth }
+    depth.saturating_add(1)
 }
 
 // A number, a duration, or neither.
-fn number_by(n: Numeral, mode: Mode) -> Step
-    ensures { result ≡ number_by mode n }
+#[tactic(auto, unfolding(crate::specs::Munch::number_step))]
+fn number_step(s: &[u8], reading: Reading, mode: Mode) -> Step
+    ensures { result ≡ number_step reading mode s.now }
 {
-    match n {
+    match numeral::scan_number(s, reading) {
         Numeral::Number(length) => lexeme(kinds::T_NUMBER, length, mode),
         Numeral::Duration(length) => lexeme(kinds::T_DURATION, length, mode),
         Numeral::Neither(at) => refused(refusals::NEITHER_NUMBER_NOR_DURATION, at),
@@ -95,17 +96,19 @@ fn number_by(n: Numeral, mode: Mode) -> Step
 }
 
 // A string, or its refusal, one byte on for the opening sign.
-fn quoted_by(q: Result<usize, Fault>, mode: Mode) -> Step
-    requires { quoted_end q < 2 ^ 64 }
-    ensures { result ≡ quoted_by mode q }
+#[tactic(auto, unfolding(crate::specs::Munch::quoted_step), using(crate::proofs::Ends::string_there))]
+fn quoted_step(s: &[u8], reading: Reading, mode: Mode) -> Step
+    requires { 0 < length s.now }
+    ensures { result ≡ quoted_step reading mode s.now }
 {
-    match q {
+    match quoted::accept_string(s[0], &s[1..], reading) {
         Ok(n) => lexeme(kinds::T_STRING, n + 1, mode),
         Err(fault) => refused(fault.number, fault.at + 1),
     }
 }
 
 // A comment.
+#[tactic(auto, unfolding(crate::specs::Munch::comment_step), using(quoted::proofs::Comments::comment_within))]
 fn comment_step(s: &[u8]) -> Step
     requires { 0 < length s.now }
     ensures { result ≡ comment_step s.now }
@@ -142,73 +145,76 @@ fn brace_word(leads: &[u8; BYTES], s: &[u8], mode: Mode) -> Step
     lexeme(kind, n, mode)
 }
 
-// A mode.
-fn in_mode(depth: usize, inside: Inside) -> Mode
-    ensures { result ≡ mode depth inside }
-{
-    Mode { depth, inside }
-}
-
 // A point outside: a digit has to follow.
-#[tactic(auto, unfolding(crate::specs::Munch::dot_step, crate::specs::Munch::number_step))]
+#[tactic(auto, unfolding(crate::specs::Munch::dot_step))]
 fn dot_step(s: &[u8], reading: Reading, mode: Mode) -> Step
     ensures { result ≡ dot_step reading mode s.now }
 {
     let next = byte::peek(s, 1);
     if byte::is_digit(next) {
-        return number_by(numeral::scan_number(s, reading), mode);
+        number_step(s, reading, mode)
+    } else if next == byte::END {
+        refused(refusals::END_AFTER_DOT, 0)
+    } else {
+        refused(refusals::AFTER_DOT, 1)
     }
-    if next == byte::END {
-        return refused(refusals::END_AFTER_DOT, 0);
-    }
-    refused(refusals::AFTER_DOT, 1)
 }
 
 // A closing parenthesis.
+#[tactic(auto, unfolding(crate::specs::Munch::right_paren_step))]
 fn right_paren(depth: usize) -> Step
     ensures { result ≡ right_paren_step depth }
 {
     if depth == 0 {
-        return refused(refusals::UNMATCHED_PAREN, 0);
+        refused(refusals::UNMATCHED_PAREN, 0)
+    } else {
+        let inside = Inside::Nothing;
+        lexeme(
+            kinds::T_RIGHT_PAREN,
+            1,
+            Mode {
+                depth: depth - 1,
+                inside,
+            },
+        )
     }
-    lexeme(kinds::T_RIGHT_PAREN, 1, in_mode(depth - 1, Inside::Nothing))
-}
-
-// Brackets just opened.
-fn just_opened(depth: usize) -> Mode
-    ensures { result ≡ mode depth (Inside.Brackets false true) }
-{
-    let inside = Inside::Brackets {
-        seen: false,
-        fresh: true,
-    };
-    in_mode(depth, inside)
 }
 
 // The end outside.
+#[tactic(auto, unfolding(crate::specs::Munch::end_step))]
 fn end_step(depth: usize) -> Step
     ensures { result ≡ end_step depth }
 {
     if depth == 0 {
-        return Step::Finished;
+        Step::Finished
+    } else {
+        refused(refusals::UNCLOSED_PAREN, 0)
     }
-    refused(refusals::UNCLOSED_PAREN, 0)
 }
 
 // A step outside that a sign begins which is whole with its one byte, by its kind.
+#[tactic(auto, unfolding(crate::specs::steps::Lent::sign_step))]
 fn sign_step(kind: u16, depth: usize) -> Step
     ensures { result ≡ sign_step kind depth }
 {
-    match kind {
-        kinds::T_LEFT_PAREN => lexeme(kind, 1, in_mode(deeper(depth), Inside::Nothing)),
-        kinds::T_RIGHT_PAREN => right_paren(depth),
-        kinds::T_LEFT_BRACE => lexeme(kind, 1, in_mode(depth, Inside::Braces)),
-        kinds::T_LEFT_BRACKET => lexeme(kind, 1, just_opened(depth)),
-        _ => lexeme(kind, 1, in_mode(depth, Inside::Nothing)),
-    }
+    let (depth, inside) = match kind {
+        kinds::T_RIGHT_PAREN => return right_paren(depth),
+        kinds::T_LEFT_PAREN => (deeper(depth), Inside::Nothing),
+        kinds::T_LEFT_BRACE => (depth, Inside::Braces),
+        kinds::T_LEFT_BRACKET => (
+            depth,
+            Inside::Brackets {
+                seen: false,
+                fresh: true,
+            },
+        ),
+        _ => (depth, Inside::Nothing),
+    };
+    lexeme(kind, 1, Mode { depth, inside })
 }
 
 // A step outside that a sign begins which others may go on with, or that is refused.
+#[tactic(auto, unfolding(crate::specs::steps::Lent::other_table))]
 fn other_step(s: &[u8], reading: Reading, here: Mode) -> Step
     requires { 0 < length s.now }
     ensures { result ≡ step_for (other_table reading here) 19 (peek_at s.now 0) s.now }
@@ -227,6 +233,7 @@ fn other_step(s: &[u8], reading: Reading, here: Mode) -> Step
 }
 
 // A step outside braces and brackets, by the tables of leads and words.
+#[tactic(auto, unfolding(crate::specs::steps::Lent::outside_by, crate::specs::steps::Lent::outside_led, crate::specs::steps::Leads::starts_word))]
 pub fn outside_step(
     leads: &[u8; BYTES],
     words: &[u8],
@@ -236,39 +243,41 @@ pub fn outside_step(
 ) -> Step
     ensures { result ≡ outside_by reading leads.now words.now depth s.now }
 {
-    let here = in_mode(depth, Inside::Nothing);
     if s.len() == 0 {
         return end_step(depth);
     }
-    let lead = leads[s[0] as usize];
-    if lead == lead::WHITE {
-        return Step::Space { mode: here };
+    let here = Mode {
+        depth,
+        inside: Inside::Nothing,
+    };
+    match leads[s[0] as usize] {
+        lead::WHITE => Step::Space { mode: here },
+        sign if lead::is_sign(sign) => sign_step(sign as u16, depth),
+        lead::COLON | lead::LETTER => word_step(leads, words, s, here),
+        lead::DIGIT => number_step(s, reading, here),
+        lead::QUOTE => quoted_step(s, reading, here),
+        _ => other_step(s, reading, here),
     }
-    if lead::is_sign(lead) {
-        return sign_step(lead as u16, depth);
-    }
-    if lead::starts_word(lead) {
-        return word_step(leads, words, s, here);
-    }
-    if lead == lead::DIGIT {
-        return number_by(numeral::scan_number(s, reading), here);
-    }
-    if lead == lead::QUOTE {
-        return quoted_by(quoted::accept_string(s[0], &s[1..], reading), here);
-    }
-    other_step(s, reading, here)
 }
 
 // A step in braces that a sign begins, or that is refused.
+#[tactic(auto, unfolding(crate::specs::steps::Lent::brace_signs))]
 fn brace_sign(s: &[u8], depth: usize) -> Step
     requires { 0 < length s.now }
     ensures { result ≡ step_for (brace_signs depth) 26 (peek_at s.now 0) s.now }
 {
-    let here = in_mode(depth, Inside::Braces);
+    let here = Mode {
+        depth,
+        inside: Inside::Braces,
+    };
+    let outside = Mode {
+        depth,
+        inside: Inside::Nothing,
+    };
     match s[0] as usize {
         signs::HASH => comment_step(s),
         signs::LEFT_BRACE => refused(refusals::BRACE_IN_BRACES, 0),
-        signs::RIGHT_BRACE => lexeme(kinds::T_RIGHT_BRACE, 1, in_mode(depth, Inside::Nothing)),
+        signs::RIGHT_BRACE => lexeme(kinds::T_RIGHT_BRACE, 1, outside),
         signs::COMMA => lexeme(kinds::T_COMMA, 1, here),
         signs::EQUALS => second::brace_equals(s, here),
         signs::BANG => second::brace_bang(s, here),
@@ -277,60 +286,62 @@ fn brace_sign(s: &[u8], depth: usize) -> Step
 }
 
 // A step in braces, by the table of leads.
+#[tactic(auto, unfolding(crate::specs::steps::Lent::brace_by, crate::specs::steps::Lent::brace_led))]
 pub fn brace_step(leads: &[u8; BYTES], s: &[u8], reading: Reading, depth: usize) -> Step
     ensures { result ≡ brace_by reading leads.now depth s.now }
 {
-    let here = in_mode(depth, Inside::Braces);
     if s.len() == 0 {
         return refused(refusals::END_IN_BRACES, 0);
     }
-    let lead = leads[s[0] as usize];
-    if lead == lead::WHITE {
-        return Step::Space { mode: here };
+    let here = Mode {
+        depth,
+        inside: Inside::Braces,
+    };
+    match leads[s[0] as usize] {
+        lead::WHITE => Step::Space { mode: here },
+        lead::LETTER => brace_word(leads, s, here),
+        lead::QUOTE => quoted_step(s, reading, here),
+        _ => brace_sign(s, depth),
     }
-    if lead == lead::LETTER {
-        return brace_word(leads, s, here);
-    }
-    if lead == lead::QUOTE {
-        return quoted_by(quoted::accept_string(s[0], &s[1..], reading), here);
-    }
-    brace_sign(s, depth)
 }
 
 // A colon in brackets.
+#[tactic(auto, unfolding(crate::specs::Munch::colon_step))]
 fn colon_step(depth: usize, seen: bool, fresh: bool) -> Step
     ensures { result ≡ colon_step depth seen fresh }
 {
     if seen {
-        return refused(refusals::SECOND_COLON, 0);
+        refused(refusals::SECOND_COLON, 0)
+    } else if fresh {
+        refused(refusals::COLON_FIRST, 0)
+    } else {
+        let inside = Inside::Brackets {
+            seen: true,
+            fresh: false,
+        };
+        lexeme(kinds::T_COLON, 1, Mode { depth, inside })
     }
-    if fresh {
-        return refused(refusals::COLON_FIRST, 0);
-    }
-    let inside = Inside::Brackets {
-        seen: true,
-        fresh: false,
-    };
-    lexeme(kinds::T_COLON, 1, in_mode(depth, inside))
 }
 
 // A step in brackets.
+#[tactic(auto, unfolding(crate::specs::Munch::munched, crate::specs::Munch::step_in, crate::specs::Munch::bracket_table))]
 pub fn bracket_step(s: &[u8], reading: Reading, depth: usize, seen: bool, fresh: bool) -> Step
     ensures { result ≡ munched reading (mode depth (Inside.Brackets seen fresh)) s.now }
 {
-    let inside = Inside::Brackets { seen, fresh: false };
-    let here = in_mode(depth, inside);
-    let c = byte::peek(s, 0);
-    if byte::is_space(c) {
-        return Step::Space { mode: here };
-    }
-    if byte::is_digit(c) {
-        return number_by(numeral::scan_number(s, reading), here);
-    }
-    match c {
+    let here = Mode {
+        depth,
+        inside: Inside::Brackets { seen, fresh: false },
+    };
+    let outside = Mode {
+        depth,
+        inside: Inside::Nothing,
+    };
+    match byte::peek(s, 0) {
+        c if byte::is_space(c) => Step::Space { mode: here },
+        c if byte::is_digit(c) => number_step(s, reading, here),
         byte::END => refused(refusals::END_IN_BRACKETS, 0),
         signs::LEFT_BRACKET => refused(refusals::BRACKET_IN_BRACKETS, 0),
-        signs::RIGHT_BRACKET => lexeme(kinds::T_RIGHT_BRACKET, 1, in_mode(depth, Inside::Nothing)),
+        signs::RIGHT_BRACKET => lexeme(kinds::T_RIGHT_BRACKET, 1, outside),
         signs::COLON => colon_step(depth, seen, fresh),
         _ => refused(refusals::OTHER_IN_BRACKETS, 0),
     }

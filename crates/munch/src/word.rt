@@ -34,10 +34,7 @@ fn is_fill(kind: u16) -> bool
 fn has_colon(s: &[u8], n: usize) -> bool
     ensures { result ≡ has_colon s.now n }
 {
-    if n < s.len() {
-        return scan::contains(&s[..n], b':');
-    }
-    scan::contains(s, b':')
+    scan::contains(&s[..n.min(s.len())], b':')
 }
 
 // Where the white space behind a word ends.
@@ -48,16 +45,17 @@ fn past_white(s: &[u8], n: usize) -> usize
 }
 
 // The rule of a word of the table outside braces, by its kind.
+#[tactic(auto, unfolding(crate::specs::Word::rule_by))]
 pub fn table_rule(kind: u16, s: &[u8], n: usize) -> Rule
     ensures { result ≡ rule_by (Some kind) s.now n }
 {
     if !is_fill(kind) {
-        return Rule::Table(kind);
+        Rule::Table(kind)
+    } else if byte::peek(s, past_white(s, n)) == b'(' as usize {
+        Rule::FillCalled(kind)
+    } else {
+        Rule::FillAlone
     }
-    if byte::peek(s, past_white(s, n)) == b'(' as usize {
-        return Rule::FillCalled(kind);
-    }
-    Rule::FillAlone
 }
 
 // The rule of a word outside braces, by the kind that it has of its own.
@@ -84,6 +82,7 @@ fn is_or(s: &[u8], n: usize) -> bool
 }
 
 // The rule of a word in braces.
+#[tactic(auto, unfolding(crate::specs::Word::brace_rule))]
 pub fn brace_rule(s: &[u8], n: usize) -> Rule
     ensures { result ≡ brace_rule s.now n }
 {
@@ -95,16 +94,14 @@ pub fn brace_rule(s: &[u8], n: usize) -> Rule
 }
 
 // The kind that a rule gives.
+#[tactic(auto, unfolding(crate::specs::Word::kind_by))]
 pub fn kind_by(rule: Rule) -> u16
     ensures { result ≡ kind_by rule }
 {
     match rule {
         Rule::Or => kinds::T_LOR,
-        Rule::InBraces => kinds::T_IDENTIFIER,
-        Rule::Table(kind) => kind,
-        Rule::FillCalled(kind) => kind,
-        Rule::FillAlone => kinds::T_IDENTIFIER,
+        Rule::Table(kind) | Rule::FillCalled(kind) => kind,
         Rule::WithColon => kinds::T_METRIC_IDENTIFIER,
-        Rule::Plain => kinds::T_IDENTIFIER,
+        Rule::InBraces | Rule::FillAlone | Rule::Plain => kinds::T_IDENTIFIER,
     }
 }

@@ -1,12 +1,11 @@
 -- A step by tables of leads and of words that are lent, as the code makes it. That with the two tables of document 01 it is the step of
 -- `specs/Munch` is a law (`specs/laws/Step`).
-use Rattle.std.specs.Prelude.{ℕ, suc, true, false, cond, List, [], ◌∷◌, eqb, ltb, take, None, Option, Some, Err, Ok, Result}
+use Rattle.std.specs.Prelude.{ℕ, true, false, cond, List, [], ◌∷◌, eqb, ltb, take, None, Option, Some}
 use Rattle.scan.specs.Byte.{peek_at}
 use Rattle.scan.specs.Run.{run_end}
 use Rattle.utf8.specs.declared.Reading.{Reading}
 use Rattle.token.specs.Kinds.{identifier, metric_identifier, left_paren, right_paren, left_brace, right_brace, left_bracket, comma, lte, lss, gte, gtr}
 use Rattle.token.specs.steps.WordRows.{keyword_in}
-use Rattle.quoted.specs.declared.Fault.{Fault}
 use Rattle.munch.specs.Word.{rule_by, brace_rule, kind_by}
 use Rattle.munch.specs.declared.Inside.TheVariants.{Nothing, Braces, Brackets}
 use Rattle.munch.specs.declared.Mode.{Mode}
@@ -88,8 +87,3 @@ outside_by r leads words d xs = cond (is_end (peek_at xs 0)) (end_step d) (outsi
 
 unfoldable pub brace_by : Reading → List ℕ → ℕ → List ℕ → Step
 brace_by r leads d xs = cond (is_end (peek_at xs 0)) (Refused 27 0) (brace_led r leads d xs (lead_in leads (peek_at xs 0)))
-
--- where a string, or its refusal, is behind its opening sign
-abbrev pub quoted_end : Result ℕ Fault → ℕ
-quoted_end (Ok n) = suc n
-quoted_end (Err fault) = suc fault.at
