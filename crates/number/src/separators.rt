@@ -1,5 +1,6 @@
 // The separators of a number's text, as document 02's L2 has them.
 ghost use Rattle.std.specs.Prelude.{◌≡◌, ◌≤◌, length, take};
+ghost use Rattle.std.proofs.lemmas.List.Edits.{sets};
 ghost use Rattle.scan.specs.Separated.{without_separators};
 ghost use Rattle.number.specs.Number.{is_hex_text, is_placed};
 
@@ -34,6 +35,8 @@ pub fn is_placed(t: &[u8], reading: Reading) -> bool
 
 // Writes a text without its separators at its own front, and answers how many bytes that is.
 pub fn drop_separators(t: &mut [u8]) -> usize
+    ensures value { result ≡ length (without_separators t.old) }
+    ensures t_after { t.new ≡ sets t.old 0 (without_separators t.old) }
     ensures within { result ≤ length t.new }
     ensures left { take result t.new ≡ without_separators t.old }
 {

@@ -66,6 +66,8 @@ returns c =
     let e : without_separators (drop c.loop-at.at t₀) ≡ [] = unfold without_separators in ap without_separators (drop_of_length-le t₀ c.loop-at-test.false) in
     let n : c.loop-at.n ≡ length (without_separators t₀) = omega (arith, i.sized, ap length e) in
     record {
+      value = n;
+      t_after = sym (i.holds ∙ rw e);
       within = omega (arith, n, i.long, without_within t₀);
       left = ap₂ (λ (k : ℕ) (ys : List ℕ). take k ys) n (sym (i.holds ∙ rw e)) ∙ written_front t₀ (without_separators t₀) (without_within t₀);
     }
