@@ -4,7 +4,7 @@
 
 pub mod kinds;
 
-ghost use Rattle.std.specs.Prelude.{◌≡◌, map, ◌≤◌, ◌<◌, length};
+ghost use Rattle.std.specs.Prelude.{◌≡◌, ◌++◌, map, ◌≤◌, ◌<◌, length, drop};
 ghost use Rattle.scan.specs.Byte.{lowered};
 ghost use Rattle.utf8.specs.Writing.{left_by};
 ghost use Rattle.token.specs.Classes.{is_operator, is_comparison_operator, is_set_operator, is_aggregator, is_aggregator_with_param};
@@ -130,6 +130,16 @@ fn display_of(kind: u16) -> &'static [u8]
     }
 }
 
+// Copies a text to the front of a buffer that it fits, by a loop: what copies in std would have the archive for C ask for `memmove`.
+fn copy(text: &[u8], out: &mut [u8])
+    requires { length text.now ≤ length out.old }
+    ensures { out.new ≡ text.now ++ drop (length text.now) out.old }
+{
+    for (i, &byte) in text.iter().enumerate() {
+        out[i] = byte;
+    }
+}
+
 // Writes the text that a kind is shown as at the front of a lent buffer; nothing where it has no room.
 pub fn token_display(kind: u16, out: &mut [u8]) -> Result<usize, Refusal>
     ensures value { result ≡ displayed (length out.old) kind }
@@ -140,7 +150,7 @@ pub fn token_display(kind: u16, out: &mut [u8]) -> Result<usize, Refusal>
     if out.len() < n {
         return Err(utf8::at_start(utf8::NO_ROOM));
     }
-    out[..n].copy_from_slice(text);
+    copy(text, out);
     Ok(n)
 }
 
