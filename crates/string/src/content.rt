@@ -11,15 +11,8 @@ ghost use Rattle.string.specs.Literal.{has_newline, first_of, has_escape};
 ghost use Rattle.string.specs.steps.Measure.{is_plain, GivesOne, is_single, tiles_extent, content_extent, left_sized, left_in};
 
 use crate::tile::Form;
-use crate::{Unquoted, tile};
+use crate::{Single, Unquoted, tile};
 use utf8::{ByteOffset, Reading, encode};
-
-// A tile that gives one byte: that byte, and how many bytes the tile has.
-#[derive(Clone, Copy)]
-struct Single {
-    value: u8,
-    size: usize,
-}
 
 // The longest contents that are read once: their text is written to a buffer of this length, for short ones and for longer ones, and copied
 // once all of it is known to be good.
@@ -150,6 +143,7 @@ impl Content<'_> {
     }
 
     // The tile at a place, where it is a plain byte or a letter behind a backslash: of these there are most.
+    #[inline(always)]
     fn single_at(&self, at: usize) -> Option<Single>
         requires { at < length self.now.inner.now }
         ensures { IfSome result (λ one. GivesOne self.now.sign (drop at self.now.inner.now) one.value one.size) }

@@ -24,6 +24,13 @@ pub enum Unquoted {
     Written(usize),
 }
 
+// A tile that gives one byte: that byte, and how many bytes the tile has.
+#[derive(Clone, Copy)]
+pub struct Single {
+    pub value: u8,
+    pub size: usize,
+}
+
 // The bytes of the two signs.
 const SIGNS: usize = 2;
 
