@@ -85,6 +85,7 @@ pub(crate) struct Query<'a> {
 
 impl Query<'_> {
     // The step at a place in braces, or else in brackets.
+    #[inline(always)]
     fn inner_step(&self, at: usize, depth: usize, braces: bool, seen: bool, fresh: bool) -> Step
         requires { at ≤ length self.now.text.now }
         ensures { result ≡ munched self.now.reading (mode depth (inside_by braces seen fresh)) (drop at self.now.text.now) }

@@ -85,6 +85,7 @@ fn deeper(depth: usize) -> usize
 
 // A number, a duration, or neither.
 #[tactic(auto, unfolding(crate::specs::Munch::number_step))]
+#[inline(always)]
 fn number_step(s: &[u8], reading: Reading, mode: Mode) -> Step
     ensures { result ≡ number_step reading mode s.now }
 {
@@ -97,6 +98,7 @@ fn number_step(s: &[u8], reading: Reading, mode: Mode) -> Step
 
 // A string, or its refusal, one byte on for the opening sign.
 #[tactic(auto, unfolding(crate::specs::Munch::quoted_step), using(crate::proofs::Ends::string_there))]
+#[inline(always)]
 fn quoted_step(s: &[u8], reading: Reading, mode: Mode) -> Step
     requires { 0 < length s.now }
     ensures { result ≡ quoted_step reading mode s.now }
@@ -234,6 +236,7 @@ fn other_step(s: &[u8], reading: Reading, here: Mode) -> Step
 
 // A step outside braces and brackets, by the tables of leads and words.
 #[tactic(auto, unfolding(crate::specs::steps::Lent::outside_by, crate::specs::steps::Lent::outside_led, crate::specs::steps::Leads::starts_word))]
+#[inline(always)]
 pub fn outside_step(
     leads: &[u8; BYTES],
     words: &[u8],
@@ -287,6 +290,7 @@ fn brace_sign(s: &[u8], depth: usize) -> Step
 
 // A step in braces, by the table of leads.
 #[tactic(auto, unfolding(crate::specs::steps::Lent::brace_by, crate::specs::steps::Lent::brace_led))]
+#[inline(always)]
 pub fn brace_step(leads: &[u8; BYTES], s: &[u8], reading: Reading, depth: usize) -> Step
     ensures { result ≡ brace_by reading leads.now depth s.now }
 {
@@ -325,6 +329,7 @@ fn colon_step(depth: usize, seen: bool, fresh: bool) -> Step
 
 // A step in brackets.
 #[tactic(auto, unfolding(crate::specs::Munch::munched, crate::specs::Munch::step_in, crate::specs::Munch::bracket_table))]
+#[inline(always)]
 pub fn bracket_step(s: &[u8], reading: Reading, depth: usize, seen: bool, fresh: bool) -> Step
     ensures { result ≡ munched reading (mode depth (Inside.Brackets seen fresh)) s.now }
 {

@@ -40,6 +40,7 @@ impl Tables {
 
     // The step outside braces and brackets.
     #[tactic(auto, using(crate::proofs::Known::outside_by_tables))]
+    #[inline(always)]
     pub fn outside(&self, s: &[u8], reading: Reading, depth: usize) -> Step
         ensures { result ≡ munched reading (mode depth Nothing) s.now }
     {
@@ -48,6 +49,7 @@ impl Tables {
 
     // The step in braces.
     #[tactic(auto, using(crate::proofs::Known::braces_by_table))]
+    #[inline(always)]
     pub fn in_braces(&self, s: &[u8], reading: Reading, depth: usize) -> Step
         ensures { result ≡ munched reading (mode depth Braces) s.now }
     {

@@ -74,6 +74,7 @@ fn is_hex(s: &[u8]) -> bool
 
 // The place past a point and the digits behind it, where one stands.
 #[tactic(auto, unfolding(crate::specs::Numeral::fraction_end))]
+#[inline(always)]
 fn fraction_end(s: &[u8], reading: Reading, k: Class, at: usize) -> usize
     ensures { result ≡ fraction_end reading k s.now at }
 {
@@ -102,6 +103,7 @@ fn exponent_end(s: &[u8], reading: Reading, at: usize) -> usize
 }
 
 // The place past digits of a class with such separators, and past those behind a point.
+#[inline(always)]
 fn mantissa_end(s: &[u8], reading: Reading, k: Class, separators: Separators, from: usize) -> usize
     ensures { result ≡ mantissa_end reading k separators s.now from }
 {
@@ -195,6 +197,7 @@ fn duration(s: &[u8], from: usize) -> Numeral
 
 // What bytes begin with that are begun by a digit, or by a point and a digit.
 #[tactic(auto, unfolding(crate::specs::Numeral::numeral_of))]
+#[inline(never)]
 pub fn scan_number(s: &[u8], reading: Reading) -> Numeral
     ensures { result ≡ numeral_of reading s.now }
 {

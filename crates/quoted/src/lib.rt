@@ -93,6 +93,7 @@ fn accept_escaped(symbol: u8, s: &[u8]) -> Result<usize, Fault>
 }
 
 // How many of the bytes behind a string's opening sign belong to it in a reading, with its closing sign; or why none do.
+#[inline(never)]
 pub fn accept_string(symbol: u8, s: &[u8], reading: Reading) -> Result<usize, Fault>
     ensures { result ≡ quoted_of reading symbol s.now }
 {

@@ -9,7 +9,6 @@ use mathlib.Core.List.{List, [], ◌∷◌, ◌++◌}
 use lib.Dec.{eqb}
 use lib.Seq.{drop-append-le, get_or-drop}
 use lib.ListN.{length, take, drop, length-drop}
-use Rattle.std.specs.List.{prefix_len}
 use Rattle.scan.specs.Byte.{end, peek_at}
 use Rattle.scan.specs.Run.{run_length}
 use Rattle.scan.specs.laws.Inside.{TestInside, PeekInside, PeekAppend}
@@ -101,12 +100,6 @@ module _ (p : ℕ → Bool) where
         go : (b : Bool) → p x ≡ b → p (peek_at xs (run_length p xs)) ≡ false → p (peek_at (x ∷ xs) (cond b (suc (run_length p xs)) 0)) ≡ false
         go true h r = r
         go false h r = h
-
--- std counts the same bytes
-pub run_counted : (p : ℕ → Bool) (xs : List ℕ) → prefix_len p xs ≡ run_length p xs
-unfolding run_length
-run_counted p [] = refl
-run_counted p (x ∷ xs) = ap (λ (n : ℕ). cond (p x) n 0) (omega (arith, run_counted p xs))
 
 pub run_within : RunWithin
 run_within p xs n = omega (arith, run_bound p (drop n xs), length-drop n xs)

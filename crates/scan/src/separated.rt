@@ -32,6 +32,7 @@ fn is_open(separators: Separators, digit: bool) -> bool
 }
 
 // Where the run of the class with such separators that starts at `from` ends.
+#[inline(always)]
 pub fn separated_end(k: Class, separators: Separators, s: &[u8], from: usize) -> usize
     ensures { result ≡ separated_end (is_in k) separators s.now from }
 {
